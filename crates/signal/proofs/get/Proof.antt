@@ -1,0 +1,31 @@
+-- `signal::get` meets its contract: an offset is a byte and a bit of it.
+use Prim.Native.Nat.{_+_, _*_, _/_, _%_}
+use mathlib.Core.Path.{_≡_, _∙_}
+use native.Mathlib.Omega.{arith}
+use borrow.Author.Needs.{needs}
+use Rattle.signal.specs.Signal.{getScalar}
+use Rattle.signal.proofs.get.Statement.{statement}
+use Rattle.signal.proofs.get.Tie as tie
+use Rattle.signal.proofs.get.Reads as reads
+use Rattle.signal.proofs.get.Lts as lts
+use Rattle.signal.proofs.get_at.Reads as get-at-reads
+use Rattle.signal.proofs.scalar_width.Reads as scalar-width-reads
+
+cast-get-at : tie.Need-cast-get-at
+cast-get-at c = search needs
+
+scalar-width-requires : tie.Need-scalar-width-requires
+scalar-width-requires c κs = search needs
+
+get-at-requires : tie.Need-get-at-requires
+get-at-requires c κs = search needs
+
+returns : tie.Need-returns
+unfolding getScalar
+returns c =
+    let o = c .before .before .before .args .offset in
+    let e : 8 * (o / 8) + o % 8 ≡ o = omega arith in
+    c .get-at .ensures ∙ rw (e, c .before .scalar-width .ensures)
+
+pub get-spec : {M : Type 1} → statement M
+get-spec = tie.close (tie.spec cast-get-at scalar-width-requires get-at-requires returns)

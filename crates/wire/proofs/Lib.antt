@@ -1,0 +1,5 @@
+pub mod Below
+pub mod ChecksumLaws
+pub mod IdentifierLaws
+pub mod Sums
+pub mod Tests

@@ -1,0 +1,47 @@
+use borrow.Author.Needs.{needs}
+use borrow.Author.Tests.{lt-ltb, le-ltb}
+use Rattle.wire.specs.Checksum.{modelOf, covered, sum}
+use Rattle.wire.proofs.IdentifierLaws.{protected-below}
+use Rattle.wire.proofs.Sums.{carry-first}
+use Rattle.wire.proofs.checksum.start.Statement.{statement}
+use Rattle.wire.proofs.checksum.start.Tie as tie
+use Rattle.wire.proofs.checksum.start.Reads as reads
+use Rattle.wire.proofs.checksum.start.Lts as lts
+use Rattle.wire.proofs.identifier.protected_byte.Reads as protected-byte-reads
+
+-- src/checksum.rt:46:9
+returns : tie.Need-returns
+unfolding modelOf covered sum
+returns c = simp (le-ltb _ _ (c .if1 .taken))
+
+-- src/checksum.rt:49:27
+enum-told : tie.Need-enum-told
+enum-told c = search needs
+
+-- src/checksum.rt:50:28
+enum-told-2 : tie.Need-enum-told-2
+enum-told-2 c = search needs
+
+-- src/checksum.rt:50:28
+protected-byte-requires : tie.Need-protected-byte-requires
+protected-byte-requires c κs = search needs
+
+-- src/checksum.rt:41:1
+returns-2 : tie.Need-returns-2
+unfolding modelOf covered sum
+returns-2 c = simp (lt-ltb _ _ (c .before .before .if1 .left), c .enum-told .given .1)
+
+-- src/checksum.rt:41:1
+returns-3 : tie.Need-returns-3
+unfolding modelOf covered sum
+returns-3 c =
+    simp (
+      lt-ltb _ _ (c .before .before .before .if1 .left),
+      c .before .enum-told2 .given .1,
+      c .protected-byte .ensures,
+      carry-first _ (protected-below _ (c .before .before .before .before .pre)),
+    )
+
+pub start-spec : {M : Type 1} → statement M
+start-spec =
+    tie.close (tie.spec returns enum-told enum-told-2 protected-byte-requires returns-2 returns-3)

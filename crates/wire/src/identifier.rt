@@ -1,0 +1,40 @@
+// Protected identifiers, built and read.
+use crate::Answer;
+use refusal::Refusal;
+ghost use mathlib.Core.Path.{_≡_};
+ghost use mathlib.Core.Bool.{true, false};
+ghost use Prim.Native.Nat.{_<_};
+ghost use Rattle.wire.specs.Identifier.{protectedByte, protectedOf, readOf};
+
+// The protected identifier of an identifier below 64.
+pub fn build(id: u8) -> Answer
+    ensures { λ r. ⌜ r ≡ protectedOf id ⌝ }
+{
+    if id < 64 {
+        Answer::Byte(protected_byte(id))
+    } else {
+        Answer::Refused(Refusal::of(Refusal::FRAME))
+    }
+}
+
+// The identifier of a protected identifier with right parity.
+pub fn read(protected: u8) -> Answer
+    ensures { λ r. ⌜ r ≡ readOf protected ⌝ }
+{
+    let id = protected % 64;
+    if protected_byte(id) == protected {
+        Answer::Byte(id)
+    } else {
+        Answer::Refused(Refusal::of(Refusal::FRAME))
+    }
+}
+
+// The identifier with its two parity bits above it.
+pub(crate) fn protected_byte(id: u8) -> u8
+    requires { ⌜ id < 64 ⌝ }
+    ensures { λ r. ⌜ r ≡ protectedByte id ⌝ }
+{
+    let p0 = (id ^ (id >> 1) ^ (id >> 2) ^ (id >> 4)) % 2;
+    let p1 = 1 - ((id >> 1) ^ (id >> 3) ^ (id >> 4) ^ (id >> 5)) % 2;
+    id + 64 * p0 + 128 * p1
+}
