@@ -58,6 +58,3 @@ module _ (old s w v above low size scale : ℕ)
     (hs : s < 8) (hw : w ≤ 16) (ho : old < 2 ^ 24) where
   pub field-sum : old % low + v % size * scale + old / above * above ≡ number 24 (replaced (bit old) s w (bit v))
   field-sum = rw (ea, el, ez, ec) (field-is 24 old s w v (omega arith) ho)
-
-  pub field-below : old % low + v % size * scale + old / above * above < 2 ^ 24
-  field-below = rw field-sum (number-below 24 (replaced (bit old) s w (bit v)))

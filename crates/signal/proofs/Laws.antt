@@ -16,7 +16,7 @@ use Rattle.signal.proofs.Inside.{order}
 use Rattle.signal.proofs.Numbers.{number-ext, number-mod, number-below}
 use Rattle.signal.proofs.PutBits.{put-length, put-bytes, bit-put, after-inside, after-low, after-high}
 
--- THE LAW: after a put, bit j is the signal's bit j - offset inside the signal, and unchanged outside and behind the bytes
+-- The law of signals: after a put, bit j is the signal's bit j - offset inside the signal, and unchanged outside and behind the bytes
 pub put-bit : (bs : List ℕ) (o w : ℕ) (f : ℕ → Bool) (j : ℕ)
     → bitAt (putBits bs o w f) j ≡ cond (ltb j (8 * length bs) && inside o w j) (f (j - o)) (bitAt bs j)
 unfolding replaced
@@ -60,6 +60,11 @@ byte-stays bs o w f i hb apart =
 
 -- ---- scalars
 
+-- a scalar's put is a put of its value's bits, so that every law above holds of it
+pub put-scalar-is : (bs : List ℕ) (o w v : ℕ) → putScalar bs o w v ≡ putBits bs o (scalarWidth w) (bit v)
+unfolding putScalar
+put-scalar-is bs o w v = refl
+
 -- a scalar fits its width
 pub get-below : (bs : List ℕ) (o w : ℕ) → getScalar bs o w < 2 ^ scalarWidth w
 unfolding getScalar
@@ -88,6 +93,12 @@ get-other bs o w f p n apart =
 
 -- ---- byte arrays
 
+-- an array's put is a put of its bytes' bits
+pub put-array-is : (bs : List ℕ) (o : ℕ) (vs : List ℕ) → putArray bs o vs ≡ putBits bs o (8 * length vs) (bitAt vs)
+unfolding putArray
+put-array-is bs o vs = refl
+
+-- what was put is got back
 pub get-put-array : (bs : List ℕ) (o : ℕ) (vs : List ℕ) → Bytes vs → o + 8 * length vs ≤ 8 * length bs
     → getArray (putArray bs o vs) o (length vs) ≡ vs
 unfolding getArray putArray
@@ -96,6 +107,7 @@ get-put-array bs o vs hv h =
     (λ k hk. bit-put-inside bs o (8 * length vs) (bitAt vs) k h hk)
     ∙ bytes-are vs hv
 
+-- an array that has no bit in common with what was put reads as before
 pub get-other-array : (bs : List ℕ) (o w : ℕ) (f : ℕ → Bool) (p n : ℕ) → Apart p (8 * n) o w
     → getArray (putBits bs o w f) p n ≡ getArray bs p n
 unfolding getArray

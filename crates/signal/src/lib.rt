@@ -94,8 +94,16 @@ fn with_field(old: u32, shift: u32, width: u32, value: u32) -> u32
     requires { ⌜ (old < 2 ^ 24) × (shift < 8) × (width ≤ 16) ⌝ }
     ensures { λ r. ⌜ r ≡ number 24 (replaced (bit old) shift width (bit value)) ⌝ }
 {
-    let above = power(shift + width);
+    let above = power(field_end(shift, width));
     old % power(shift) + value % power(width) * power(shift) + old / above * above
+}
+
+// The first bit above a field.
+fn field_end(shift: u32, width: u32) -> u32
+    requires { ⌜ (shift < 8) × (width ≤ 16) ⌝ }
+    ensures { λ r. ⌜ r ≡ shift + width ⌝ }
+{
+    shift + width
 }
 
 // Two to the power of n.

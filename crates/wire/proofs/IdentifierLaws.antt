@@ -6,10 +6,11 @@ use mathlib.Core.Bool.{Bool, true, false, xor, Bool·beq}
 use native.Mathlib.Omega.{arith}
 use borrow.Author.Tests.{eqb-true, ltb-true, eq-eqb}
 use lib.Dec.{eqb, ltb}
-use Rattle.refusal.specs.Numbers.{refused, frame}
+use Rattle.refusal.specs.Numbers.{frame}
+use Rattle.wire.specs.Answer.{refusedWith}
 use Rattle.wire.specs.Bits.{bit}
 use Rattle.wire.specs.Identifier.{protectedByte, readOf, rightParity, p0, p1}
-use Rattle.wire.specs.declared.Answer.the-variants.{Byte, Refused}
+use Rattle.wire.specs.declared.Answer.the-variants.{Byte}
 use Rattle.wire.proofs.Below.{allBelow, below}
 use Rattle.wire.proofs.Tests.{beq-true, whether}
 
@@ -59,7 +60,7 @@ right : (byte : ℕ) → rightParity byte ≡ true → readOf byte ≡ Byte (byt
 unfolding readOf
 right byte p = rw p
 
-wrong : (byte : ℕ) → rightParity byte ≡ false → readOf byte ≡ Refused (refused frame)
+wrong : (byte : ℕ) → rightParity byte ≡ false → readOf byte ≡ refusedWith frame
 unfolding readOf
 wrong byte p = rw p
 
@@ -80,7 +81,7 @@ read-exactly byte id b = (
 )
 
 -- and every other byte is refused with 11
-pub else-refused : (byte : ℕ) → byte < 256 → ((id : ℕ) → id < 64 → protectedByte id ≡ byte → ⊥) → readOf byte ≡ Refused (refused frame)
+pub else-refused : (byte : ℕ) → byte < 256 → ((id : ℕ) → id < 64 → protectedByte id ≡ byte → ⊥) → readOf byte ≡ refusedWith frame
 else-refused byte b none-built =
     whether (rightParity byte)
     (λ p. absurd (none-built (byte % 64) (omega arith) (eqb-true _ _ (sym (parity-built byte b) ∙ p))))

@@ -1,5 +1,6 @@
--- An answer in the paper's terms: its refusal number, and the byte that it gives.
+-- An answer in the paper's terms: the byte that it gives, or its refusal number.
 use Prim.Native.Nat.{ℕ}
+use Rattle.refusal.specs.Numbers.{refused}
 use Rattle.wire.specs.declared.Answer.{Answer}
 use Rattle.wire.specs.declared.Answer.the-variants.{Byte, Refused}
 
@@ -12,3 +13,7 @@ refusalOf (Refused r) = r .number
 abbrev pub valueOf : Answer → ℕ
 valueOf (Byte b) = b
 valueOf (Refused r) = 0
+
+-- the answer that refuses with a number and no place
+abbrev pub refusedWith : ℕ → Answer
+refusedWith n = Refused (refused n)

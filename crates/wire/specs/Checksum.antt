@@ -4,10 +4,11 @@ use mathlib.Core.Bool.{Bool, cond, _&&_}
 use mathlib.Core.List.{List, [], _∷_}
 use lib.Dec.{ltb, leb}
 use lib.ListN.{length}
-use Rattle.refusal.specs.Numbers.{refused, frame}
+use Rattle.refusal.specs.Numbers.{frame}
+use Rattle.wire.specs.Answer.{refusedWith}
 use Rattle.wire.specs.Identifier.{protectedByte}
 use Rattle.wire.specs.declared.Answer.{Answer}
-use Rattle.wire.specs.declared.Answer.the-variants.{Byte, Refused}
+use Rattle.wire.specs.declared.Answer.the-variants.{Byte}
 use Rattle.wire.specs.declared.checksum.Model.{Model}
 use Rattle.wire.specs.declared.checksum.Model.the-variants.{Classic, Enhanced}
 
@@ -42,4 +43,4 @@ unfoldable pub checksumOf : ℕ → Model → List ℕ → Answer
 checksumOf id wish bs =
     cond (ltb id 64 && leb 1 (length bs) && leb (length bs) 8)
     (Byte (checksumByte id wish bs))
-    (Refused (refused frame))
+    (refusedWith frame)

@@ -2,10 +2,11 @@
 use Prim.Native.Nat.{ℕ, _+_, _*_, _%_}
 use mathlib.Core.Bool.{Bool, cond, not, xor, _&&_, Bool·beq}
 use lib.Dec.{ltb}
-use Rattle.refusal.specs.Numbers.{refused, frame}
+use Rattle.refusal.specs.Numbers.{frame}
+use Rattle.wire.specs.Answer.{refusedWith}
 use Rattle.wire.specs.Bits.{bit, digit}
 use Rattle.wire.specs.declared.Answer.{Answer}
-use Rattle.wire.specs.declared.Answer.the-variants.{Byte, Refused}
+use Rattle.wire.specs.declared.Answer.the-variants.{Byte}
 
 -- "P0 = ID0 xor ID1 xor ID2 xor ID4"
 unfoldable pub p0 : ℕ → Bool
@@ -21,7 +22,7 @@ protectedByte id = id + 64 * digit (p0 id) + 128 * digit (p1 id)
 
 -- what building one answers
 unfoldable pub protectedOf : ℕ → Answer
-protectedOf id = cond (ltb id 64) (Byte (protectedByte id)) (Refused (refused frame))
+protectedOf id = cond (ltb id 64) (Byte (protectedByte id)) (refusedWith frame)
 
 -- both parity bits of a byte are those of its identifier bits
 unfoldable pub rightParity : ℕ → Bool
@@ -29,4 +30,4 @@ rightParity byte = Bool·beq (bit byte 6) (p0 byte) && Bool·beq (bit byte 7) (p
 
 -- what reading one answers: "A reader refuses wrong parity"
 unfoldable pub readOf : ℕ → Answer
-readOf byte = cond (rightParity byte) (Byte (byte % 64)) (Refused (refused frame))
+readOf byte = cond (rightParity byte) (Byte (byte % 64)) (refusedWith frame)

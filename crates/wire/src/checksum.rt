@@ -1,7 +1,7 @@
 // Checksums over the data bytes of a frame.
 use crate::Answer;
 use crate::identifier::protected_byte;
-use refusal::Refusal;
+use crate::refused;
 ghost use mathlib.Core.Path.{_≡_};
 ghost use Prim.Native.Nat.{_<_};
 ghost use mathlib.Core.List.{[]};
@@ -20,7 +20,7 @@ pub fn of(id: u8, wish: Model, data: &[u8]) -> Answer
     if id < 64 && 1 <= data.len() && data.len() <= 8 {
         Answer::Byte(255 - sum(start(id, wish), data))
     } else {
-        Answer::Refused(Refusal::of(Refusal::FRAME))
+        refused()
     }
 }
 
@@ -29,10 +29,10 @@ pub fn with_carry(sum: u8, byte: u8) -> u8
     ensures { λ r. ⌜ r ≡ withCarry sum byte ⌝ }
 {
     let added = sum as u16 + byte as u16;
-    if added < 256 {
-        added as u8
-    } else {
+    if 255 < added {
         (added - 255) as u8
+    } else {
+        added as u8
     }
 }
 

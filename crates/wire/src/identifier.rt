@@ -1,6 +1,6 @@
 // Protected identifiers, built and read.
 use crate::Answer;
-use refusal::Refusal;
+use crate::refused;
 ghost use mathlib.Core.Path.{_≡_};
 ghost use mathlib.Core.Bool.{true, false};
 ghost use Prim.Native.Nat.{_<_};
@@ -13,7 +13,7 @@ pub fn build(id: u8) -> Answer
     if id < 64 {
         Answer::Byte(protected_byte(id))
     } else {
-        Answer::Refused(Refusal::of(Refusal::FRAME))
+        refused()
     }
 }
 
@@ -25,7 +25,7 @@ pub fn read(protected: u8) -> Answer
     if protected_byte(id) == protected {
         Answer::Byte(id)
     } else {
-        Answer::Refused(Refusal::of(Refusal::FRAME))
+        refused()
     }
 }
 

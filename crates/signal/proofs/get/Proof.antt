@@ -1,15 +1,11 @@
 -- `signal::get` meets its contract: an offset is a byte and a bit of it.
 use Prim.Native.Nat.{_+_, _*_, _/_, _%_}
-use mathlib.Core.Path.{_≡_, _∙_}
+use mathlib.Core.Path.{_≡_}
 use native.Mathlib.Omega.{arith}
 use borrow.Author.Needs.{needs}
 use Rattle.signal.specs.Signal.{getScalar}
 use Rattle.signal.proofs.get.Statement.{statement}
 use Rattle.signal.proofs.get.Tie as tie
-use Rattle.signal.proofs.get.Reads as reads
-use Rattle.signal.proofs.get.Lts as lts
-use Rattle.signal.proofs.get_at.Reads as get-at-reads
-use Rattle.signal.proofs.scalar_width.Reads as scalar-width-reads
 
 cast-get-at : tie.Need-cast-get-at
 cast-get-at c = search needs
@@ -25,7 +21,7 @@ unfolding getScalar
 returns c =
     let o = c .before .before .before .args .offset in
     let e : 8 * (o / 8) + o % 8 ≡ o = omega arith in
-    c .get-at .ensures ∙ rw (e, c .before .scalar-width .ensures)
+    rw (e, c .before .scalar-width .ensures) at (c .get-at .ensures)
 
 pub get-spec : {M : Type 1} → statement M
 get-spec = tie.close (tie.spec cast-get-at scalar-width-requires get-at-requires returns)

@@ -8,9 +8,6 @@ use Rattle.signal.specs.Signal.{bitAt, bytesOf, getArray}
 use Rattle.signal.proofs.Arrays.{gotten, gotten-none, gotten-all, get-turn}
 use Rattle.signal.proofs.get_array.Statement.{statement}
 use Rattle.signal.proofs.get_array.Tie as tie
-use Rattle.signal.proofs.get_array.Reads as reads
-use Rattle.signal.proofs.get_array.Lts as lts
-use Rattle.signal.proofs.get_at.Reads as get-at-reads
 
 abbrev Inv-loop : tie.InvT-loop
 Inv-loop bytes offset values₀ i₀ values i =

@@ -7,10 +7,6 @@ use lib.Pow.{pow-mono}
 use Rattle.signal.proofs.Windows.{get-window}
 use Rattle.signal.proofs.get_at.Statement.{statement}
 use Rattle.signal.proofs.get_at.Tie as tie
-use Rattle.signal.proofs.get_at.Reads as reads
-use Rattle.signal.proofs.get_at.Lts as lts
-use Rattle.signal.proofs.power.Reads as power-reads
-use Rattle.signal.proofs.window.Reads as window-reads
 
 window-requires : tie.Need-window-requires
 window-requires c κs = search needs

@@ -1,15 +1,11 @@
 -- `signal::put` meets its contract: an offset is a byte and a bit of it.
 use Prim.Native.Nat.{_+_, _*_, _/_, _%_}
-use mathlib.Core.Path.{_≡_, _∙_}
+use mathlib.Core.Path.{_≡_}
 use native.Mathlib.Omega.{arith}
 use borrow.Author.Needs.{needs}
 use Rattle.signal.specs.Signal.{putScalar}
 use Rattle.signal.proofs.put.Statement.{statement}
 use Rattle.signal.proofs.put.Tie as tie
-use Rattle.signal.proofs.put.Reads as reads
-use Rattle.signal.proofs.put.Lts as lts
-use Rattle.signal.proofs.put_at.Reads as put-at-reads
-use Rattle.signal.proofs.scalar_width.Reads as scalar-width-reads
 
 cast-put-at : tie.Need-cast-put-at
 cast-put-at c = search needs
@@ -28,7 +24,7 @@ unfolding putScalar
 returns c =
     let o = c .before .before .before .before .before .before .args .offset in
     let e : 8 * (o / 8) + o % 8 ≡ o = omega arith in
-    c .before .before .put-at .ensures ∙ rw (e, c .before .before .before .scalar-width .ensures)
+    rw (e, c .before .before .before .scalar-width .ensures) at (c .before .before .put-at .ensures)
 
 pub put-spec : {M : Type 1} → statement M
 put-spec =

@@ -9,9 +9,6 @@ use Rattle.signal.proofs.Arrays.{put-turn}
 use Rattle.signal.proofs.PutBits.{put-none, put-length}
 use Rattle.signal.proofs.put_array.Statement.{statement}
 use Rattle.signal.proofs.put_array.Tie as tie
-use Rattle.signal.proofs.put_array.Reads as reads
-use Rattle.signal.proofs.put_array.Lts as lts
-use Rattle.signal.proofs.put_at.Reads as put-at-reads
 
 abbrev Inv-loop : tie.InvT-loop
 Inv-loop bytes₀ offset values i₀ bytes i =

@@ -6,11 +6,6 @@ use Rattle.signal.proofs.Numbers.{number-below}
 use Rattle.signal.proofs.Windows.{put-window}
 use Rattle.signal.proofs.put_at.Statement.{statement}
 use Rattle.signal.proofs.put_at.Tie as tie
-use Rattle.signal.proofs.put_at.Reads as reads
-use Rattle.signal.proofs.put_at.Lts as lts
-use Rattle.signal.proofs.set_byte.Reads as set-byte-reads
-use Rattle.signal.proofs.window.Reads as window-reads
-use Rattle.signal.proofs.with_field.Reads as with-field-reads
 
 window-requires : tie.Need-window-requires
 window-requires c κs = search needs

@@ -3,9 +3,6 @@ use borrow.Author.Needs.{needs}
 use Rattle.signal.proofs.Windows.{window-is}
 use Rattle.signal.proofs.window.Statement.{statement}
 use Rattle.signal.proofs.window.Tie as tie
-use Rattle.signal.proofs.window.Reads as reads
-use Rattle.signal.proofs.window.Lts as lts
-use Rattle.signal.proofs.byte.Reads as byte-reads
 
 byte-requires : tie.Need-byte-requires
 byte-requires c κs = search needs

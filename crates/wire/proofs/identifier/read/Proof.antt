@@ -1,3 +1,4 @@
+-- `wire::identifier::read` meets its contract: right parity is what the identifier bits build.
 use borrow.Author.Needs.{needs}
 use borrow.Author.Tests.{eq-eqb, ne-eqb}
 use native.Mathlib.Omega.{arith}
@@ -7,28 +8,28 @@ use Rattle.wire.specs.Identifier.{readOf}
 use Rattle.wire.proofs.IdentifierLaws.{parity-built}
 use Rattle.wire.proofs.identifier.read.Statement.{statement}
 use Rattle.wire.proofs.identifier.read.Tie as tie
-use Rattle.wire.proofs.identifier.read.Reads as reads
-use Rattle.wire.proofs.identifier.read.Lts as lts
-use Rattle.refusal.proofs.Refusal.of.Reads as of-reads
-use Rattle.wire.proofs.identifier.protected_byte.Reads as protected-byte-reads
 
--- src/identifier.rt:25:8
 protected-byte-requires : tie.Need-protected-byte-requires
 protected-byte-requires c κs = search needs
 
--- src/identifier.rt:28:25
-of-requires : tie.Need-of-requires
-of-requires c κs = search needs
+refused-requires : tie.Need-refused-requires
+refused-requires c κs = search needs
 
--- src/identifier.rt:21:1
 returns : tie.Need-returns
 unfolding readOf
-returns c = let b : c .before .before .args .protected < 256 = omega arith in simp (parity-built _ b, eq-eqb _ _ (sym (c .before .protected-byte .ensures) ∙ c .if1 .taken))
+returns c =
+    let b : c .before .before .args .protected < 256 = omega arith in
+    simp (parity-built _ b, eq-eqb _ _ (sym (c .before .protected-byte .ensures) ∙ c .if1 .taken))
 
--- src/identifier.rt:21:1
 returns-2 : tie.Need-returns-2
 unfolding readOf
-returns-2 c = let b : c .before .before .before .args .protected < 256 = omega arith in simp (parity-built _ b, ne-eqb _ _ (λ e. c .before .if1 .left (c .before .before .protected-byte .ensures ∙ e)), c .of .ensures)
+returns-2 c =
+    let b : c .before .before .before .args .protected < 256 = omega arith in
+    simp (
+      parity-built _ b,
+      ne-eqb _ _ (λ e. c .before .if1 .left (c .before .before .protected-byte .ensures ∙ e)),
+      c .refused .ensures,
+    )
 
 pub read-spec : {M : Type 1} → statement M
-read-spec = tie.close (tie.spec protected-byte-requires of-requires returns returns-2)
+read-spec = tie.close (tie.spec protected-byte-requires refused-requires returns returns-2)

@@ -1,0 +1,174 @@
+/* The bench host in C: reads requests from standard input, one a line, calls the core and prints the answers.
+ *
+ * The requests are those of the bench script (docs/DECISIONS.md, "The host's requests"):
+ *   pid N                      id HH
+ *   checksum N classic HH ..   checksum N enhanced HH ..
+ * An empty line and a line that begins with # are passed over; any other line answers ?.
+ */
+#include "linhost.h"
+
+#include <stdbool.h>
+#include <stdio.h>
+#include <string.h>
+
+/* The most bytes of a request, and of the data that fit into one. */
+enum { LINE_LENGTH_MAX = 20000, DATA_LENGTH_MAX = LINE_LENGTH_MAX / 3 };
+
+/* A line without its newline; one byte more than the most shows that it is too long. */
+struct line {
+    char bytes[LINE_LENGTH_MAX + 1];
+    size_t length;
+};
+
+/* What is left of a line to read. */
+struct text {
+    const char *at;
+    const char *end;
+};
+
+/* Reads one line and tells whether there was one. */
+static bool read_line(struct line *line)
+{
+    int c = getchar();
+    line->length = 0;
+    if (c == EOF)
+        return false;
+    for (; c != EOF && c != '\n'; c = getchar())
+        if (line->length < sizeof line->bytes)
+            line->bytes[line->length++] = (char)c;
+    return true;
+}
+
+/* Takes a word off the front, or leaves the text as it is. */
+static bool take_word(struct text *text, const char *word)
+{
+    size_t length = strlen(word);
+    if ((size_t)(text->end - text->at) < length || memcmp(text->at, word, length) != 0)
+        return false;
+    text->at += length;
+    return true;
+}
+
+/* Takes one or more decimal digits of a number of at most 255. */
+static bool take_number(struct text *text, uint8_t *number)
+{
+    unsigned value = 0;
+    const char *start = text->at;
+    for (; text->at < text->end && *text->at >= '0' && *text->at <= '9'; text->at++) {
+        value = 10 * value + (unsigned)(*text->at - '0');
+        if (value > 255)
+            return false;
+    }
+    *number = (uint8_t)value;
+    return text->at > start;
+}
+
+/* The value of an upper-case hexadecimal digit, or -1. */
+static int digit_of(char c)
+{
+    if (c >= '0' && c <= '9')
+        return c - '0';
+    if (c >= 'A' && c <= 'F')
+        return c - 'A' + 10;
+    return -1;
+}
+
+/* Takes two upper-case hexadecimal digits. */
+static bool take_pair(struct text *text, uint8_t *byte)
+{
+    if (text->end - text->at < 2)
+        return false;
+    int high = digit_of(text->at[0]);
+    int low = digit_of(text->at[1]);
+    if (high < 0 || low < 0)
+        return false;
+    *byte = (uint8_t)(16 * high + low);
+    text->at += 2;
+    return true;
+}
+
+static bool at_end(const struct text *text)
+{
+    return text->at == text->end;
+}
+
+/* Prints a refusal, and tells whether the answer is one. */
+static bool refused(uint16_t answer)
+{
+    if (lin_refusal(answer) == 0)
+        return false;
+    printf("refused %u\n", lin_refusal(answer));
+    return true;
+}
+
+/* The rest of `pid N`. */
+static bool build_request(struct text text)
+{
+    uint8_t id;
+    if (!take_number(&text, &id) || !at_end(&text))
+        return false;
+    uint16_t answer = lin_build(id);
+    if (!refused(answer))
+        printf("pid %02X\n", lin_value(answer));
+    return true;
+}
+
+/* The rest of `id HH`. */
+static bool read_request(struct text text)
+{
+    uint8_t byte;
+    if (!take_pair(&text, &byte) || !at_end(&text))
+        return false;
+    uint16_t answer = lin_read(byte);
+    if (!refused(answer))
+        printf("id %u\n", lin_value(answer));
+    return true;
+}
+
+/* The rest of `checksum N classic HH ..` or `checksum N enhanced HH ..`. */
+static bool checksum_request(struct text text)
+{
+    static uint8_t data[DATA_LENGTH_MAX];
+    size_t length = 0;
+    uint8_t id, model;
+    if (!take_number(&text, &id))
+        return false;
+    if (take_word(&text, " classic"))
+        model = LIN_CLASSIC;
+    else if (take_word(&text, " enhanced"))
+        model = LIN_ENHANCED;
+    else
+        return false;
+    while (!at_end(&text))
+        if (!take_word(&text, " ") || !take_pair(&text, &data[length++]))
+            return false;
+    uint16_t answer = lin_checksum(id, model, data, length);
+    if (!refused(answer))
+        printf("checksum %02X\n", lin_value(answer));
+    return true;
+}
+
+/* Answers a request, and tells whether the text is one. */
+static bool answer_request(struct text text)
+{
+    if (take_word(&text, "pid "))
+        return build_request(text);
+    if (take_word(&text, "id "))
+        return read_request(text);
+    if (take_word(&text, "checksum "))
+        return checksum_request(text);
+    return false;
+}
+
+int main(void)
+{
+    static struct line line;
+    while (read_line(&line)) {
+        struct text text = { line.bytes, line.bytes + line.length };
+        if (line.length == 0 || line.bytes[0] == '#')
+            continue;
+        if (line.length > LINE_LENGTH_MAX || !answer_request(text))
+            puts("?");
+    }
+    return ferror(stdin) || fflush(stdout) != 0;
+}

@@ -1,0 +1,32 @@
+/* The entry points of the LIN core for a host in C; link target/staticlib/libhost.a (`rt staticlib host`).
+ *
+ * Each accepts every number and every slice, and answers one number: the low byte is the value, the next byte the
+ * refusal number of document 01, 0 for none. The core proves that of each (crates/host, specs/Coded.antt); this header
+ * is not proved, so the tests compare it with a second program.
+ */
+#ifndef LINHOST_H
+#define LINHOST_H
+
+#include <stddef.h>
+#include <stdint.h>
+
+/* Which checksum is wished for; identifiers 60 to 63 use classic whatever is wished. */
+enum { LIN_CLASSIC = 0, LIN_ENHANCED = 1 };
+
+/* Builds the protected identifier of an identifier; 11 for an identifier above 63. */
+uint16_t lin_build(uint8_t id);
+
+/* Reads the identifier out of a protected identifier; 11 for wrong parity. */
+uint16_t lin_read(uint8_t protected_id);
+
+/* The checksum of data bytes under an identifier; 11 for an identifier above 63, no data or more than 8 bytes.
+ * data points to something even where length is 0. */
+uint16_t lin_checksum(uint8_t id, uint8_t model, const uint8_t *data, size_t length);
+
+/* The value of an answer. */
+static inline uint8_t lin_value(uint16_t answer) { return (uint8_t)(answer & 0xFF); }
+
+/* The refusal number of an answer, 0 for none. */
+static inline uint8_t lin_refusal(uint16_t answer) { return (uint8_t)(answer >> 8); }
+
+#endif

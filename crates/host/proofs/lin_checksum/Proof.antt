@@ -1,0 +1,32 @@
+-- `host::lin_checksum` meets its contract: the answer of the core, as one number.
+use mathlib.Core.Path.{_∙_, ap}
+use borrow.Author.Needs.{needs}
+use borrow.Author.Tests.{eq-eqb, ne-eqb}
+use Rattle.host.specs.Coded.{coded, modelOf}
+use Rattle.host.proofs.lin_checksum.Statement.{statement}
+use Rattle.host.proofs.lin_checksum.Tie as tie
+
+of-requires : tie.Need-of-requires
+of-requires c κs = search needs
+
+coded-requires : tie.Need-coded-requires
+coded-requires c κs = search needs
+
+of-requires-2 : tie.Need-of-requires-2
+of-requires-2 c κs = search needs
+
+coded-requires-2 : tie.Need-coded-requires-2
+coded-requires-2 c κs = search needs
+
+returns : tie.Need-returns
+unfolding modelOf
+returns c = simp (eq-eqb _ _ (c .before .before .if1 .taken)) (c .coded .ensures ∙ ap coded (c .before .of .ensures))
+
+returns-2 : tie.Need-returns-2
+unfolding modelOf
+returns-2 c = simp (ne-eqb _ _ (c .before .before .if1 .left)) (c .coded2 .ensures ∙ ap coded (c .before .of2 .ensures))
+
+pub lin-checksum-spec : {M : Type 1} → statement M
+lin-checksum-spec =
+    tie.close
+    (tie.spec of-requires coded-requires of-requires-2 coded-requires-2 returns returns-2)

@@ -1,0 +1,16 @@
+-- What passes between the core and a host written in C.
+use Prim.Native.Nat.{ℕ, _+_, _*_}
+use mathlib.Core.Bool.{cond}
+use lib.Dec.{eqb}
+use Rattle.wire.specs.Answer.{refusalOf, valueOf}
+use Rattle.wire.specs.declared.Answer.{Answer}
+use Rattle.wire.specs.declared.checksum.Model.{Model}
+use Rattle.wire.specs.declared.checksum.Model.the-variants.{Classic, Enhanced}
+
+-- the low byte is the value, the next byte the refusal number of document 01, 0 for none
+unfoldable pub coded : Answer → ℕ
+coded answer = valueOf answer + 256 * refusalOf answer
+
+-- 0 wishes for classic, any other number for enhanced
+unfoldable pub modelOf : ℕ → Model
+modelOf n = cond (eqb n 0) Classic Enhanced

@@ -1,0 +1,47 @@
+// The entry points for a host written in C, on numbers and byte slices. c/linhost.h declares them.
+//
+// Each answers one number: its low byte is the value, its next byte the refusal number of document 01, 0 for none.
+use wire::Answer;
+use wire::checksum::Model;
+ghost use mathlib.Core.Path.{_≡_};
+ghost use Rattle.wire.specs.Checksum.{checksumOf};
+ghost use Rattle.wire.specs.Identifier.{protectedOf, readOf};
+ghost use Rattle.host.specs.Coded.{coded as codedOf, modelOf};
+
+// Builds the protected identifier of an identifier.
+#[no_mangle]
+pub extern "C" fn lin_build(id: u8) -> u16
+    ensures { λ r. ⌜ r ≡ codedOf (protectedOf id) ⌝ }
+{
+    coded(wire::identifier::build(id))
+}
+
+// Reads the identifier out of a protected identifier.
+#[no_mangle]
+pub extern "C" fn lin_read(protected: u8) -> u16
+    ensures { λ r. ⌜ r ≡ codedOf (readOf protected) ⌝ }
+{
+    coded(wire::identifier::read(protected))
+}
+
+// The checksum of data bytes under an identifier; a model of 0 wishes for classic, any other for enhanced.
+#[no_mangle]
+pub extern "C" fn lin_checksum(id: u8, model: u8, data: &[u8]) -> u16
+    ensures { λ r. ⌜ r ≡ codedOf (checksumOf id (modelOf model) (now («data» .entry))) ⌝ }
+{
+    if model == 0 {
+        coded(wire::checksum::of(id, Model::Classic, data))
+    } else {
+        coded(wire::checksum::of(id, Model::Enhanced, data))
+    }
+}
+
+// An answer as one number.
+fn coded(answer: Answer) -> u16
+    ensures { λ r. ⌜ r ≡ codedOf answer ⌝ }
+{
+    match answer {
+        Answer::Byte(byte) => byte as u16,
+        Answer::Refused(refusal) => 256 * (refusal.number as u16),
+    }
+}

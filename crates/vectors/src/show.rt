@@ -1,0 +1,61 @@
+// Text on standard output.
+use libc::STDOUT_FILENO;
+use wire::Answer;
+
+// Bytes as they are.
+pub(crate) fn text(bytes: &[u8]) {
+    io::write_all(STDOUT_FILENO, bytes);
+}
+
+// A number in decimal.
+pub(crate) fn decimal(n: u64) {
+    io::print_decimal(STDOUT_FILENO, n);
+}
+
+// A byte as an upper-case hexadecimal pair.
+pub(crate) fn pair(byte: u8) {
+    let digits = [digit(byte / 16), digit(byte % 16)];
+    io::write_all(STDOUT_FILENO, &digits);
+}
+
+// Bytes as pairs, with a space before each.
+pub(crate) fn pairs(bytes: &[u8]) {
+    let mut i: usize = 0;
+    while i < bytes.len() {
+        text(b" ");
+        pair(bytes[i]);
+        i += 1;
+    }
+}
+
+// Bytes as decimal numbers, with a space before each.
+pub(crate) fn decimals(bytes: &[u8]) {
+    let mut i: usize = 0;
+    while i < bytes.len() {
+        spaced(bytes[i]);
+        i += 1;
+    }
+}
+
+// A space, and a byte in decimal.
+pub(crate) fn spaced(byte: u8) {
+    text(b" ");
+    decimal(byte as u64);
+}
+
+// An answer of the wire: the byte as a pair, or the refusal number.
+pub(crate) fn answer(given: Answer) {
+    match given {
+        Answer::Byte(byte) => {
+            pair(byte);
+        }
+        Answer::Refused(refusal) => {
+            text(b"refused ");
+            decimal(refusal.number as u64);
+        }
+    }
+}
+
+fn digit(n: u8) -> u8 {
+    if n < 10 { 48 + n } else { 55 + n % 16 }
+}
