@@ -1,15 +1,15 @@
 -- Byte arrays, one byte a turn.
-use Prim.Native.Nat.{ℕ, zero, suc, _+_, _*_, _%_, _<_, _≤_}
+use Prim.Native.Nat.{ℕ, zero, suc, _+_, _*_, _%_, _<_}
 use mathlib.Core.Path.{_≡_, refl, sym, _∙_, ap}
 use mathlib.Core.Bool.{Bool}
-use mathlib.Core.List.{List, [], _∷_, _++_, append-assoc, append-nil}
+use mathlib.Core.List.{List, [], _∷_, _++_, append-nil}
 use native.Mathlib.Nat.{mod-eq-of-lt}
 use native.Mathlib.Numerals.{add-one}
 use native.Mathlib.Omega.{arith}
 use lib.ListN.{length, getD, set, drop, drop-of-length-le}
 use lib.Seq.{drop-cons, set-at, append-snoc}
 use Rattle.wire.specs.Bits.{bit}
-use Rattle.signal.specs.Signal.{number, bitAt, bytesOf, putBits, getArray}
+use Rattle.signal.specs.Signal.{number, bitAt, bytesOf, putBits}
 use Rattle.signal.proofs.BytesOf.{bytes-length, bit-of-byte}
 use Rattle.signal.proofs.Numbers.{number-ext, number-below}
 use Rattle.signal.proofs.PutBits.{put-same, put-append}

@@ -1,13 +1,13 @@
 -- The three parts of a number whose field is replaced: the bits below, the field, the bits above.
 use Prim.Native.Nat.{ℕ, _+_, _-_, _*_, _/_, _%_, _^_, _<_, _≤_}
-use mathlib.Core.Path.{_≡_, refl, sym, _∙_, ap}
+use mathlib.Core.Path.{_≡_, sym, _∙_, ap}
 use mathlib.Core.Bool.{Bool}
 use native.Mathlib.Nat.{add-mul, mul-assoc, mul-comm}
 use native.Mathlib.Omega.{arith}
 use lib.Pow.{pow-add, shr-lt}
 use Rattle.wire.specs.Bits.{bit}
 use Rattle.signal.specs.Signal.{number, replaced}
-use Rattle.signal.proofs.Numbers.{number-join, number-mod, number-bits, number-ext, number-below, bit-shift}
+use Rattle.signal.proofs.Numbers.{number-join, number-mod, number-bits, number-ext, bit-shift}
 use Rattle.signal.proofs.PutBits.{after-inside, after-low, after-high}
 
 module _ (old s w v : ℕ) where

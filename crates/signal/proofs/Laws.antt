@@ -1,7 +1,7 @@
 -- The laws of signals that the crates above use, each proved once over every offset and width.
 use Prim.Native.Nat.{ℕ, _+_, _-_, _*_, _%_, _^_, _<_, _≤_}
 use mathlib.Core.Path.{_≡_, refl, sym, _∙_, ap}
-use mathlib.Core.Bool.{Bool, true, false, cond, _&&_}
+use mathlib.Core.Bool.{Bool, cond, _&&_}
 use mathlib.Core.List.{List}
 use mathlib.Core.Logic.{_⊎_, inl, inr, ⊎-elim}
 use native.Mathlib.Nat.{mod-eq-of-lt}
@@ -10,7 +10,7 @@ use borrow.Author.Tests.{lt-ltb, le-ltb}
 use lib.Dec.{ltb}
 use lib.ListN.{length, getD}
 use Rattle.wire.specs.Bits.{bit, Bytes}
-use Rattle.signal.specs.Signal.{number, bitAt, bytesOf, inside, replaced, putBits, scalarWidth, getScalar, putScalar, getArray, putArray}
+use Rattle.signal.specs.Signal.{bitAt, inside, replaced, putBits, scalarWidth, getScalar, putScalar, getArray, putArray}
 use Rattle.signal.proofs.BytesOf.{bytes-ext, bytes-are, bit-behind, byte-is}
 use Rattle.signal.proofs.Inside.{order}
 use Rattle.signal.proofs.Numbers.{number-ext, number-mod, number-below}

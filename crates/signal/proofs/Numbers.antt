@@ -2,7 +2,7 @@
 use Prim.Native.Nat.{ℕ, zero, suc, _+_, _*_, _/_, _%_, _^_, _<_, _≤_}
 use mathlib.Core.Path.{_≡_, refl, sym, _∙_, ap, fun-ext}
 use mathlib.Core.Bool.{Bool, true, false}
-use native.Mathlib.Nat.{pow-suc, pow-zero, div-one, mod-one, mod-eq-of-lt, zero-div, suc-add, zero-add, mul-add, mul-assoc, mul-one}
+use native.Mathlib.Nat.{pow-suc, pow-zero, div-one, mod-one, mod-eq-of-lt, zero-div, suc-add, zero-add, mul-assoc, mul-one}
 use native.Mathlib.Numerals.{one-add}
 use native.Mathlib.Omega.{arith}
 use lib.Arith.{mod-mul}

@@ -1,17 +1,15 @@
 -- What a put leaves, bit by bit, and how puts combine.
-use Prim.Native.Nat.{ℕ, _+_, _-_, _*_, _/_, _%_, _<_, _≤_}
-use mathlib.Core.Path.{_≡_, refl, sym, _∙_, ap}
-use mathlib.Core.Bool.{Bool, true, false, cond, _&&_}
+use Prim.Native.Nat.{ℕ, _+_, _-_, _*_, _<_, _≤_}
+use mathlib.Core.Path.{_≡_, sym, _∙_, ap}
+use mathlib.Core.Bool.{Bool}
 use mathlib.Core.List.{List}
 use native.Mathlib.Decide.{ℕ-discrete}
 use native.Mathlib.Omega.{arith}
-use borrow.Author.Tests.{lt-ltb, le-ltb}
-use lib.Dec.{ltb}
 use lib.ListN.{length, getD, set, length-set}
 use lib.Seq.{ext-getD, getD-set-same, getD-set-other}
 use Rattle.wire.specs.Bits.{bit, Bytes}
-use Rattle.signal.specs.Signal.{number, bitAt, bytesOf, inside, replaced, putBits}
-use Rattle.signal.proofs.BytesOf.{bytes-length, bytes-at, bytes-ext, bytes-bytes, bit-behind, bit-bytes, byte-is, bytes-are}
+use Rattle.signal.specs.Signal.{number, bitAt, bytesOf, replaced, putBits}
+use Rattle.signal.proofs.BytesOf.{bytes-length, bytes-at, bytes-ext, bytes-bytes, bit-bytes, byte-is, bytes-are}
 use Rattle.signal.proofs.Inside.{order, inside-true, inside-low, inside-high}
 use Rattle.signal.proofs.Numbers.{number-ext, number-bits}
 

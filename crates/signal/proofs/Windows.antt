@@ -1,14 +1,14 @@
 -- A window of three bytes: the number that it is, a field read out of it, and what storing it again puts.
-use Prim.Native.Nat.{ℕ, _+_, _-_, _*_, _/_, _%_, _^_, _<_, _≤_}
-use mathlib.Core.Path.{_≡_, refl, sym, _∙_, ap, fun-ext}
+use Prim.Native.Nat.{ℕ, _+_, _-_, _*_, _/_, _%_, _^_, _≤_}
+use mathlib.Core.Path.{_≡_, refl, sym, _∙_, ap}
 use mathlib.Core.Bool.{Bool, cond}
 use mathlib.Core.List.{List}
 use native.Mathlib.Nat.{add-zero, div-one}
 use native.Mathlib.Omega.{arith}
-use lib.ListN.{length, getD, set}
+use lib.ListN.{getD, set}
 use Rattle.wire.specs.Bits.{bit, Bytes}
 use Rattle.signal.specs.Signal.{number, bitAt, inside, replaced, putBits}
-use Rattle.signal.proofs.BytesOf.{byte-is, bit-behind}
+use Rattle.signal.proofs.BytesOf.{byte-is}
 use Rattle.signal.proofs.Inside.{order}
 use Rattle.signal.proofs.Numbers.{number-join, number-part, number-ext, number-below, bit-number}
 use Rattle.signal.proofs.PutBits.{put-ext, put-same, put-none, put-append, put-bytes, set-put, after-inside, after-low, after-high}

@@ -1,7 +1,7 @@
 // A signal's bits in lent bytes: a frame's, or the whole buffer with the offset counted from its start (document 01,
 // "Signals"). Every offset, width and length is accepted. Bits behind the last byte read as 0, and nothing is put there.
 ghost use mathlib.Core.Path.{_≡_};
-ghost use Prim.Native.Nat.{_+_, _*_, _/_, _%_, _^_, _<_, _≤_};
+ghost use Prim.Native.Nat.{_+_, _*_, _^_, _<_, _≤_};
 ghost use lib.ListN.{length, getD, set};
 ghost use Rattle.wire.specs.Bits.{bit};
 ghost use Rattle.signal.specs.Signal.{number, bitAt, replaced, putBits, scalarWidth};

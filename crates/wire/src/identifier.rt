@@ -2,7 +2,6 @@
 use crate::Answer;
 use crate::refused;
 ghost use mathlib.Core.Path.{_≡_};
-ghost use mathlib.Core.Bool.{true, false};
 ghost use Prim.Native.Nat.{_<_};
 ghost use Rattle.wire.specs.Identifier.{protectedByte, protectedOf, readOf};
 

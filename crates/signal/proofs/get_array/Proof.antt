@@ -1,10 +1,10 @@
 -- `signal::get_array` meets its contract. The invariant: the first i bytes of the array are got.
 use Prim.Native.Nat.{_+_, _-_, _*_, _/_, _%_, _≤_}
-use mathlib.Core.Path.{_≡_, refl, sym, _∙_}
+use mathlib.Core.Path.{_≡_, refl, _∙_}
 use native.Mathlib.Omega.{arith}
 use borrow.Author.Needs.{needs}
 use lib.ListN.{length, length-set}
-use Rattle.signal.specs.Signal.{bitAt, bytesOf, getArray}
+use Rattle.signal.specs.Signal.{bitAt, getArray}
 use Rattle.signal.proofs.Arrays.{gotten, gotten-none, gotten-all, get-turn}
 use Rattle.signal.proofs.get_array.Statement.{statement}
 use Rattle.signal.proofs.get_array.Tie as tie

@@ -1,6 +1,6 @@
 -- `wire::checksum::sum` meets its contract. The invariant: the sum of all is the sum of what is left, from the running sum on.
 use Prim.Native.Nat.{_≤_, _-_}
-use mathlib.Core.Path.{_≡_, refl, sym, _∙_}
+use mathlib.Core.Path.{_≡_, sym, _∙_}
 use borrow.Author.Needs.{needs}
 use native.Mathlib.Omega.{arith}
 use lib.ListN.{length, drop}

@@ -1,5 +1,5 @@
 -- `wire::identifier::protected_byte` meets its contract: antt computes both sides at each of the 64 identifiers.
-use Prim.Native.Nat.{ℕ, _+_, _*_, _/_, _%_, _-_, _<_}
+use Prim.Native.Nat.{ℕ, _+_, _*_, _/_, _%_, _-_}
 use mathlib.Core.Path.{_≡_, refl}
 use mathlib.Core.Bool.{Bool, true, xor}
 use borrow.Author.Needs.{needs}
