@@ -12,5 +12,5 @@ unfoldable pub coded : Answer → ℕ
 coded answer = valueOf answer + 256 * refusalOf answer
 
 -- 0 wishes for classic, any other number for enhanced
-unfoldable pub modelOf : ℕ → Model
-modelOf n = cond (eqb n 0) Classic Enhanced
+unfoldable pub wishOf : ℕ → Model
+wishOf n = cond (eqb n 0) Classic Enhanced

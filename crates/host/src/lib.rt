@@ -6,7 +6,7 @@ use wire::checksum::Model;
 ghost use mathlib.Core.Path.{_≡_};
 ghost use Rattle.wire.specs.Checksum.{checksumOf};
 ghost use Rattle.wire.specs.Identifier.{protectedOf, readOf};
-ghost use Rattle.host.specs.Coded.{coded as codedOf, modelOf};
+ghost use Rattle.host.specs.Coded.{coded as codedOf, wishOf};
 
 // Builds the protected identifier of an identifier.
 #[no_mangle]
@@ -27,7 +27,7 @@ pub extern "C" fn lin_read(protected: u8) -> u16
 // The checksum of data bytes under an identifier; a model of 0 wishes for classic, any other for enhanced.
 #[no_mangle]
 pub extern "C" fn lin_checksum(id: u8, model: u8, data: &[u8]) -> u16
-    ensures { λ r. ⌜ r ≡ codedOf (checksumOf id (modelOf model) (now («data» .entry))) ⌝ }
+    ensures { λ r. ⌜ r ≡ codedOf (checksumOf id (wishOf model) (now («data» .entry))) ⌝ }
 {
     if model == 0 {
         coded(wire::checksum::of(id, Model::Classic, data))

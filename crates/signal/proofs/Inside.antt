@@ -1,7 +1,7 @@
 -- Which bits a signal has, and cases of an order.
 use Prim.Native.Nat.{ℕ, _+_, _≤_, _<_}
-use mathlib.Core.Path.{_≡_, refl}
-use mathlib.Core.Bool.{Bool, true, false, _&&_}
+use mathlib.Core.Path.{_≡_}
+use mathlib.Core.Bool.{true, false, and-false}
 use borrow.Author.Tests.{ltb-true, ltb-false, lt-ltb, le-ltb, le-leb, lt-leb}
 use lib.Dec.{ltb, leb}
 use Rattle.wire.proofs.Tests.{whether}
@@ -18,10 +18,6 @@ inside-true o w j h k = rw (le-leb o j h, lt-ltb j (o + w) k)
 pub inside-low : (o w j : ℕ) → j < o → inside o w j ≡ false
 unfolding inside
 inside-low o w j h = rw (lt-leb o j h)
-
-and-false : (b : Bool) → (b && false) ≡ false
-and-false true = refl
-and-false false = refl
 
 pub inside-high : (o w j : ℕ) → o + w ≤ j → inside o w j ≡ false
 unfolding inside

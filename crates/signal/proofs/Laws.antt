@@ -16,6 +16,11 @@ use Rattle.signal.proofs.Inside.{order}
 use Rattle.signal.proofs.Numbers.{number-ext, number-mod, number-below}
 use Rattle.signal.proofs.PutBits.{put-length, put-bytes, bit-put, after-inside, after-low, after-high}
 
+-- behind the bytes nothing is put
+put-behind : (bs : List ℕ) (o w : ℕ) (f : ℕ → Bool) (j : ℕ) → 8 * length bs ≤ j → bitAt (putBits bs o w f) j ≡ bitAt bs j
+put-behind bs o w f j h =
+    bit-behind (putBits bs o w f) j (omega (arith, put-length bs o w f)) ∙ sym (bit-behind bs j h)
+
 -- The law of signals: after a put, bit j is the signal's bit j - offset inside the signal, and unchanged outside and behind the bytes
 pub put-bit : (bs : List ℕ) (o w : ℕ) (f : ℕ → Bool) (j : ℕ)
     → bitAt (putBits bs o w f) j ≡ cond (ltb j (8 * length bs) && inside o w j) (f (j - o)) (bitAt bs j)
@@ -23,8 +28,7 @@ unfolding replaced
 put-bit bs o w f j =
     order j (8 * length bs)
     (λ h. rw (lt-ltb j (8 * length bs) h) (bit-put bs o w f j h))
-    (λ h. rw (le-ltb j (8 * length bs) h)
-    (bit-behind (putBits bs o w f) j (omega (arith, put-length bs o w f)) ∙ sym (bit-behind bs j h)))
+    (λ h. rw (le-ltb j (8 * length bs) h) (put-behind bs o w f j h))
 
 -- bits [p, p + n) and bits [o, o + w) have none in common
 abbrev pub Apart : ℕ → ℕ → ℕ → ℕ → Type 0
@@ -39,7 +43,7 @@ bit-stays bs o w f j apart =
     order j (8 * length bs)
     (λ h. bit-put bs o w f j h
     ∙ ⊎-elim (λ k. after-low (bitAt bs) o w f j (omega arith)) (λ k. after-high (bitAt bs) o w f j k) apart)
-    (λ h. bit-behind (putBits bs o w f) j (omega (arith, put-length bs o w f)) ∙ sym (bit-behind bs j h))
+    (put-behind bs o w f j)
 
 -- the bits of a signal within the bytes are those put
 pub bit-put-inside : (bs : List ℕ) (o w : ℕ) (f : ℕ → Bool) (k : ℕ) → o + w ≤ 8 * length bs → k < w

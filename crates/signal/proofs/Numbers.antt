@@ -9,6 +9,7 @@ use lib.Arith.{mod-mul}
 use lib.Dec.{eqb}
 use lib.Pow.{pow-pos, shr-shr}
 use Rattle.wire.specs.Bits.{bit, digit}
+use Rattle.wire.proofs.Tests.{digit-below}
 use Rattle.signal.specs.Signal.{number}
 
 -- ---- bits
@@ -36,10 +37,6 @@ digit-eqb (suc (suc x)) h = absurd (omega arith)
 
 pub digit-bit : (n : ℕ) → digit (bit n 0) ≡ n % 2
 digit-bit n = ap digit (bit-zero n) ∙ digit-eqb (n % 2) (omega arith)
-
-pub digit-below : (b : Bool) → digit b < 2
-digit-below true = omega arith
-digit-below false = omega arith
 
 eqb-digit : (b : Bool) → eqb (digit b) 1 ≡ b
 eqb-digit true = refl

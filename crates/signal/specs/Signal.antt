@@ -40,6 +40,7 @@ scalarWidth width = min width 16
 unfoldable pub getScalar : List ℕ → ℕ → ℕ → ℕ
 getScalar bs offset width = number (scalarWidth width) (λ k. bitAt bs (offset + k))
 
+-- a scalar's bits become the low bits of the value
 unfoldable pub putScalar : List ℕ → ℕ → ℕ → ℕ → List ℕ
 putScalar bs offset width v = putBits bs offset (scalarWidth width) (bit v)
 
@@ -47,5 +48,6 @@ putScalar bs offset width v = putBits bs offset (scalarWidth width) (bit v)
 unfoldable pub getArray : List ℕ → ℕ → ℕ → List ℕ
 getArray bs offset n = bytesOf n (λ k. bitAt bs (offset + k))
 
+-- an array's bits become those of the values
 unfoldable pub putArray : List ℕ → ℕ → List ℕ → List ℕ
 putArray bs offset vs = putBits bs offset (8 * length vs) (bitAt vs)

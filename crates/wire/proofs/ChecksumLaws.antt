@@ -1,11 +1,11 @@
 -- Laws of checksums: the sum stays a byte, and what the receiver's test of 001, Annex A.3, tells.
-use Prim.Native.Nat.{ℕ, zero, suc, _+_, _-_, _<_, _≤_}
+use Prim.Native.Nat.{ℕ, zero, suc, _+_, _<_, _≤_}
 use mathlib.Core.Path.{_≡_, refl}
 use mathlib.Core.Logic.{_↔_, _⊎_, inl, inr, ⊎-elim}
 use mathlib.Core.List.{List, [], _∷_}
 use mathlib.Core.Bool.{Bool, true, not, Bool·beq}
 use native.Mathlib.Omega.{arith}
-use borrow.Author.Tests.{lt-ltb, le-ltb, ltb-true, ltb-false}
+use borrow.Author.Tests.{ltb-true, ltb-false}
 use lib.Dec.{ltb}
 use Rattle.wire.specs.Bits.{bit, Bytes}
 use Rattle.wire.specs.Checksum.{withCarry, sum, covered, modelOf, inverted, checksumByte}
@@ -13,16 +13,8 @@ use Rattle.wire.specs.declared.checksum.Model.{Model}
 use Rattle.wire.specs.declared.checksum.Model.the-variants.{Classic, Enhanced}
 use Rattle.wire.proofs.Below.{allBelow, below}
 use Rattle.wire.proofs.IdentifierLaws.{protected-below}
+use Rattle.wire.proofs.Sums.{no-carry, carry}
 use Rattle.wire.proofs.Tests.{beq-true, whether}
-
--- a sum below 256 is kept, and 255 is subtracted from any other
-pub no-carry : (s b : ℕ) → s + b < 256 → withCarry s b ≡ s + b
-unfolding withCarry
-no-carry s b h = rw (lt-ltb (s + b) 256 h)
-
-pub carry : (s b : ℕ) → 256 ≤ s + b → withCarry s b ≡ s + b - 255
-unfolding withCarry
-carry s b h = rw (le-ltb (s + b) 256 h)
 
 -- one more byte leaves the sum in 0..255
 pub carry-below : (s b : ℕ) → s < 256 → b < 256 → withCarry s b < 256

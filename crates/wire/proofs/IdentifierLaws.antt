@@ -4,39 +4,25 @@ use mathlib.Core.Path.{_≡_, refl, sym, _∙_}
 use mathlib.Core.Logic.{_↔_}
 use mathlib.Core.Bool.{Bool, true, false, xor, Bool·beq}
 use native.Mathlib.Omega.{arith}
-use borrow.Author.Tests.{eqb-true, ltb-true, eq-eqb}
-use lib.Dec.{eqb, ltb}
+use borrow.Author.Tests.{eqb-true, eq-eqb}
+use lib.Dec.{eqb}
 use Rattle.refusal.specs.Numbers.{frame}
 use Rattle.wire.specs.Answer.{refusedWith}
 use Rattle.wire.specs.Bits.{bit}
 use Rattle.wire.specs.Identifier.{protectedByte, readOf, rightParity, p0, p1}
 use Rattle.wire.specs.declared.Answer.the-variants.{Byte}
 use Rattle.wire.proofs.Below.{allBelow, below}
-use Rattle.wire.proofs.Tests.{beq-true, whether}
+use Rattle.wire.proofs.Tests.{beq-true, digit-below, whether}
 
 -- a protected identifier is a byte
-belowTest : ℕ → Bool
-belowTest id = ltb (protectedByte id) 256
-
-all-below : allBelow 64 belowTest ≡ true
-unfolding belowTest protectedByte p0 p1 bit xor
-all-below = refl
-
 pub protected-below : (id : ℕ) → id < 64 → protectedByte id < 256
-unfolding belowTest
-protected-below id h = ltb-true _ _ (below 64 belowTest all-below id h)
+unfolding protectedByte
+protected-below id h = omega (arith, digit-below (p0 id), digit-below (p1 id))
 
 -- the low six bits of a protected identifier are its identifier
-identifierTest : ℕ → Bool
-identifierTest id = eqb (protectedByte id % 64) id
-
-all-identifiers : allBelow 64 identifierTest ≡ true
-unfolding identifierTest protectedByte p0 p1 bit xor
-all-identifiers = refl
-
 pub protected-identifier : (id : ℕ) → id < 64 → protectedByte id % 64 ≡ id
-unfolding identifierTest
-protected-identifier id h = eqb-true _ _ (below 64 identifierTest all-identifiers id h)
+unfolding protectedByte
+protected-identifier id h = omega (arith, digit-below (p0 id), digit-below (p1 id))
 
 -- a byte has right parity where it is what its identifier bits build
 parityTest : ℕ → Bool

@@ -1,12 +1,12 @@
 -- The sum with carry, byte by byte.
-use Prim.Native.Nat.{ℕ, _+_, _<_, _≤_}
+use Prim.Native.Nat.{ℕ, _+_, _-_, _<_, _≤_}
 use mathlib.Core.Path.{_≡_, refl}
-use mathlib.Core.List.{List, [], _∷_, _++_}
+use mathlib.Core.List.{List, []}
 use native.Mathlib.Numerals.{add-one}
 use lib.ListN.{length, getD, drop, drop-of-length-le}
 use lib.Seq.{drop-cons}
-use native.Mathlib.Nat.{zero-add}
-use borrow.Author.Tests.{lt-ltb}
+use native.Mathlib.Omega.{arith}
+use borrow.Author.Tests.{lt-ltb, le-ltb}
 use Rattle.wire.specs.Checksum.{withCarry, sum, covered}
 use Rattle.wire.specs.declared.checksum.Model.{Model}
 use Rattle.wire.specs.declared.checksum.Model.the-variants.{Classic, Enhanced}
@@ -20,16 +20,18 @@ pub sum-end : (s : ℕ) (bs : List ℕ) (i : ℕ) → length bs ≤ i → sum s 
 unfolding sum
 sum-end s bs i h = rw (drop-of-length-le bs h)
 
+-- a sum below 256 is kept, and 255 is subtracted from any other
+pub no-carry : (s b : ℕ) → s + b < 256 → withCarry s b ≡ s + b
+unfolding withCarry
+no-carry s b h = rw (lt-ltb (s + b) 256 h)
+
+pub carry : (s b : ℕ) → 256 ≤ s + b → withCarry s b ≡ s + b - 255
+unfolding withCarry
+carry s b h = rw (le-ltb (s + b) 256 h)
+
 -- the first byte of a sum is taken as it is
 pub carry-first : (b : ℕ) → b < 256 → withCarry 0 b ≡ b
-unfolding withCarry
-carry-first b h = rw (zero-add b, lt-ltb b 256 h)
-
--- bytes may be added in two parts
-pub sum-append : (s : ℕ) (xs bs : List ℕ) → sum s (xs ++ bs) ≡ sum (sum s xs) bs
-unfolding sum
-sum-append s [] bs = refl
-sum-append s (x ∷ xs) bs = sum-append (withCarry s x) xs bs
+carry-first b h = omega (arith, no-carry 0 b (omega arith))
 
 -- what is covered before the data, then the data
 pub sum-covered : (m : Model) (id : ℕ) (bs : List ℕ) → sum 0 (covered m id bs) ≡ sum (sum 0 (covered m id [])) bs

@@ -2,7 +2,7 @@
 use mathlib.Core.Path.{_∙_, ap}
 use borrow.Author.Needs.{needs}
 use borrow.Author.Tests.{eq-eqb, ne-eqb}
-use Rattle.host.specs.Coded.{coded, modelOf}
+use Rattle.host.specs.Coded.{coded, wishOf}
 use Rattle.host.proofs.lin_checksum.Statement.{statement}
 use Rattle.host.proofs.lin_checksum.Tie as tie
 
@@ -19,11 +19,11 @@ coded-requires-2 : tie.Need-coded-requires-2
 coded-requires-2 c κs = search needs
 
 returns : tie.Need-returns
-unfolding modelOf
+unfolding wishOf
 returns c = simp (eq-eqb _ _ (c .before .before .if1 .taken)) (c .coded .ensures ∙ ap coded (c .before .of .ensures))
 
 returns-2 : tie.Need-returns-2
-unfolding modelOf
+unfolding wishOf
 returns-2 c = simp (ne-eqb _ _ (c .before .before .if1 .left)) (c .coded2 .ensures ∙ ap coded (c .before .of2 .ensures))
 
 pub lin-checksum-spec : {M : Type 1} → statement M
