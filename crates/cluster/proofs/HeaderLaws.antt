@@ -1,0 +1,48 @@
+-- Laws of an accepted table: how many records it has, and its length.
+use Prim.Native.Nat.{ℕ, _+_, _*_, _≤_}
+use mathlib.Core.Path.{_≡_}
+use mathlib.Core.List.{List}
+use native.Mathlib.Omega.{arith}
+use borrow.Author.Tests.{leb-true}
+use lib.ListN.{length}
+use Rattle.cluster.specs.Check.{RightTable}
+use Rattle.cluster.specs.Right.{headerRight}
+use Rattle.cluster.specs.Table.{word, frameCount, signalCount, memberCount, entryCount, size}
+use Rattle.cluster.proofs.Accepted.{AllTrue, exact, header-right}
+
+-- a header of which each word is right
+pub header-counts : (t : List ℕ) → AllTrue (headerRight t)
+    → (frameCount t ≤ 60) × (signalCount t ≤ 256) × (memberCount t ≤ 60) × (entryCount t ≤ 256)
+unfolding headerRight frameCount signalCount memberCount entryCount
+header-counts t right = (
+  leb-true (word t 0) 60 (right .0),
+  leb-true (word t 1) 256 (right .1 .0),
+  leb-true (word t 2) 60 (right .1 .1 .0),
+  leb-true (word t 3) 256 (right .1 .1 .1 .0),
+)
+
+module _ (t : List ℕ) (ok : RightTable t) where
+  -- at most 60 frames
+  pub frame-count : frameCount t ≤ 60
+  frame-count = header-counts t (header-right t ok) .0
+
+  -- at most 256 signals
+  pub signal-count : signalCount t ≤ 256
+  signal-count = header-counts t (header-right t ok) .1
+
+  -- at most 60 list members
+  pub member-count : memberCount t ≤ 60
+  member-count = header-counts t (header-right t ok) .2
+
+  -- at most 256 schedule entries
+  pub entry-count : entryCount t ≤ 256
+  entry-count = header-counts t (header-right t ok) .3
+
+  -- "Length is exactly 4 + 3F + 5S + 2M + 4E"
+  pub table-length : length t ≡ 4 + 3 * frameCount t + 5 * signalCount t + 2 * memberCount t + 4 * entryCount t
+  unfolding size
+  table-length = exact t ok
+
+  -- "at most 2,608"
+  pub table-limit : length t ≤ 2608
+  table-limit = omega (arith, table-length, frame-count, signal-count, member-count, entry-count)

@@ -1,0 +1,66 @@
+-- `cluster::entries::first` meets its contract. The invariant: what is searched from the start is what is searched from here on.
+use Prim.Native.Nat.{_-_}
+use mathlib.Core.Path.{_≡_, refl, sym, _∙_}
+use native.Mathlib.Nat.{sub-zero}
+use borrow.Author.Needs.{needs}
+use borrow.Author.Tests.{eq-eqb, ne-eqb}
+use lib.Dec.{eqb}
+use Rattle.cluster.specs.Lists.{firstFrom, firstEntry}
+use Rattle.cluster.specs.Table.{entryCount, entrySchedule}
+use Rattle.cluster.proofs.Searching.{right, wrong, ended}
+use Rattle.cluster.proofs.entries.first.Statement.{statement}
+use Rattle.cluster.proofs.entries.first.Tie as tie
+
+abbrev Inv-loop : tie.InvT-loop
+Inv-loop t n end e₀ e =
+    (end ≡ entryCount t) × (firstEntry t n ≡ firstFrom (λ j. eqb (entrySchedule t j) n) e (end - e))
+
+abbrev μ-loop : tie.MeasureT-loop
+μ-loop t n end e₀ e = end - e
+
+count-requires : tie.Need-count-requires Inv-loop μ-loop
+count-requires c κs = search needs
+
+loop-holds : tie.Need-loop-holds Inv-loop μ-loop
+unfolding firstEntry
+loop-holds c = (c .count .ensures, rw (c .count .ensures, sub-zero) refl)
+
+schedule-requires : tie.Need-schedule-requires Inv-loop μ-loop
+schedule-requires c κs = search needs
+
+returns : tie.Need-returns Inv-loop μ-loop
+returns c =
+    sym
+    (c .before .before .before .loop .inv .1
+    ∙ right _ _ _ (c .before .before .loop-test .taken) (eq-eqb _ _ (sym (c .before .schedule .ensures) ∙ c .if1 .taken)))
+
+add-e : tie.Need-add-e Inv-loop μ-loop
+add-e c = search needs
+
+loop-less : tie.Need-loop-less Inv-loop μ-loop
+loop-less c = search needs
+
+loop-again : tie.Need-loop-again Inv-loop μ-loop
+loop-again c = (
+  c .before .before .before .loop .inv .0,
+  c .before .before .before .loop .inv .1
+      ∙ wrong _ _ _ (c .before .before .loop-test .taken) (ne-eqb _ _ (λ e. c .if1 .left (c .before .schedule .ensures ∙ e))),
+)
+
+returns-2 : tie.Need-returns-2 Inv-loop μ-loop
+returns-2 c = sym (c .before .loop .inv .1 ∙ ended _ _ _ (c .loop-test .left))
+
+pub first-spec : {M : Type 1} → statement M
+first-spec =
+    tie.close
+    (tie.spec
+    Inv-loop
+    μ-loop
+    count-requires
+    loop-holds
+    schedule-requires
+    returns
+    add-e
+    loop-less
+    loop-again
+    returns-2)

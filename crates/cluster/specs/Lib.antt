@@ -1,0 +1,7 @@
+pub mod Table
+pub mod Right
+pub mod Check
+pub mod Lists
+pub mod Fresh
+pub mod Seen
+pub mod SignalRead

@@ -1,0 +1,116 @@
+-- Document 01, "The cluster table": where each word stands, and every field by its name. A word that is not there reads as 0.
+use Prim.Native.Nat.{ℕ, zero, suc, _+_, _*_}
+use mathlib.Core.Bool.{Bool}
+use mathlib.Core.List.{List}
+use lib.Dec.{eqb}
+use lib.ListN.{getD}
+use Rattle.wire.specs.Bits.{bit}
+
+unfoldable pub word : List ℕ → ℕ → ℕ
+word t i = getD t i 0
+
+-- ---- "Words 0 to 3: frames F, signals S, list members M, schedule entries E"
+
+unfoldable pub frameCount : List ℕ → ℕ
+frameCount t = word t 0
+
+unfoldable pub signalCount : List ℕ → ℕ
+signalCount t = word t 1
+
+unfoldable pub memberCount : List ℕ → ℕ
+memberCount t = word t 2
+
+unfoldable pub entryCount : List ℕ → ℕ
+entryCount t = word t 3
+
+-- ---- the first word of each record: frames of 3 words, then signals of 5, members of 2 and entries of 4
+
+abbrev pub frameAt : ℕ → ℕ
+frameAt f = 4 + 3 * f
+
+abbrev pub signalAt : List ℕ → ℕ → ℕ
+signalAt t s = frameAt (frameCount t) + 5 * s
+
+abbrev pub memberAt : List ℕ → ℕ → ℕ
+memberAt t m = signalAt t (signalCount t) + 2 * m
+
+abbrev pub entryAt : List ℕ → ℕ → ℕ
+entryAt t e = memberAt t (memberCount t) + 4 * e
+
+-- "Length is exactly 4 + 3F + 5S + 2M + 4E"
+unfoldable pub size : List ℕ → ℕ
+size t = 4 + 3 * frameCount t + 5 * signalCount t + 2 * memberCount t + 4 * entryCount t
+
+-- ---- a frame: identifier, length, flags
+
+unfoldable pub identifier : List ℕ → ℕ → ℕ
+identifier t f = word t (frameAt f)
+
+unfoldable pub frameLength : List ℕ → ℕ → ℕ
+frameLength t f = word t (frameAt f + 1)
+
+unfoldable pub flags : List ℕ → ℕ → ℕ
+flags t f = word t (frameAt f + 2)
+
+-- "bit 0: master publishes"
+unfoldable pub published : List ℕ → ℕ → Bool
+published t f = bit (flags t f) 0
+
+-- "bit 1: classic"
+unfoldable pub classic : List ℕ → ℕ → Bool
+classic t f = bit (flags t f) 1
+
+-- ---- a signal: frame number, kind, offset, width, start value
+
+unfoldable pub signalFrame : List ℕ → ℕ → ℕ
+signalFrame t s = word t (signalAt t s)
+
+unfoldable pub signalKind : List ℕ → ℕ → ℕ
+signalKind t s = word t (signalAt t s + 1)
+
+unfoldable pub signalOffset : List ℕ → ℕ → ℕ
+signalOffset t s = word t (signalAt t s + 2)
+
+unfoldable pub signalWidth : List ℕ → ℕ → ℕ
+signalWidth t s = word t (signalAt t s + 3)
+
+unfoldable pub signalStart : List ℕ → ℕ → ℕ
+signalStart t s = word t (signalAt t s + 4)
+
+-- "kind 0 scalar, 1 array"
+unfoldable pub isArray : List ℕ → ℕ → Bool
+isArray t s = eqb (signalKind t s) 1
+
+-- ---- a member: list number, frame number
+
+unfoldable pub memberList : List ℕ → ℕ → ℕ
+memberList t m = word t (memberAt t m)
+
+unfoldable pub memberFrame : List ℕ → ℕ → ℕ
+memberFrame t m = word t (memberAt t m + 1)
+
+-- ---- an entry: schedule number, kind, target, delay
+
+unfoldable pub entrySchedule : List ℕ → ℕ → ℕ
+entrySchedule t e = word t (entryAt t e)
+
+unfoldable pub entryKind : List ℕ → ℕ → ℕ
+entryKind t e = word t (entryAt t e + 1)
+
+unfoldable pub entryTarget : List ℕ → ℕ → ℕ
+entryTarget t e = word t (entryAt t e + 2)
+
+unfoldable pub entryDelay : List ℕ → ℕ → ℕ
+entryDelay t e = word t (entryAt t e + 3)
+
+-- ---- how many lists and schedules there are: one more than the last record's number, and none without a record
+
+unfoldable pub counted : (ℕ → ℕ) → ℕ → ℕ
+counted number zero = 0
+counted number (suc k) = suc (number k)
+
+unfoldable pub listCount : List ℕ → ℕ
+listCount t = counted (memberList t) (memberCount t)
+
+unfoldable pub scheduleCount : List ℕ → ℕ
+scheduleCount t = counted (entrySchedule t) (entryCount t)

@@ -1,0 +1,164 @@
+// The schedule entries of the table: their number, their fields, the schedules, and the check of their records.
+use crate::Verdict;
+use crate::fault;
+use crate::frames;
+use crate::members;
+use crate::table::due;
+use crate::table::entry_at;
+use crate::table::follows;
+use crate::table::word;
+ghost use mathlib.Core.Path.{_≡_};
+ghost use Prim.Native.Nat.{_≤_};
+ghost use Rattle.cluster.specs.Check.{faults};
+ghost use Rattle.cluster.specs.Lists.{firstEntry, nextEntry};
+ghost use Rattle.cluster.specs.Right.{entryRight, targetRight, records};
+ghost use Rattle.cluster.specs.Seen.{entrySeen, leading};
+ghost use Rattle.cluster.specs.Table.{frameCount, signalCount, memberCount, entryCount, entryAt, scheduleCount};
+ghost use Rattle.cluster.specs.Table.{entrySchedule, entryKind, entryTarget, entryDelay};
+
+// How many entries there are, in all schedules together.
+pub fn count(t: &[u16]) -> u16
+    ensures { λ r. ⌜ r ≡ entryCount (now (t .entry)) ⌝ }
+{
+    word(t, 3)
+}
+
+// The schedule number of an entry.
+pub fn schedule(t: &[u16], e: u16) -> u16
+    ensures { λ r. ⌜ r ≡ entrySchedule (now (t .entry)) e ⌝ }
+{
+    word(t, entry_at(t, e))
+}
+
+// The kind of an entry: 0 frame, 1 list, 2 request, 3 response.
+pub fn kind(t: &[u16], e: u16) -> u16
+    ensures { λ r. ⌜ r ≡ entryKind (now (t .entry)) e ⌝ }
+{
+    word(t, entry_at(t, e) + 1)
+}
+
+// The target of an entry: a frame number, a list number, or 0.
+pub fn target(t: &[u16], e: u16) -> u16
+    ensures { λ r. ⌜ r ≡ entryTarget (now (t .entry)) e ⌝ }
+{
+    word(t, entry_at(t, e) + 2)
+}
+
+// The delay of an entry in ticks.
+pub fn delay(t: &[u16], e: u16) -> u16
+    ensures { λ r. ⌜ r ≡ entryDelay (now (t .entry)) e ⌝ }
+{
+    word(t, entry_at(t, e) + 3)
+}
+
+// How many schedules there are.
+pub fn schedules(t: &[u16]) -> usize
+    ensures { λ r. ⌜ r ≡ scheduleCount (now (t .entry)) ⌝ }
+    ensures { λ r. ⌜ r ≤ 65536 ⌝ }
+{
+    let n = count(t);
+    if n == 0 {
+        0
+    } else {
+        schedule(t, n - 1) as usize + 1
+    }
+}
+
+// The first entry of a schedule; the number of entries where there is none.
+pub fn first(t: &[u16], n: u16) -> u16
+    ensures { λ r. ⌜ r ≡ firstEntry (now (t .entry)) n ⌝ }
+{
+    let end = count(t);
+    let mut e: u16 = 0;
+    while e < end {
+        if schedule(t, e) == n {
+            return e;
+        }
+        e += 1;
+    }
+    e
+}
+
+// The entry that follows an entry in its schedule, cyclically.
+pub fn next(t: &[u16], e: u16) -> u16
+    ensures { λ r. ⌜ r ≡ nextEntry (now (t .entry)) e ⌝ }
+{
+    let n = schedule(t, e);
+    if e < count(t) {
+        if e + 1 < count(t) {
+            if schedule(t, e + 1) == n {
+                return e + 1;
+            }
+        }
+    }
+    first(t, n)
+}
+
+// Checks the entries' records.
+pub(crate) fn judge(t: &[u16]) -> Verdict
+    requires { ⌜ (frameCount (now t) ≤ 60) × (signalCount (now t) ≤ 256) × (memberCount (now t) ≤ 60) × (entryCount (now t) ≤ 256) ⌝ }
+    ensures { λ r. ⌜ r ≡ faults (now (t .entry)) (entryAt (now (t .entry)) 0) (records 0 (entryCount (now (t .entry))) (entryRight (now (t .entry)))) ⌝ }
+{
+    let lists = members::lists(t);
+    let first = entry_at(t, 0);
+    let n = count(t) as usize;
+    let mut schedules: usize = 0;
+    let mut e: usize = 0;
+    while e < n {
+        let at = first + 4 * e;
+        let schedule = due(t, at);
+        let right = right_words(
+            frames::count(t) as usize,
+            lists,
+            follows(schedules, schedule),
+            due(t, at + 1),
+            due(t, at + 2),
+            due(t, at + 3),
+        );
+        if right < 4 {
+            return fault(at + right);
+        }
+        schedules = schedule + 1;
+        e += 1;
+    }
+    Verdict::Accepted
+}
+
+// How many words of an entry's record are right before the first that is not.
+fn right_words(
+    frames: usize,
+    lists: usize,
+    up: bool,
+    kind: usize,
+    target: usize,
+    delay: usize,
+) -> usize
+    ensures { λ r. ⌜ r ≡ leading (entrySeen frames lists up kind target delay) ⌝ }
+{
+    if !up {
+        return 0;
+    }
+    if 3 < kind {
+        return 1;
+    }
+    if !target_right(frames, lists, kind, target) {
+        return 2;
+    }
+    if delay < 1 {
+        return 3;
+    }
+    if delay <= 65535 { 4 } else { 3 }
+}
+
+// Whether an entry of a kind may have a target.
+fn target_right(frames: usize, lists: usize, kind: usize, target: usize) -> bool
+    ensures { λ r. ⌜ r ≡ targetRight frames lists kind target ⌝ }
+{
+    if kind == 0 {
+        return target < frames;
+    }
+    if kind == 1 {
+        return target < lists;
+    }
+    target == 0
+}

@@ -1,0 +1,112 @@
+// The frames of the table: their number, their fields, and the check of their records.
+use crate::Verdict;
+use crate::fault;
+use crate::marks::is_marked;
+use crate::table::due;
+use crate::table::frame_at;
+use crate::table::word;
+ghost use mathlib.Core.Path.{_≡_};
+ghost use Prim.Native.Nat.{_*_, _≤_};
+ghost use Rattle.cluster.specs.Check.{faults};
+ghost use Rattle.cluster.specs.Right.{frameRight, records};
+ghost use Rattle.cluster.specs.Seen.{frameSeen, leading};
+ghost use Rattle.cluster.specs.Table.{frameAt, frameCount, identifier as identifierOf, frameLength, flags as flagsOf};
+ghost use Rattle.cluster.specs.Table.{published as publishedOf, classic as classicOf};
+
+// How many frames there are.
+pub fn count(t: &[u16]) -> u16
+    ensures { λ r. ⌜ r ≡ frameCount (now (t .entry)) ⌝ }
+{
+    word(t, 0)
+}
+
+// The identifier of a frame.
+pub fn identifier(t: &[u16], f: u16) -> u16
+    ensures { λ r. ⌜ r ≡ identifierOf (now (t .entry)) f ⌝ }
+{
+    word(t, frame_at(f))
+}
+
+// The length of a frame in bytes.
+pub fn length(t: &[u16], f: u16) -> u16
+    ensures { λ r. ⌜ r ≡ frameLength (now (t .entry)) f ⌝ }
+{
+    word(t, frame_at(f) + 1)
+}
+
+// The flags of a frame.
+pub fn flags(t: &[u16], f: u16) -> u16
+    ensures { λ r. ⌜ r ≡ flagsOf (now (t .entry)) f ⌝ }
+{
+    word(t, frame_at(f) + 2)
+}
+
+// Whether the master publishes a frame.
+pub fn published(t: &[u16], f: u16) -> bool
+    ensures { λ r. ⌜ r ≡ publishedOf (now (t .entry)) f ⌝ }
+{
+    publishes(t, f as usize)
+}
+
+// Whether a frame has the classic checksum.
+pub fn classic(t: &[u16], f: u16) -> bool
+    ensures { λ r. ⌜ r ≡ classicOf (now (t .entry)) f ⌝ }
+{
+    flags(t, f) / 2 % 2 == 1
+}
+
+// Whether the master publishes a frame, of which the number may be that of a missing word.
+pub(crate) fn publishes(t: &[u16], f: usize) -> bool
+    requires { ⌜ f ≤ 65536 ⌝ }
+    ensures { λ r. ⌜ r ≡ publishedOf (now (t .entry)) f ⌝ }
+{
+    word(t, 4 + 3 * f + 2) % 2 == 1
+}
+
+// The bits of a frame, of which the number may be that of a missing word.
+pub(crate) fn bits(t: &[u16], f: usize) -> usize
+    requires { ⌜ f ≤ 65536 ⌝ }
+    ensures { λ r. ⌜ r ≡ 8 * frameLength (now (t .entry)) f ⌝ }
+{
+    8 * (word(t, 4 + 3 * f + 1) as usize)
+}
+
+// Checks the frames' records; the identifiers used so far are marked.
+pub(crate) fn judge(t: &[u16]) -> Verdict
+    requires { ⌜ frameCount (now t) ≤ 60 ⌝ }
+    ensures { λ r. ⌜ r ≡ faults (now (t .entry)) (frameAt 0) (records 0 (frameCount (now (t .entry))) (frameRight (now (t .entry)))) ⌝ }
+{
+    let mut used = [false; 60];
+    let n = count(t) as usize;
+    let mut f: usize = 0;
+    while f < n {
+        let at = 4 + 3 * f;
+        let id = due(t, at);
+        let right = right_words(is_marked(&used, id), id, due(t, at + 1), due(t, at + 2));
+        if right < 3 {
+            return fault(at + right);
+        }
+        used[id] = true;
+        f += 1;
+    }
+    Verdict::Accepted
+}
+
+// How many words of a frame's record are right before the first that is not.
+fn right_words(used: bool, id: usize, bytes: usize, flags: usize) -> usize
+    ensures { λ r. ⌜ r ≡ leading (frameSeen used id bytes flags) ⌝ }
+{
+    if 59 < id {
+        return 0;
+    }
+    if used {
+        return 0;
+    }
+    if bytes < 1 {
+        return 1;
+    }
+    if 8 < bytes {
+        return 1;
+    }
+    if flags <= 3 { 3 } else { 2 }
+}

@@ -1,0 +1,49 @@
+// The cluster table of document 01, a lent slice of 16-bit words: the check, the fields by name, and the bytes a fresh call
+// leaves. Every call accepts every slice and every number. The crates above use these names and never the layout.
+use refusal::Refusal;
+
+pub mod entries;
+pub mod frames;
+pub mod fresh;
+mod marks;
+pub mod members;
+pub mod signals;
+mod table;
+
+ghost use mathlib.Core.Path.{_≡_};
+ghost use Rattle.cluster.specs.Check.{fault as faultAt, judged};
+
+// What the table check answers: accepted, or refusal 1 with the position of the first word that is wrong, missing or surplus.
+pub enum Verdict {
+    Accepted,
+    Refused(Refusal),
+}
+
+// Checks a table, word by word, each word once.
+pub fn check(t: &[u16]) -> Verdict
+    ensures { λ r. ⌜ r ≡ judged (now (t .entry)) ⌝ }
+{
+    if let Verdict::Refused(refusal) = table::judge(t) {
+        return Verdict::Refused(refusal);
+    }
+    if let Verdict::Refused(refusal) = frames::judge(t) {
+        return Verdict::Refused(refusal);
+    }
+    if let Verdict::Refused(refusal) = signals::judge(t) {
+        return Verdict::Refused(refusal);
+    }
+    if let Verdict::Refused(refusal) = members::judge(t) {
+        return Verdict::Refused(refusal);
+    }
+    if let Verdict::Refused(refusal) = entries::judge(t) {
+        return Verdict::Refused(refusal);
+    }
+    table::surplus(t)
+}
+
+// Refusal 1 with a position.
+pub(crate) fn fault(at: usize) -> Verdict
+    ensures { λ r. ⌜ r ≡ faultAt at ⌝ }
+{
+    Verdict::Refused(Refusal::at(Refusal::TABLE, at))
+}

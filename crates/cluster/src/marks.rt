@@ -1,0 +1,47 @@
+// Marks: a number below 60 that was used, and the bits of a frame that are taken, as one number.
+ghost use mathlib.Core.Path.{_≡_};
+ghost use mathlib.Core.Bool.{false, not, _||_};
+ghost use Prim.Native.Nat.{ℕ, _+_, _-_, _^_, _<_, _≤_};
+ghost use lib.ListN.{getD};
+ghost use Rattle.wire.specs.Bits.{bit};
+ghost use Rattle.signal.specs.Signal.{inside};
+ghost use Rattle.cluster.specs.Seen.{hits};
+
+// Whether a number is marked.
+pub(crate) fn is_marked(marks: &[bool], i: usize) -> bool
+    ensures { λ r. ⌜ r ≡ getD (now (marks .entry)) i false ⌝ }
+{
+    if i < marks.len() { marks[i] } else { false }
+}
+
+// The bits of a frame that are taken.
+pub(crate) fn bits_of(marks: &[u64], i: usize) -> u64
+    ensures { λ r. ⌜ r ≡ getD (now (marks .entry)) i 0 ⌝ }
+{
+    if i < marks.len() { marks[i] } else { 0 }
+}
+
+// Whether none of the bits from an offset on is taken.
+pub(crate) fn are_free(taken: u64, offset: usize, width: usize) -> bool
+    requires { ⌜ (1 ≤ width) × (offset + width ≤ 64) ⌝ }
+    ensures { λ r. ⌜ r ≡ not (hits taken offset width) ⌝ }
+{
+    (taken >> (offset as u32)) & ones(width) == 0
+}
+
+// The bits from an offset on, which are free, are taken too.
+pub(crate) fn with_bits(taken: u64, offset: usize, width: usize) -> u64
+    requires { ⌜ (1 ≤ width) × (offset + width ≤ 64) ⌝ }
+    requires { ⌜ hits taken offset width ≡ false ⌝ }
+    ensures { λ r. ⌜ ((j : ℕ) → bit r j ≡ (bit taken j || inside offset width j)) ⌝ }
+{
+    taken + (ones(width) << (offset as u32))
+}
+
+// The number with this many bits, all 1.
+fn ones(width: usize) -> u64
+    requires { ⌜ (1 ≤ width) × (width ≤ 64) ⌝ }
+    ensures { λ r. ⌜ r ≡ 2 ^ width - 1 ⌝ }
+{
+    18446744073709551615 >> ((64 - width) as u32)
+}

@@ -1,0 +1,112 @@
+// The list members of the table: their number, their fields, the lists, and the check of their records.
+use crate::Verdict;
+use crate::fault;
+use crate::frames;
+use crate::marks::is_marked;
+use crate::table::due;
+use crate::table::follows;
+use crate::table::member_at;
+use crate::table::word;
+ghost use mathlib.Core.Path.{_≡_};
+ghost use Prim.Native.Nat.{_≤_};
+ghost use Rattle.cluster.specs.Check.{faults};
+ghost use Rattle.cluster.specs.Lists.{nextMember};
+ghost use Rattle.cluster.specs.Right.{memberRight, records};
+ghost use Rattle.cluster.specs.Seen.{memberSeen, leading};
+ghost use Rattle.cluster.specs.Table.{frameCount, signalCount, memberCount, memberAt, memberList, memberFrame, listCount};
+
+// How many members there are, in all lists together.
+pub fn count(t: &[u16]) -> u16
+    ensures { λ r. ⌜ r ≡ memberCount (now (t .entry)) ⌝ }
+{
+    word(t, 2)
+}
+
+// The list number of a member.
+pub fn list(t: &[u16], m: u16) -> u16
+    ensures { λ r. ⌜ r ≡ memberList (now (t .entry)) m ⌝ }
+{
+    word(t, member_at(t, m))
+}
+
+// The frame number of a member.
+pub fn frame(t: &[u16], m: u16) -> u16
+    ensures { λ r. ⌜ r ≡ memberFrame (now (t .entry)) m ⌝ }
+{
+    word(t, member_at(t, m) + 1)
+}
+
+// How many lists there are.
+pub fn lists(t: &[u16]) -> usize
+    ensures { λ r. ⌜ r ≡ listCount (now (t .entry)) ⌝ }
+    ensures { λ r. ⌜ r ≤ 65536 ⌝ }
+{
+    let n = count(t);
+    if n == 0 {
+        0
+    } else {
+        list(t, n - 1) as usize + 1
+    }
+}
+
+// The first member of a list from member m on. Where there is none: the number of members, or m where that is more.
+pub fn next(t: &[u16], l: u16, m: u16) -> u16
+    ensures { λ r. ⌜ r ≡ nextMember (now (t .entry)) l m ⌝ }
+{
+    let n = count(t);
+    let mut k = m;
+    while k < n {
+        if list(t, k) == l {
+            return k;
+        }
+        k += 1;
+    }
+    k
+}
+
+// Checks the members' records; the frames in a list so far are marked.
+pub(crate) fn judge(t: &[u16]) -> Verdict
+    requires { ⌜ (frameCount (now t) ≤ 60) × (signalCount (now t) ≤ 256) × (memberCount (now t) ≤ 60) ⌝ }
+    ensures { λ r. ⌜ r ≡ faults (now (t .entry)) (memberAt (now (t .entry)) 0) (records 0 (memberCount (now (t .entry))) (memberRight (now (t .entry)))) ⌝ }
+{
+    let mut listed = [false; 60];
+    let first = member_at(t, 0);
+    let n = count(t) as usize;
+    let mut lists: usize = 0;
+    let mut m: usize = 0;
+    while m < n {
+        let at = first + 2 * m;
+        let list = due(t, at);
+        let f = due(t, at + 1);
+        let right = right_words(
+            frames::count(t) as usize,
+            follows(lists, list),
+            frames::publishes(t, f),
+            is_marked(&listed, f),
+            f,
+        );
+        if right < 2 {
+            return fault(at + right);
+        }
+        listed[f] = true;
+        lists = list + 1;
+        m += 1;
+    }
+    Verdict::Accepted
+}
+
+// How many words of a member's record are right before the first that is not.
+fn right_words(frames: usize, up: bool, published: bool, listed: bool, f: usize) -> usize
+    ensures { λ r. ⌜ r ≡ leading (memberSeen frames up published listed f) ⌝ }
+{
+    if !up {
+        return 0;
+    }
+    if frames <= f {
+        return 1;
+    }
+    if !published {
+        return 1;
+    }
+    if listed { 1 } else { 2 }
+}
