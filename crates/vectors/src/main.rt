@@ -1,8 +1,11 @@
 // Runs the core on outside vectors and prints what it got. The file stdout beside src/ has what the papers say.
 mod checksums;
+mod fields;
 mod identifiers;
+mod largest;
 mod show;
 mod signals;
+mod tables;
 
 use refusal::Refusal;
 
@@ -17,4 +20,10 @@ fn main() {
     checksums::steps();
     checksums::examples();
     signals::packings();
+    tables::prefixes();
+    tables::changes();
+    largest::lengths();
+    tables::empty();
+    fields::by_name();
+    fields::fresh_bytes();
 }
