@@ -48,25 +48,21 @@ static unsigned checksums(checksum *function, uint8_t model)
     return total;
 }
 
-/* Runs the row named, so that both programs of a row see the same inputs. */
-static int run(const char *row, unsigned *total)
+/* Runs the function named, so that both programs of a row see the same inputs. */
+static int run(const char *function, uint8_t model, unsigned *total)
 {
-    if (strcmp(row, "lin_build") == 0)
+    if (strcmp(function, "lin_build") == 0)
         *total = identifiers(lin_build);
-    else if (strcmp(row, "plain_build") == 0)
+    else if (strcmp(function, "plain_build") == 0)
         *total = identifiers(plain_build);
-    else if (strcmp(row, "lin_read") == 0)
+    else if (strcmp(function, "lin_read") == 0)
         *total = bytes(lin_read);
-    else if (strcmp(row, "plain_read") == 0)
+    else if (strcmp(function, "plain_read") == 0)
         *total = bytes(plain_read);
-    else if (strcmp(row, "lin_checksum 0") == 0)
-        *total = checksums(lin_checksum, LIN_CLASSIC);
-    else if (strcmp(row, "plain_checksum 0") == 0)
-        *total = checksums(plain_checksum, LIN_CLASSIC);
-    else if (strcmp(row, "lin_checksum 1") == 0)
-        *total = checksums(lin_checksum, LIN_ENHANCED);
-    else if (strcmp(row, "plain_checksum 1") == 0)
-        *total = checksums(plain_checksum, LIN_ENHANCED);
+    else if (strcmp(function, "lin_checksum") == 0)
+        *total = checksums(lin_checksum, model);
+    else if (strcmp(function, "plain_checksum") == 0)
+        *total = checksums(plain_checksum, model);
     else
         return 1;
     return 0;
@@ -75,8 +71,9 @@ static int run(const char *row, unsigned *total)
 int main(int count, char **words)
 {
     unsigned total;
-    if (count != 2 || run(words[1], &total) != 0) {
-        fprintf(stderr, "usage: wire ROW\n");
+    uint8_t model = count == 3 && strcmp(words[2], "1") == 0 ? LIN_ENHANCED : LIN_CLASSIC;
+    if (count < 2 || count > 3 || run(words[1], model, &total) != 0) {
+        fprintf(stderr, "usage: wire FUNCTION [0|1]\n");
         return 2;
     }
     printf("%u\n", total);

@@ -3,6 +3,7 @@
  * The requests are those of the bench script (docs/DECISIONS.md, "The host's requests"):
  *   pid N                      id HH
  *   checksum N classic HH ..   checksum N enhanced HH ..
+ *   table W W ..
  * An empty line and a line that begins with # are passed over; any other line answers ?.
  */
 #include "linhost.h"
@@ -11,8 +12,8 @@
 #include <stdio.h>
 #include <string.h>
 
-/* The most bytes of a request, and of the data that fit into one. */
-enum { LINE_LENGTH_MAX = 20000, DATA_LENGTH_MAX = LINE_LENGTH_MAX / 3 };
+/* The most bytes of a request, and of the data and words that fit into one. */
+enum { LINE_LENGTH_MAX = 20000, DATA_LENGTH_MAX = LINE_LENGTH_MAX / 3, WORDS_MAX = LINE_LENGTH_MAX / 2 };
 
 /* A line without its newline; one byte more than the most shows that it is too long. */
 struct line {
@@ -49,18 +50,28 @@ static bool take_word(struct text *text, const char *word)
     return true;
 }
 
-/* Takes one or more decimal digits of a number of at most 255. */
-static bool take_number(struct text *text, uint8_t *number)
+/* Takes one or more decimal digits of a number up to a limit. */
+static bool take_number(struct text *text, uint16_t limit, uint16_t *number)
 {
     unsigned value = 0;
     const char *start = text->at;
     for (; text->at < text->end && *text->at >= '0' && *text->at <= '9'; text->at++) {
         value = 10 * value + (unsigned)(*text->at - '0');
-        if (value > 255)
+        if (value > limit)
             return false;
     }
-    *number = (uint8_t)value;
+    *number = (uint16_t)value;
     return text->at > start;
+}
+
+/* Takes a number of at most 255. */
+static bool take_byte_number(struct text *text, uint8_t *number)
+{
+    uint16_t value;
+    if (!take_number(text, UINT8_MAX, &value))
+        return false;
+    *number = (uint8_t)value;
+    return true;
 }
 
 /* The value of an upper-case hexadecimal digit, or -1. */
@@ -105,7 +116,7 @@ static bool refused(uint16_t answer)
 static bool build_request(struct text text)
 {
     uint8_t id;
-    if (!take_number(&text, &id) || !at_end(&text))
+    if (!take_byte_number(&text, &id) || !at_end(&text))
         return false;
     uint16_t answer = lin_build(id);
     if (!refused(answer))
@@ -131,7 +142,7 @@ static bool checksum_request(struct text text)
     static uint8_t data[DATA_LENGTH_MAX];
     size_t length = 0;
     uint8_t id, model;
-    if (!take_number(&text, &id))
+    if (!take_byte_number(&text, &id))
         return false;
     if (take_word(&text, " classic"))
         model = LIN_CLASSIC;
@@ -148,6 +159,22 @@ static bool checksum_request(struct text text)
     return true;
 }
 
+/* The rest of `table W W ..`. */
+static bool table_request(struct text text)
+{
+    static uint16_t words[WORDS_MAX];
+    size_t length = 0;
+    while (!at_end(&text))
+        if (!take_word(&text, " ") || !take_number(&text, UINT16_MAX, &words[length++]))
+            return false;
+    size_t position = lin_check(words, length);
+    if (position == LIN_ACCEPTED)
+        puts("accepted");
+    else
+        printf("refused 1 %zu\n", position);
+    return true;
+}
+
 /* Answers a request, and tells whether the text is one. */
 static bool answer_request(struct text text)
 {
@@ -157,6 +184,8 @@ static bool answer_request(struct text text)
         return read_request(text);
     if (take_word(&text, "checksum "))
         return checksum_request(text);
+    if (take_word(&text, "table"))
+        return table_request(text);
     return false;
 }
 

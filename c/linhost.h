@@ -1,8 +1,8 @@
 /* The entry points of the LIN core for a host in C; link target/staticlib/libhost.a (`rt staticlib host`).
  *
- * Each accepts every number and every slice, and answers one number: the low byte is the value, the next byte the
- * refusal number of document 01, 0 for none. The core proves that of each (crates/host, specs/Coded.antt); this header
- * is not proved, so the tests compare it with a second program.
+ * Each accepts every number and every slice. The calls of the wire answer one number: the low byte is the value, the next
+ * byte the refusal number of document 01, 0 for none; the table check answers a position. The core proves that of each
+ * (crates/host, specs/Coded.antt); this header is not proved, so the tests compare it with a second program.
  */
 #ifndef LINHOST_H
 #define LINHOST_H
@@ -22,6 +22,13 @@ uint16_t lin_read(uint8_t protected_id);
 /* The checksum of data bytes under an identifier; 11 for an identifier above 63, no data or more than 8 bytes.
  * data points to something even where length is 0. */
 uint16_t lin_checksum(uint8_t id, uint8_t model, const uint8_t *data, size_t length);
+
+/* What the table check answers where the table is accepted; no position is as large. */
+#define LIN_ACCEPTED SIZE_MAX
+
+/* Checks a cluster table: LIN_ACCEPTED, or for refusal 1 the position of the first word that is wrong, missing or surplus.
+ * words points to something even where length is 0. */
+size_t lin_check(const uint16_t *words, size_t length);
 
 /* The value of an answer. */
 static inline uint8_t lin_value(uint16_t answer) { return (uint8_t)(answer & 0xFF); }

@@ -1,5 +1,6 @@
 //! The second program: reads the bench script and answers it, one line each.
 
+mod cluster;
 mod script;
 mod wire;
 

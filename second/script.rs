@@ -2,6 +2,7 @@
 //!
 //! A further request needs a case in `Request`, a line in `parse` and a line in `perform`.
 
+use crate::cluster;
 use crate::wire::{self, ChecksumModel, Refusal};
 
 /// The largest number of bytes in a line, its newline not counted.
@@ -13,9 +14,14 @@ const NO_REQUEST: &str = "?";
 /// The largest number that the N of `pid` and `checksum` takes.
 const BYTE_MAX: u64 = 255;
 
+/// The largest number that a word of `table` takes.
+const WORD_MAX: u64 = 65_535;
+
 /// One request of the script.
 #[derive(Debug, PartialEq, Eq)]
 enum Request {
+    /// `table W W ..`
+    Table { words: Vec<u16> },
     /// `pid N`
     ProtectedIdentifier { identifier: u8 },
     /// `id HH`
@@ -49,6 +55,9 @@ pub fn answer(line: &[u8]) -> Option<String> {
 fn parse(line: &[u8]) -> Option<Request> {
     let fields: Vec<&[u8]> = line.split(|&byte| byte == b' ').collect();
     match fields.as_slice() {
+        [b"table", numbers @ ..] => Some(Request::Table {
+            words: parse_words(numbers)?,
+        }),
         [b"pid", number] => Some(Request::ProtectedIdentifier {
             identifier: parse_byte_number(number)?,
         }),
@@ -67,6 +76,7 @@ fn parse(line: &[u8]) -> Option<Request> {
 /// Does a request and gives the text of its answer.
 fn perform(request: &Request) -> Result<String, Refusal> {
     match request {
+        Request::Table { words } => Ok(table_text(words)),
         Request::ProtectedIdentifier { identifier } => {
             wire::protected_identifier(*identifier).map(|byte| format!("pid {byte:02X}"))
         }
@@ -78,6 +88,14 @@ fn perform(request: &Request) -> Result<String, Refusal> {
             model,
             data,
         } => wire::checksum(*identifier, *model, data).map(|byte| format!("checksum {byte:02X}")),
+    }
+}
+
+/// Gives the text of the table check's answer.
+fn table_text(words: &[u16]) -> String {
+    match cluster::first_fault(words) {
+        Some(position) => format!("refused 1 {position}"),
+        None => "accepted".to_string(),
     }
 }
 
@@ -110,6 +128,17 @@ fn parse_number(field: &[u8], max: u64) -> Option<u64> {
 fn parse_byte_number(field: &[u8]) -> Option<u8> {
     let value = parse_number(field, BYTE_MAX)?;
     u8::try_from(value).ok()
+}
+
+/// Reads none or more decimal numbers of at most 65,535.
+fn parse_words(fields: &[&[u8]]) -> Option<Vec<u16>> {
+    fields.iter().map(|field| parse_word(field)).collect()
+}
+
+/// Reads a decimal number of at most 65,535.
+fn parse_word(field: &[u8]) -> Option<u16> {
+    let value = parse_number(field, WORD_MAX)?;
+    u16::try_from(value).ok()
 }
 
 /// Reads the keyword of a checksum model.
@@ -203,6 +232,59 @@ mod tests {
     }
 
     #[test]
+    fn tables() {
+        expect(b"table 0 0 0 0", "accepted");
+        expect(b"table 1 0 0 0 59 8 3", "accepted");
+        expect(b"table 1 0 0 0 60 8 3", "refused 1 4");
+        expect(b"table 1 1 1 1 2 1 1 0 0 0 3 7 0 0 0 1 0 65535", "accepted");
+        expect(
+            b"table 1 1 1 1 2 1 1 0 0 0 3 8 0 0 0 1 0 65535",
+            "refused 1 11",
+        );
+        expect(b"table 1 1 1 1 2 1 1 0 0 0 3 7 0 0 0 1 0", "refused 1 17");
+    }
+
+    #[test]
+    fn short_and_long_tables() {
+        expect(b"table", "refused 1 0");
+        expect(b"table 0", "refused 1 1");
+        expect(b"table 61", "refused 1 0");
+        expect(b"table 60 257", "refused 1 1");
+        expect(b"table 0 0 0 0 0", "refused 1 4");
+    }
+
+    #[test]
+    fn odd_words() {
+        expect(b"table 00000 0 0 0", "accepted");
+        expect(b"table 0 0 0 00000000000000000000000000000", "accepted");
+        expect(b"table 65535", "refused 1 0");
+        expect(b"table 000065535", "refused 1 0");
+        expect_no_request(&[
+            b"table ",
+            b"table 1 ",
+            b"table  0 0 0 0",
+            b"table 0 0  0 0",
+            b"table 0 0 0 0 ",
+            b"table 0 0 0 0\r",
+            b"table\t0 0 0 0",
+            b" table",
+            b"table 65536",
+            b"table 0 0 0 65536",
+            b"table 61 65536",
+            b"table 18446744073709551616 0 0 0",
+            b"table x",
+            b"table 0 0 0 x",
+            b"table 61 x",
+            b"table 0 0 0 0x0",
+            b"table 0 0 0 FF",
+            b"table +0 0 0 0",
+            b"table 0 0 0 -0",
+            b"table 0,0,0,0",
+            b"table ..",
+        ]);
+    }
+
+    #[test]
     fn passed_over() {
         assert_eq!(answer(b""), None);
         assert_eq!(answer(b"#"), None);
@@ -289,7 +371,10 @@ mod tests {
             b"checksum 5 both 00",
             b"checksum classic 00",
             b"tick",
-            b"table 1 2",
+            b"tables",
+            b"table0 0 0 0",
+            b"Table 0 0 0 0",
+            b"TABLE 0 0 0 0",
             b"\0",
             b"pid 1\0",
             b"\xFF\xFE",
@@ -304,6 +389,16 @@ mod tests {
         line.push(b'5');
         expect(&line, "pid 85");
         line.insert(4, b'0');
+        expect(&line, "?");
+    }
+
+    #[test]
+    fn tables_at_the_length_limit() {
+        let mut line = b"table 00".to_vec();
+        line.extend(b" 0".repeat((LINE_LENGTH_MAX - line.len()) / 2));
+        assert_eq!(line.len(), LINE_LENGTH_MAX);
+        expect(&line, "refused 1 4");
+        line.insert(6, b'0');
         expect(&line, "?");
     }
 }

@@ -86,7 +86,7 @@ not-surplus t h =
     (ltb-false (size t) (length t))
 
 -- there is one test for each word
-words : (t : List ℕ) → length (wordsRight t) ≡ size t
+pub words : (t : List ℕ) → length (wordsRight t) ≡ size t
 unfolding wordsRight headerRight frameRight signalRight memberRight entryRight size
 words t =
     simp (

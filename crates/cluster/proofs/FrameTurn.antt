@@ -1,14 +1,14 @@
 -- The check of one frame's record: what is seen of its words agrees with the definition.
 use Prim.Native.Nat.{ℕ, _+_, _≤_, _<_}
 use mathlib.Core.Path.{_≡_, refl}
-use mathlib.Core.Bool.{Bool, true, false, not, _&&_}
+use mathlib.Core.Bool.{Bool, false, not, _&&_}
 use mathlib.Core.List.{List}
 use native.Mathlib.Omega.{arith}
 use borrow.Author.Tests.{leb-true}
 use lib.Dec.{leb}
 use lib.ListN.{getD}
 use Rattle.wire.proofs.Tests.{whether, and-left}
-use Rattle.cluster.specs.Right.{within, identifierRight, lengthRight, flagsRight, frameRight}
+use Rattle.cluster.specs.Right.{identifierRight, lengthRight, flagsRight, frameRight}
 use Rattle.cluster.specs.Seen.{due, leading, frameSeen}
 use Rattle.cluster.specs.Table.{word, frameAt, identifier, frameLength, flags}
 use Rattle.cluster.proofs.Ranges.{within-high}

@@ -1,9 +1,9 @@
 -- What a fresh call leaves: each signal's start value, and 1 at every bit of no signal.
-use Prim.Native.Nat.{ℕ, zero, suc, _+_, _*_, _/_, _%_, _^_, _<_, _≤_}
+use Prim.Native.Nat.{ℕ, zero, suc, _+_, _*_, _/_, _%_, _<_, _≤_}
 use mathlib.Core.Path.{_≡_, refl, sym, _∙_, ap}
 use mathlib.Core.Bool.{true, false}
 use mathlib.Core.List.{List}
-use mathlib.Core.Logic.{_⊎_, inl, inr, ⊎-elim}
+use mathlib.Core.Logic.{inl, inr, ⊎-elim}
 use native.Mathlib.Decide.{ℕ-discrete}
 use native.Mathlib.Omega.{arith}
 use lib.ListN.{length, replicate, getD-replicate}
@@ -15,8 +15,11 @@ use Rattle.signal.proofs.BytesOf.{bytes-ext, bytes-are}
 use Rattle.signal.proofs.Inside.{order, inside-true}
 use Rattle.signal.proofs.Laws.{Apart, bit-stays, bit-put-inside}
 use Rattle.signal.proofs.Numbers.{number-ext, number-bits}
-use Rattle.cluster.specs.Table.{frameCount, signalCount, signalFrame, signalOffset, signalWidth, signalStart, isArray}
+use Rattle.cluster.specs.Check.{RightTable}
+use Rattle.cluster.specs.Table.{frameCount, signalCount, signalWidth, signalStart, isArray}
 use Rattle.cluster.specs.Fresh.{signalPlace, arrayLength, putStart, filled, freshBytes}
+use Rattle.cluster.proofs.PlaceLaws.{place-end, places-apart, array-bits}
+use Rattle.cluster.proofs.SignalLaws.{scalar-width-high, scalar-start-below, array-width-whole, array-width-high, array-start-high}
 use Rattle.cluster.proofs.Starts.{startBytes, startWidth, startBit, array-start-width, scalar-start-width, array-start-bit, scalar-start-bit}
 use Rattle.cluster.proofs.Starts.{start-within, start-is, start-bytes-length, replicate-bytes, filled-length}
 
@@ -55,57 +58,34 @@ pub fresh-free : (t : List ℕ) (j : ℕ) → j < 64 * frameCount t
 unfolding freshBytes
 fresh-free t j h free = free-bit t (8 * frameCount t) j (omega arith) (signalCount t) free
 
--- ---- the bits of each signal, where each stands within its frame and apart from the others
+-- ---- the bits of each signal of an accepted table
 
-module _ (t : List ℕ)
-    (inFrame : (s : ℕ) → s < signalCount t → signalFrame t s < frameCount t)
-    (fits : (s : ℕ) → s < signalCount t → signalOffset t s + signalWidth t s ≤ 64)
-    (scalarWide : (s : ℕ) → s < signalCount t → isArray t s ≡ false → (signalWidth t s ≤ 16) × (signalStart t s < 2 ^ signalWidth t s))
-    (arrayWide : (s : ℕ) → s < signalCount t → isArray t s ≡ true → (signalWidth t s % 8 ≡ 0) × (signalWidth t s ≤ 64) × (signalStart t s ≤ 255))
-    (apart : (r s : ℕ) → r < signalCount t → s < signalCount t → (r ≡ s → ⊥) → signalFrame t r ≡ signalFrame t s
-    → (signalOffset t r + signalWidth t r ≤ signalOffset t s) ⊎ (signalOffset t s + signalWidth t s ≤ signalOffset t r)) where
+module _ (t : List ℕ) (ok : RightTable t) where
   -- an array has the bytes of its width
   pub array-length : (s : ℕ) → s < signalCount t → isArray t s ≡ true → arrayLength t s ≡ signalWidth t s / 8
   unfolding arrayLength
-  array-length s h a = omega (arith, arrayWide s h a)
+  array-length s h a = omega (arith, array-width-whole t ok s h a, array-width-high t ok s h a)
 
   -- a start value takes all bits of its signal
   start-wide : (s : ℕ) → s < signalCount t → startWidth t s ≡ signalWidth t s
   start-wide s h =
       whether (isArray t s)
-      (λ a. array-start-width t s a ∙ omega (arith, arrayWide s h a, array-length s h a))
-      (λ a. scalar-start-width t s a ∙ omega (arith, scalarWide s h a))
-
-  -- two signals have no bit of the buffer in common
-  pub places-apart : (r s : ℕ) → r < signalCount t → s < signalCount t → (r ≡ s → ⊥)
-      → Apart (signalPlace t r) (signalWidth t r) (signalPlace t s) (signalWidth t s)
-  unfolding signalPlace
-  places-apart r s hr hs n =
-      let fr = fits r hr in
-      let fs = fits s hs in
-      elim (ℕ-discrete (signalFrame t r) (signalFrame t s)) [
-        | yes e ↦ ⊎-elim (λ a. inl (omega arith)) (λ a. inr (omega arith)) (apart r s hr hs n e)
-        | no d ↦ order (signalFrame t r) (signalFrame t s) (λ a. inl (omega arith)) (λ a. inr (omega arith))
-      ]
-
-  -- a signal ends within the buffer
-  pub place-fits : (s : ℕ) → s < signalCount t → signalPlace t s + signalWidth t s ≤ 64 * frameCount t
-  unfolding signalPlace
-  place-fits s h = omega (arith, inFrame s h, fits s h)
+      (λ a. array-start-width t s a ∙ array-bits t ok s h a)
+      (λ a. scalar-start-width t s a ∙ omega (arith, scalar-width-high t ok s h a))
 
   -- a start value sets the bits of its signal, and none of another one
   own-bit : (bs : List ℕ) (s : ℕ) → length bs ≡ 8 * frameCount t → s < signalCount t → (k : ℕ) → k < signalWidth t s
       → bitAt (putStart t s bs) (signalPlace t s + k) ≡ startBit t s k
   own-bit bs s l h k b =
       rw (start-is t s bs, start-wide s h)
-      (bit-put-inside bs (signalPlace t s) (signalWidth t s) (startBit t s) k (omega (arith, place-fits s h)) b)
+      (bit-put-inside bs (signalPlace t s) (signalWidth t s) (startBit t s) k (omega (arith, place-end t ok s h)) b)
 
   other-bit : (bs : List ℕ) (r s : ℕ) → r < signalCount t → s < signalCount t → (r ≡ s → ⊥) → (k : ℕ) → k < signalWidth t s
       → bitAt (putStart t r bs) (signalPlace t s + k) ≡ bitAt bs (signalPlace t s + k)
   other-bit bs r s hr hs n k b =
       rw (start-is t r bs, start-wide r hr)
       (bit-stays bs (signalPlace t r) (signalWidth t r) (startBit t r) (signalPlace t s + k)
-      (⊎-elim (λ a. inr (omega arith)) (λ a. inl (omega arith)) (places-apart r s hr hs n)))
+      (⊎-elim (λ a. inr (omega arith)) (λ a. inl (omega arith)) (places-apart t ok r s hr hs n)))
 
   filled-bit : (n s : ℕ) → n ≤ signalCount t → s < n → (k : ℕ) → k < signalWidth t s
       → bitAt (filled t (8 * frameCount t) n) (signalPlace t s + k) ≡ startBit t s k
@@ -124,23 +104,24 @@ module _ (t : List ℕ)
   fresh-bit s h = filled-bit (signalCount t) s (omega arith) h
 
   -- a scalar reads as its start value, and each byte of an array too
-  pub fresh-scalar : (s : ℕ) → s < signalCount t → isArray t s ≡ false → getScalar (freshBytes t) (signalPlace t s) (signalWidth t s) ≡ signalStart t s
+  pub fresh-scalar : (s : ℕ) → s < signalCount t → isArray t s ≡ false
+      → getScalar (freshBytes t) (signalPlace t s) (signalWidth t s) ≡ signalStart t s
   unfolding getScalar
   fresh-scalar s h a =
-      let w : scalarWidth (signalWidth t s) ≡ signalWidth t s = omega (arith, scalarWide s h a) in
+      let w : scalarWidth (signalWidth t s) ≡ signalWidth t s = omega (arith, scalar-width-high t ok s h a) in
       rw w
       (number-ext (signalWidth t s) (λ k. bitAt (freshBytes t) (signalPlace t s + k)) (startBit t s) (fresh-bit s h)
       ∙ ap (number (signalWidth t s)) (scalar-start-bit t s a)
-      ∙ number-bits (signalWidth t s) (signalStart t s) (scalarWide s h a .1))
+      ∙ number-bits (signalWidth t s) (signalStart t s) (scalar-start-below t ok s h a))
 
   pub fresh-array : (s : ℕ) → s < signalCount t → isArray t s ≡ true
       → getArray (freshBytes t) (signalPlace t s) (arrayLength t s) ≡ replicate (arrayLength t s) (signalStart t s)
   unfolding getArray startBytes
   fresh-array s h a =
       let vs = startBytes t s in
-      let m : signalStart t s % 256 ≡ signalStart t s = omega (arith, arrayWide s h a) in
+      let m : signalStart t s % 256 ≡ signalStart t s = omega (arith, array-start-high t ok s h a) in
       bytes-ext (arrayLength t s) (λ k. bitAt (freshBytes t) (signalPlace t s + k)) (startBit t s)
-      (λ k b. fresh-bit s h k (omega (arith, arrayWide s h a, array-length s h a)))
+      (λ k b. fresh-bit s h k (omega (arith, array-bits t ok s h a)))
       ∙ ap (bytesOf (arrayLength t s)) (array-start-bit t s a)
       ∙ ap (λ (n : ℕ). bytesOf n (bitAt vs)) (sym (start-bytes-length t s))
       ∙ bytes-are vs (replicate-bytes (arrayLength t s) (signalStart t s % 256) (omega arith))

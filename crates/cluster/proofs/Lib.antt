@@ -31,3 +31,4 @@ pub mod HeaderTurn
 pub mod MemberTurn
 pub mod EntryTurn
 pub mod Sections
+pub mod FirstFault

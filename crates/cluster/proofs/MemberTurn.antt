@@ -1,6 +1,6 @@
 -- The check of one member's record: what is seen of its words agrees with the definition.
 use Prim.Native.Nat.{ℕ, _+_, _≤_, _<_}
-use mathlib.Core.Path.{_≡_, refl, _∙_}
+use mathlib.Core.Path.{_≡_, refl}
 use mathlib.Core.Bool.{Bool, true, false, not, _&&_}
 use mathlib.Core.List.{List}
 use native.Mathlib.Omega.{arith}
@@ -8,7 +8,7 @@ use borrow.Author.Tests.{ltb-true}
 use lib.Dec.{ltb}
 use lib.ListN.{getD}
 use Rattle.wire.proofs.Tests.{whether, and-left}
-use Rattle.cluster.specs.Right.{countsUp, memberFrameRight, memberRight}
+use Rattle.cluster.specs.Right.{memberFrameRight, memberRight}
 use Rattle.cluster.specs.Seen.{due, leading, follows, memberSeen}
 use Rattle.cluster.specs.Table.{word, counted, published, frameCount, memberAt, memberList, memberFrame}
 use Rattle.cluster.proofs.Counting.{counts-up, follows-high}

@@ -6,7 +6,6 @@ use mathlib.Core.List.{List, [], _∷_, _++_, append-nil}
 use native.Mathlib.Numerals.{add-one}
 use native.Mathlib.Omega.{arith}
 use borrow.Author.Tests.{lt-ltb, le-ltb}
-use lib.Dec.{ltb}
 use lib.ListN.{length}
 use Rattle.wire.proofs.Tests.{whether}
 use Rattle.signal.proofs.Inside.{order}
@@ -19,7 +18,7 @@ use Rattle.cluster.proofs.Accepted.{AllTrue}
 
 -- ---- one word
 
-due-there : (t : List ℕ) (i : ℕ) → i < length t → due t i ≡ word t i
+pub due-there : (t : List ℕ) (i : ℕ) → i < length t → due t i ≡ word t i
 unfolding due
 due-there t i h = rw (lt-ltb i (length t) h)
 
@@ -60,7 +59,8 @@ position-is : (at k : ℕ) → position at k ≡ at + k
 position-is at zero = omega arith
 position-is at (suc k) = refl
 
--- What was seen of the words from word k on agrees with the definition: a word seen as right is there; where it is there, it is
+-- What was seen of the words from word k on agrees with the definition: a word seen as right is there; where it is there,
+-- it is
 -- right exactly where it is seen as right; and then the words behind it agree.
 abbrev pub Agrees : List ℕ → ℕ → ℕ → List Bool → List Bool → Type 0
 Agrees t at k [] rights = rights ≡ []

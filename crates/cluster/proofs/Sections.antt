@@ -1,18 +1,18 @@
 -- The check goes section by section: the header, the frames, the signals, the members, the entries, and what is behind them.
 use Prim.Native.Nat.{ℕ, suc, _+_, _*_, _≤_, _<_}
-use mathlib.Core.Path.{_≡_, refl, sym, _∙_, ap}
-use mathlib.Core.Bool.{Bool, cond, _&&_}
+use mathlib.Core.Path.{_≡_, refl}
+use mathlib.Core.Bool.{Bool, _&&_}
 use mathlib.Core.List.{List, [], _∷_, _++_}
 use native.Mathlib.Omega.{arith}
 use lib.Dec.{ltb}
 use lib.ListN.{length, length-append}
 use Rattle.wire.proofs.Tests.{whether}
-use Rattle.cluster.specs.Check.{fault, faults, then, surplus, judged}
+use Rattle.cluster.specs.Check.{faults, then, surplus, judged}
 use Rattle.cluster.specs.declared.Verdict.{Verdict}
 use Rattle.cluster.specs.declared.Verdict.the-variants.{Accepted, Refused}
 use Rattle.cluster.specs.Right.{records, headerRight, lengthRight, frameRight, signalRight, memberRight, entryRight, wordsRight}
 use Rattle.cluster.specs.Table.{frameCount, signalCount, memberCount, entryCount, frameLength, frameAt, signalAt, memberAt, entryAt}
-use Rattle.cluster.proofs.Accepted.{AllTrue, all-records, length-records, faults-true}
+use Rattle.cluster.proofs.Accepted.{all-records, length-records, faults-true}
 use Rattle.cluster.proofs.HeaderLaws.{header-counts}
 use Rattle.cluster.proofs.Ranges.{within-high}
 

@@ -1,6 +1,6 @@
 -- The check of one signal's record: what is seen of its words agrees with the definition.
 use Prim.Native.Nat.{ℕ, _+_, _*_, _%_, _≤_, _<_}
-use mathlib.Core.Path.{_≡_, refl, sym, _∙_}
+use mathlib.Core.Path.{_≡_, refl, sym}
 use mathlib.Core.Bool.{Bool, true, false, not, cond, _&&_}
 use mathlib.Core.List.{List, [], _∷_}
 use native.Mathlib.Omega.{arith}
@@ -10,7 +10,7 @@ use lib.ListN.{getD}
 use Rattle.wire.specs.Bits.{bit}
 use Rattle.wire.proofs.Tests.{and-left, and-right}
 use Rattle.cluster.specs.Right.{takenBefore, overlaps, signalFrameRight, signalKindRight, offsetRight, widthRight}
-use Rattle.cluster.specs.Right.{frameBits, signalWidthRight, startLimit, startRight, signalRight}
+use Rattle.cluster.specs.Right.{signalWidthRight, startLimit, startRight, signalRight}
 use Rattle.cluster.specs.Seen.{due, leading, hits, signalSeen}
 use Rattle.cluster.specs.Table.{frameCount, frameLength, signalAt}
 use Rattle.cluster.specs.Table.{signalFrame, signalKind, signalOffset, signalWidth, signalStart, isArray}

@@ -1,6 +1,6 @@
 -- Bits that are taken, held as one number.
 use Prim.Native.Nat.{ℕ, zero, suc, _+_, _-_, _*_, _/_, _%_, _^_, _≤_, _<_}
-use mathlib.Core.Path.{_≡_, refl, sym, _∙_, ap, fun-ext}
+use mathlib.Core.Path.{_≡_, refl, sym, _∙_, ap}
 use mathlib.Core.Bool.{Bool, true, false, not, _&&_, _||_, and-false}
 use native.Mathlib.Nat.{pow-suc, zero-mul, zero-add, add-zero, div-eq-of-lt, lt-of-lt-of-le}
 use native.Mathlib.Omega.{arith}

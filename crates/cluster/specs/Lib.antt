@@ -4,4 +4,4 @@ pub mod Check
 pub mod Lists
 pub mod Fresh
 pub mod Seen
-pub mod SignalRead
+pub mod Read

@@ -1,6 +1,7 @@
--- What the steps of the check compute: the columns of a record over the words that were read, with marks in place of the words
+-- What the steps of the check compute: the columns of a record over the words that were read, with marks in place of the
+-- words
 -- before. Only private contracts cite it; nothing here has to be believed, since proofs/ ties it to the definition in Right.
-use Prim.Native.Nat.{ℕ, zero, suc, _+_}
+use Prim.Native.Nat.{ℕ, suc, _+_}
 use mathlib.Core.Bool.{Bool, not, cond, _&&_, _||_}
 use mathlib.Core.List.{List, [], _∷_}
 use lib.Dec.{ltb, leb, eqb}

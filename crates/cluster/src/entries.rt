@@ -8,9 +8,10 @@ use crate::table::entry_at;
 use crate::table::follows;
 use crate::table::word;
 ghost use mathlib.Core.Path.{_≡_};
-ghost use Prim.Native.Nat.{_≤_};
+ghost use Prim.Native.Nat.{_<_, _≤_};
 ghost use Rattle.cluster.specs.Check.{faults};
 ghost use Rattle.cluster.specs.Lists.{firstEntry, nextEntry};
+ghost use Rattle.cluster.specs.Read.{EntryRead};
 ghost use Rattle.cluster.specs.Right.{entryRight, targetRight, records};
 ghost use Rattle.cluster.specs.Seen.{entrySeen, leading};
 ghost use Rattle.cluster.specs.Table.{frameCount, signalCount, memberCount, entryCount, entryAt, scheduleCount};
@@ -106,48 +107,68 @@ pub(crate) fn judge(t: &[u16]) -> Verdict
     let mut e: usize = 0;
     while e < n {
         let at = first + 4 * e;
-        let schedule = due(t, at);
+        let words = read(t, at);
         let right = right_words(
             frames::count(t) as usize,
             lists,
-            follows(schedules, schedule),
-            due(t, at + 1),
-            due(t, at + 2),
-            due(t, at + 3),
+            follows(schedules, words.schedule),
+            words,
         );
         if right < 4 {
             return fault(at + right);
         }
-        schedules = schedule + 1;
+        schedules = words.schedule + 1;
         e += 1;
     }
     Verdict::Accepted
 }
 
-// How many words of an entry's record are right before the first that is not.
-fn right_words(
-    frames: usize,
-    lists: usize,
-    up: bool,
+// An entry's record as it was read.
+struct Words {
+    schedule: usize,
     kind: usize,
     target: usize,
     delay: usize,
-) -> usize
-    ensures { λ r. ⌜ r ≡ leading (entrySeen frames lists up kind target delay) ⌝ }
+}
+
+// Reads an entry's record; a missing word reads as 65536. One test is enough where the whole record is there.
+fn read(t: &[u16], at: usize) -> Words
+    requires { ⌜ at < 100000 ⌝ }
+    ensures { λ r. ⌜ EntryRead (now (t .entry)) at r ⌝ }
+{
+    if at + 3 < t.len() {
+        return Words {
+            schedule: t[at] as usize,
+            kind: t[at + 1] as usize,
+            target: t[at + 2] as usize,
+            delay: t[at + 3] as usize,
+        };
+    }
+    Words {
+        schedule: due(t, at),
+        kind: due(t, at + 1),
+        target: due(t, at + 2),
+        delay: due(t, at + 3),
+    }
+}
+
+// How many words of an entry's record are right before the first that is not; `up` says that its schedule number follows.
+fn right_words(frames: usize, lists: usize, up: bool, words: Words) -> usize
+    ensures { λ r. ⌜ r ≡ leading (entrySeen frames lists up (words .kind) (words .target) (words .delay)) ⌝ }
 {
     if !up {
         return 0;
     }
-    if 3 < kind {
+    if 3 < words.kind {
         return 1;
     }
-    if !target_right(frames, lists, kind, target) {
+    if !target_right(frames, lists, words.kind, words.target) {
         return 2;
     }
-    if delay < 1 {
+    if words.delay < 1 {
         return 3;
     }
-    if delay <= 65535 { 4 } else { 3 }
+    if words.delay <= 65535 { 4 } else { 3 }
 }
 
 // Whether an entry of a kind may have a target.

@@ -16,7 +16,7 @@ ghost use Rattle.cluster.specs.Check.{faults};
 ghost use Rattle.cluster.specs.Fresh.{signalPlace, arrayLength};
 ghost use Rattle.cluster.specs.Right.{offsetRight, widthRight, startLimit, signalRight, records};
 ghost use Rattle.cluster.specs.Seen.{signalSeen, leading};
-ghost use Rattle.cluster.specs.SignalRead.{SignalRead};
+ghost use Rattle.cluster.specs.Read.{SignalRead};
 ghost use Rattle.cluster.specs.Table.{frameCount, frameLength, signalCount, signalAt};
 ghost use Rattle.cluster.specs.Table.{signalFrame, signalKind, signalOffset, signalWidth, signalStart, isArray};
 
@@ -119,11 +119,20 @@ struct Words {
     start: usize,
 }
 
-// Reads a signal's record; a missing word reads as 65536.
+// Reads a signal's record; a missing word reads as 65536. One test is enough where the whole record is there.
 fn read(t: &[u16], at: usize) -> Words
     requires { ⌜ at < 100000 ⌝ }
     ensures { λ r. ⌜ SignalRead (now (t .entry)) at r ⌝ }
 {
+    if at + 4 < t.len() {
+        return Words {
+            frame: t[at] as usize,
+            kind: t[at + 1] as usize,
+            offset: t[at + 2] as usize,
+            width: t[at + 3] as usize,
+            start: t[at + 4] as usize,
+        };
+    }
     Words {
         frame: due(t, at),
         kind: due(t, at + 1),

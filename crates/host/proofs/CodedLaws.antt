@@ -1,10 +1,17 @@
--- A host takes an answer apart again: the low byte is the value, and what is above it the refusal number.
-use Prim.Native.Nat.{_/_, _%_, _<_}
+-- A host takes an answer apart again: the low byte is the value, and what is above it the refusal number. A position is never the
+-- number that stands for an accepted table: it is at most the table's length, and no slice has 2^64 - 1 words.
+use Prim.Native.Nat.{ℕ, _/_, _%_, _<_, _≤_}
 use mathlib.Core.Path.{_≡_}
+use mathlib.Core.List.{List}
 use native.Mathlib.Omega.{arith}
+use lib.ListN.{length}
+use Rattle.refusal.specs.declared.Refusal.{Refusal}
+use Rattle.cluster.specs.Check.{judged}
+use Rattle.cluster.specs.declared.Verdict.the-variants.{Accepted, Refused}
+use Rattle.cluster.proofs.FirstFault.{first-fault}
 use Rattle.wire.specs.Answer.{refusalOf, valueOf}
 use Rattle.wire.specs.declared.Answer.{Answer}
-use Rattle.host.specs.Coded.{coded}
+use Rattle.host.specs.Coded.{coded, positionOf}
 
 pub coded-value : (answer : Answer) → valueOf answer < 256 → coded answer % 256 ≡ valueOf answer
 unfolding coded
@@ -13,3 +20,11 @@ coded-value answer h = omega arith
 pub coded-refusal : (answer : Answer) → valueOf answer < 256 → coded answer / 256 ≡ refusalOf answer
 unfolding coded
 coded-refusal answer h = omega arith
+
+pub position-refused : (t : List ℕ) (r : Refusal) → judged t ≡ Refused r → (positionOf (judged t) ≡ r .place) × (r .place ≤ length t)
+unfolding positionOf
+position-refused t r h = (rw h, first-fault t r h .within)
+
+pub position-accepted : (t : List ℕ) → judged t ≡ Accepted → positionOf (judged t) ≡ 18446744073709551615
+unfolding positionOf
+position-accepted t h = rw h

@@ -2,6 +2,8 @@
 use Prim.Native.Nat.{ℕ, _+_, _*_}
 use mathlib.Core.Bool.{cond}
 use lib.Dec.{eqb}
+use Rattle.cluster.specs.declared.Verdict.{Verdict}
+use Rattle.cluster.specs.declared.Verdict.the-variants.{Accepted, Refused}
 use Rattle.wire.specs.Answer.{refusalOf, valueOf}
 use Rattle.wire.specs.declared.Answer.{Answer}
 use Rattle.wire.specs.declared.checksum.Model.{Model}
@@ -14,3 +16,8 @@ coded answer = valueOf answer + 256 * refusalOf answer
 -- 0 wishes for classic, any other number for enhanced
 unfoldable pub wishOf : ℕ → Model
 wishOf n = cond (eqb n 0) Classic Enhanced
+
+-- the position of a refused table; of an accepted one a number that is no position (CodedLaws, `position-refused`)
+unfoldable pub positionOf : Verdict → ℕ
+positionOf Accepted = 18446744073709551615
+positionOf (Refused refusal) = refusal .place

@@ -1,12 +1,15 @@
 // The entry points for a host written in C, on numbers and byte slices. c/linhost.h declares them.
 //
-// Each answers one number: its low byte is the value, its next byte the refusal number of document 01, 0 for none.
+// The calls of the wire answer one number: its low byte is the value, its next byte the refusal number of document 01, 0 for
+// none. The table check answers a position.
+use cluster::Verdict;
 use wire::Answer;
 use wire::checksum::Model;
 ghost use mathlib.Core.Path.{_≡_};
 ghost use Rattle.wire.specs.Checksum.{checksumOf};
 ghost use Rattle.wire.specs.Identifier.{protectedOf, readOf};
-ghost use Rattle.host.specs.Coded.{coded as codedOf, wishOf};
+ghost use Rattle.cluster.specs.Check.{judged};
+ghost use Rattle.host.specs.Coded.{coded as codedOf, positionOf, wishOf};
 
 // Builds the protected identifier of an identifier.
 #[no_mangle]
@@ -33,6 +36,17 @@ pub extern "C" fn lin_checksum(id: u8, model: u8, data: &[u8]) -> u16
         coded(wire::checksum::of(id, Model::Classic, data))
     } else {
         coded(wire::checksum::of(id, Model::Enhanced, data))
+    }
+}
+
+// Checks a cluster table: the position of the first word that is wrong, missing or surplus, or 2^64 - 1 where it is accepted.
+#[no_mangle]
+pub extern "C" fn lin_check(table: &[u16]) -> usize
+    ensures { λ r. ⌜ r ≡ positionOf (judged (now (table .entry))) ⌝ }
+{
+    match cluster::check(table) {
+        Verdict::Accepted => 18446744073709551615,
+        Verdict::Refused(refusal) => refusal.place,
     }
 }
 

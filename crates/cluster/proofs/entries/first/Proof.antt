@@ -1,4 +1,5 @@
--- `cluster::entries::first` meets its contract. The invariant: what is searched from the start is what is searched from here on.
+-- `cluster::entries::first` meets its contract. The invariant: what is searched from the start is what is searched from
+-- here on.
 use Prim.Native.Nat.{_-_}
 use mathlib.Core.Path.{_≡_, refl, sym, _∙_}
 use native.Mathlib.Nat.{sub-zero}

@@ -1,36 +1,27 @@
+-- `cluster::frames::bits` meets its contract: eight bits a byte.
 use Rattle.cluster.specs.Table.{frameLength}
 use borrow.Author.Needs.{needs}
 use Rattle.cluster.proofs.frames.bits.Statement.{statement}
 use Rattle.cluster.proofs.frames.bits.Tie as tie
-use Rattle.cluster.proofs.frames.bits.Reads as reads
-use Rattle.cluster.proofs.frames.bits.Lts as lts
-use Rattle.cluster.proofs.table.word.Reads as word-reads
 
--- src/frames.rt:71:22
 mul-word : tie.Need-mul-word
 mul-word c = search needs
 
--- src/frames.rt:71:18
 add-word : tie.Need-add-word
 add-word c = search needs
 
--- src/frames.rt:71:18
 add-word-2 : tie.Need-add-word-2
 add-word-2 c = search needs
 
--- src/frames.rt:71:10
 word-requires : tie.Need-word-requires
 word-requires c κs = search needs
 
--- src/frames.rt:71:10
 cast-result : tie.Need-cast-result
 cast-result c = search needs
 
--- src/frames.rt:71:5
 mul-result : tie.Need-mul-result
 mul-result c = search needs
 
--- src/frames.rt:67:1
 returns : tie.Need-returns
 unfolding frameLength
 returns c = rw (c .word .ensures)

@@ -1,30 +1,23 @@
+-- `cluster::frames::publishes` meets its contract: a bit of the flags.
 use native.Mathlib.Nat.{pow-zero, div-one}
 use Rattle.wire.specs.Bits.{bit}
 use Rattle.cluster.specs.Table.{published, flags}
 use borrow.Author.Needs.{needs}
 use Rattle.cluster.proofs.frames.publishes.Statement.{statement}
 use Rattle.cluster.proofs.frames.publishes.Tie as tie
-use Rattle.cluster.proofs.frames.publishes.Reads as reads
-use Rattle.cluster.proofs.frames.publishes.Lts as lts
-use Rattle.cluster.proofs.table.word.Reads as word-reads
 
--- src/frames.rt:63:17
 mul-word : tie.Need-mul-word
 mul-word c = search needs
 
--- src/frames.rt:63:13
 add-word : tie.Need-add-word
 add-word c = search needs
 
--- src/frames.rt:63:13
 add-word-2 : tie.Need-add-word-2
 add-word-2 c = search needs
 
--- src/frames.rt:63:5
 word-requires : tie.Need-word-requires
 word-requires c κs = search needs
 
--- src/frames.rt:59:1
 returns : tie.Need-returns
 unfolding published flags bit
 returns c = rw (pow-zero, div-one) (rw (c .word .ensures))

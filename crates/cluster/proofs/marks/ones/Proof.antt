@@ -1,28 +1,22 @@
+-- `cluster::marks::ones` meets its contract: 64 ones shifted right.
 use native.Mathlib.Omega.{arith}
 use Rattle.cluster.proofs.Taken.{ones-shifted}
 use borrow.Author.Needs.{needs}
 use Rattle.cluster.proofs.marks.ones.Statement.{statement}
 use Rattle.cluster.proofs.marks.ones.Tie as tie
-use Rattle.cluster.proofs.marks.ones.Reads as reads
-use Rattle.cluster.proofs.marks.ones.Lts as lts
 
--- src/bits.rt:31:31
 sub-result : tie.Need-sub-result
 sub-result c = search needs
 
--- src/bits.rt:31:30
 cast-result : tie.Need-cast-result
 cast-result c = search needs
 
--- src/bits.rt:31:30
 cast-result-2 : tie.Need-cast-result-2
 cast-result-2 c = search needs
 
--- src/bits.rt:31:5
 shr-result : tie.Need-shr-result
 shr-result c = search needs
 
--- src/bits.rt:27:1
 returns : tie.Need-returns
 returns c = ones-shifted (c .args .width) (omega arith)
 

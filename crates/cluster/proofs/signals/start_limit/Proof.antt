@@ -1,32 +1,25 @@
+-- `cluster::signals::start_limit` meets its contract: a scalar has at most 16 bits.
 use Rattle.cluster.proofs.Widths.{scalar-width, scalar-limit}
 use mathlib.Core.Path.{refl}
-use Rattle.cluster.specs.Right.{startLimit, widthRight}
 use Rattle.cluster.specs.Right.{startLimit}
 use native.Mathlib.Omega.{arith}
 use borrow.Author.Needs.{needs}
 use Rattle.cluster.proofs.signals.start_limit.Statement.{statement}
 use Rattle.cluster.proofs.signals.start_limit.Tie as tie
-use Rattle.cluster.proofs.signals.start_limit.Reads as reads
-use Rattle.cluster.proofs.signals.start_limit.Lts as lts
 
--- src/signals.rt:171:35
 cast-result : tie.Need-cast-result
 cast-result c = omega (arith, scalar-width (c .before .args .width) (rw (c .if1 .left) at (c .before .pre)))
 
--- src/signals.rt:171:35
 cast-result-2 : tie.Need-cast-result-2
 cast-result-2 c = omega (arith, scalar-width (c .before .args .width) (rw (c .if1 .left) at (c .before .pre)))
 
--- src/signals.rt:171:29
 shl-result : tie.Need-shl-result
 shl-result c = omega (arith, scalar-width (c .before .args .width) (rw (c .if1 .left) at (c .before .pre)))
 
--- src/signals.rt:166:1
 returns : tie.Need-returns
 unfolding startLimit
 returns c = rw (c .if1 .taken) (search needs)
 
--- src/signals.rt:166:1
 returns-2 : tie.Need-returns-2
 unfolding startLimit
 returns-2 c = rw (c .if1 .left, scalar-limit (c .before .args .width) (omega (arith, scalar-width (c .before .args .width) (rw (c .if1 .left) at (c .before .pre)))) .0) (refl, scalar-limit (c .before .args .width) (omega (arith, scalar-width (c .before .args .width) (rw (c .if1 .left) at (c .before .pre)))) .1)

@@ -1,22 +1,17 @@
+-- `cluster::signals::whole_bytes` meets its contract, by cases of its tests.
 use Rattle.cluster.specs.Right.{widthRight}
-use borrow.Author.Tests.{lt-ltb, le-ltb, lt-leb, le-leb}
-use mathlib.Core.Bool.{and-false, and-true}
+use borrow.Author.Tests.{lt-leb, le-leb}
 use Rattle.cluster.proofs.signals.whole_bytes.Statement.{statement}
 use Rattle.cluster.proofs.signals.whole_bytes.Tie as tie
-use Rattle.cluster.proofs.signals.whole_bytes.Reads as reads
-use Rattle.cluster.proofs.signals.whole_bytes.Lts as lts
 
--- src/signals.rt:157:9
 returns : tie.Need-returns
 unfolding widthRight
 returns c = simp (lt-leb _ _ (c .if1 .taken))
 
--- src/signals.rt:160:9
 returns-2 : tie.Need-returns-2
 unfolding widthRight
 returns-2 c = simp (le-leb _ _ (c .before .if1 .left), lt-leb _ _ (c .if2 .taken))
 
--- src/signals.rt:153:1
 returns-3 : tie.Need-returns-3
 unfolding widthRight
 returns-3 c = simp (le-leb _ _ (c .before .if1 .left), le-leb _ _ (c .if2 .left))

@@ -1,3 +1,4 @@
+-- `cluster::signals::width_right` meets its contract, by cases of its tests.
 use lib.Dec.{leb}
 use Rattle.cluster.specs.Right.{widthRight}
 use borrow.Author.Tests.{lt-leb, le-leb}
@@ -6,32 +7,23 @@ use mathlib.Core.Path.{_∙_, sym}
 use borrow.Author.Needs.{needs}
 use Rattle.cluster.proofs.signals.width_right.Statement.{statement}
 use Rattle.cluster.proofs.signals.width_right.Tie as tie
-use Rattle.cluster.proofs.signals.width_right.Reads as reads
-use Rattle.cluster.proofs.signals.width_right.Lts as lts
-use Rattle.cluster.proofs.signals.whole_bytes.Reads as whole-bytes-reads
 
--- src/signals.rt:143:15
 add-if1 : tie.Need-add-if1
 add-if1 c = search needs
 
--- src/signals.rt:144:9
 returns : tie.Need-returns
 returns c = simp (lt-leb _ _ (c .if1 .taken), and-false)
 
--- src/signals.rt:147:9
 whole-bytes-requires : tie.Need-whole-bytes-requires
 whole-bytes-requires c κs = search needs
 
--- src/signals.rt:147:9
 returns-2 : tie.Need-returns-2
 returns-2 c = rw (le-leb _ _ (c .before .before .if1 .left), c .before .if2 .taken) (c .whole-bytes .ensures ∙ sym (and-true _))
 
--- src/signals.rt:150:9
 returns-3 : tie.Need-returns-3
 unfolding widthRight
 returns-3 c = simp (c .before .if2 .left, lt-leb _ _ (c .if3 .taken))
 
--- src/signals.rt:139:1
 returns-4 : tie.Need-returns-4
 unfolding widthRight
 returns-4 c = rw (c .before .if2 .left, le-leb _ _ (c .before .before .if1 .left), le-leb 1 _ (c .if3 .left)) (sym (and-true (leb (c .before .before .before .args .width) 16)))

@@ -1,26 +1,21 @@
+-- `cluster::table::word` meets its contract: behind the last word `getD` is its default.
 use lib.ListN.{List·getD-eq-default}
 use mathlib.Core.Path.{refl, sym}
 use Rattle.cluster.specs.Table.{word}
 use borrow.Author.Needs.{needs}
 use Rattle.cluster.proofs.table.word.Statement.{statement}
 use Rattle.cluster.proofs.table.word.Tie as tie
-use Rattle.cluster.proofs.table.word.Reads as reads
-use Rattle.cluster.proofs.table.word.Lts as lts
 
--- src/table.rt:17:22
 mul-result : tie.Need-mul-result
 mul-result c = search needs
 
--- src/table.rt:17:22
 shared-slice-read-result : tie.Need-shared-slice-read-result
 shared-slice-read-result c = search needs
 
--- src/table.rt:14:1
 returns : tie.Need-returns
 unfolding word
 returns c = refl
 
--- src/table.rt:14:1
 returns-2 : tie.Need-returns-2
 unfolding word
 returns-2 c = sym (List·getD-eq-default (c .before .args .t .now) 0 (c .if1 .left))

@@ -1,0 +1,140 @@
+/* The table check in plain C: word by word, each word once, with marks. */
+#include "../c/linhost.h"
+#include "plain.h"
+
+#include <stdbool.h>
+
+/* The table, and where in it the check stands. */
+struct check {
+    const uint16_t *words;
+    size_t length;
+    size_t frames;
+    size_t lists;
+};
+
+/* Whether a word stands at a position and is at most a limit. */
+static bool at_most(const struct check *check, size_t at, unsigned limit)
+{
+    return at < check->length && check->words[at] <= limit;
+}
+
+/* Whether the list or schedule number at a position is one of those that may follow. */
+static bool follows(const struct check *check, size_t at, size_t count)
+{
+    return at < check->length && (check->words[at] == count || check->words[at] + 1u == count);
+}
+
+/* Each section gives the position of its first fault, or LIN_ACCEPTED. */
+
+static size_t check_header(const struct check *check)
+{
+    static const uint16_t limits[4] = { 60, 256, 60, 256 };
+    for (size_t i = 0; i < 4; i++)
+        if (!at_most(check, i, limits[i]))
+            return i;
+    return LIN_ACCEPTED;
+}
+
+static size_t check_frames(const struct check *check, size_t at, size_t count)
+{
+    bool used[60] = { false };
+    for (; count > 0; count--, at += 3) {
+        if (!at_most(check, at, 59) || used[check->words[at]])
+            return at;
+        used[check->words[at]] = true;
+        if (!at_most(check, at + 1, 8) || check->words[at + 1] == 0)
+            return at + 1;
+        if (!at_most(check, at + 2, 3))
+            return at + 2;
+    }
+    return LIN_ACCEPTED;
+}
+
+static bool right_width(bool array, unsigned width)
+{
+    return array ? width >= 8 && width <= 64 && width % 8 == 0 : width >= 1 && width <= 16;
+}
+
+static size_t check_signals(const struct check *check, size_t at, size_t count)
+{
+    const uint16_t *words = check->words;
+    uint64_t taken[60] = { 0 };
+    for (; count > 0; count--, at += 5) {
+        if (at >= check->length || words[at] >= check->frames)
+            return at;
+        unsigned frame = words[at], bits = 8u * words[4 + 3 * frame + 1];
+        if (!at_most(check, at + 1, 1))
+            return at + 1;
+        bool array = words[at + 1] == 1;
+        if (at + 2 >= check->length || words[at + 2] >= bits || (array && words[at + 2] % 8 != 0))
+            return at + 2;
+        unsigned offset = words[at + 2];
+        if (at + 3 >= check->length || !right_width(array, words[at + 3]) || offset + words[at + 3] > bits)
+            return at + 3;
+        unsigned width = words[at + 3];
+        uint64_t field = UINT64_MAX >> (64 - width) << offset;
+        if ((taken[frame] & field) != 0)
+            return at + 3;
+        taken[frame] |= field;
+        if (at + 4 >= check->length || words[at + 4] >= (array ? 256u : 1u << width))
+            return at + 4;
+    }
+    return LIN_ACCEPTED;
+}
+
+static size_t check_members(struct check *check, size_t at, size_t count)
+{
+    const uint16_t *words = check->words;
+    bool listed[60] = { false };
+    for (; count > 0; count--, at += 2) {
+        if (!follows(check, at, check->lists))
+            return at;
+        check->lists = words[at] + 1u;
+        if (at + 1 >= check->length || words[at + 1] >= check->frames)
+            return at + 1;
+        unsigned frame = words[at + 1];
+        if (words[4 + 3 * frame + 2] % 2 == 0 || listed[frame])
+            return at + 1;
+        listed[frame] = true;
+    }
+    return LIN_ACCEPTED;
+}
+
+static size_t check_entries(const struct check *check, size_t at, size_t count)
+{
+    const uint16_t *words = check->words;
+    size_t schedules = 0;
+    for (; count > 0; count--, at += 4) {
+        if (!follows(check, at, schedules))
+            return at;
+        schedules = words[at] + 1u;
+        if (!at_most(check, at + 1, 3))
+            return at + 1;
+        size_t targets = words[at + 1] == 0 ? check->frames : words[at + 1] == 1 ? check->lists : 1;
+        if (at + 2 >= check->length || words[at + 2] >= targets)
+            return at + 2;
+        if (at + 3 >= check->length || words[at + 3] == 0)
+            return at + 3;
+    }
+    return LIN_ACCEPTED;
+}
+
+size_t plain_check(const uint16_t *words, size_t length)
+{
+    struct check check = { words, length, 0, 0 };
+    size_t position = check_header(&check);
+    if (position != LIN_ACCEPTED)
+        return position;
+    check.frames = words[0];
+    size_t signals = 4 + 3 * check.frames, members = signals + 5u * words[1], entries = members + 2u * words[2];
+    size_t end = entries + 4u * words[3];
+    if ((position = check_frames(&check, 4, words[0])) != LIN_ACCEPTED)
+        return position;
+    if ((position = check_signals(&check, signals, words[1])) != LIN_ACCEPTED)
+        return position;
+    if ((position = check_members(&check, members, words[2])) != LIN_ACCEPTED)
+        return position;
+    if ((position = check_entries(&check, entries, words[3])) != LIN_ACCEPTED)
+        return position;
+    return end < length ? end : LIN_ACCEPTED;
+}

@@ -1,0 +1,26 @@
+-- `host::lin_check` meets its contract, by cases of the verdict.
+use mathlib.Core.Path.{sym, _∙_}
+use borrow.Author.Needs.{needs}
+use Rattle.host.specs.Coded.{positionOf}
+use Rattle.host.proofs.lin_check.Statement.{statement}
+use Rattle.host.proofs.lin_check.Tie as tie
+
+check-requires : tie.Need-check-requires
+check-requires c κs = search needs
+
+enum-told : tie.Need-enum-told
+enum-told c = search needs
+
+enum-known-refusal : tie.Need-enum-known-refusal
+enum-known-refusal c = search needs
+
+returns : tie.Need-returns
+unfolding positionOf
+returns c = rw (sym (c .before .before .check .ensures) ∙ c .enum-told .given .1)
+
+returns-2 : tie.Need-returns-2
+unfolding positionOf
+returns-2 c = rw (sym (c .before .before .before .check .ensures) ∙ c .before .refusal .given .1)
+
+pub lin-check-spec : {M : Type 1} → statement M
+lin-check-spec = tie.close (tie.spec check-requires enum-told enum-known-refusal returns returns-2)
