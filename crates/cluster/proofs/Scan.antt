@@ -60,8 +60,7 @@ position-is at zero = omega arith
 position-is at (suc k) = refl
 
 -- What was seen of the words from word k on agrees with the definition: a word seen as right is there; where it is there,
--- it is
--- right exactly where it is seen as right; and then the words behind it agree.
+-- it is right exactly where it is seen as right; and then the words behind it agree.
 abbrev pub Agrees : List ℕ → ℕ → ℕ → List Bool → List Bool → Type 0
 Agrees t at k [] rights = rights ≡ []
 Agrees t at k (seen ∷ more) [] = ⊥

@@ -1,6 +1,5 @@
 -- What the steps of the check compute: the columns of a record over the words that were read, with marks in place of the
--- words
--- before. Only private contracts cite it; nothing here has to be believed, since proofs/ ties it to the definition in Right.
+-- words before. Only private contracts cite it; nothing here has to be believed, since proofs/ ties it to the definition.
 use Prim.Native.Nat.{ℕ, suc, _+_}
 use mathlib.Core.Bool.{Bool, not, cond, _&&_, _||_}
 use mathlib.Core.List.{List, [], _∷_}
