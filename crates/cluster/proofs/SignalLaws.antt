@@ -1,20 +1,20 @@
 -- Laws of an accepted table's signals, each for every signal of the table.
 use Prim.Native.Nat.{ℕ, _+_, _*_, _%_, _^_, _≤_, _<_}
 use mathlib.Core.Path.{_≡_}
-use mathlib.Core.Bool.{true, false, cond, _&&_}
+use mathlib.Core.Bool.{true, false, cond}
 use mathlib.Core.List.{List}
 use native.Mathlib.Omega.{arith}
 use borrow.Author.Tests.{ltb-true, leb-true, eqb-true}
 use lib.Dec.{ltb, eqb}
-use Rattle.wire.proofs.Tests.{and-left, and-right, whether}
+use Rattle.wire.proofs.Tests.{and-right}
 use Rattle.cluster.specs.Check.{RightTable}
-use Rattle.cluster.specs.Right.{within, frameBits, offsetRight, widthRight, startLimit}
+use Rattle.cluster.specs.Right.{frameBits, offsetRight, startLimit}
 use Rattle.cluster.specs.Right.{signalFrameRight, signalKindRight, startRight}
 use Rattle.cluster.specs.Table.{frameCount, frameLength, signalCount}
 use Rattle.cluster.specs.Table.{signalFrame, signalKind, signalOffset, signalWidth, signalStart, isArray}
 use Rattle.cluster.proofs.Columns.{signal-frame-right, signal-kind-right, offset-right, width-right, inside-right, start-right}
 use Rattle.cluster.proofs.FrameLaws.{frame-length-high}
-use Rattle.cluster.proofs.Ranges.{within-low, within-high}
+use Rattle.cluster.proofs.Widths.{offset-below, scalar-width, array-width, width-range}
 
 module _ (t : List ℕ) (ok : RightTable t) (s : ℕ) (h : s < signalCount t) where
   -- a signal stands in a frame of the table
@@ -37,22 +37,18 @@ module _ (t : List ℕ) (ok : RightTable t) (s : ℕ) (h : s < signalCount t) wh
 
   -- a signal begins inside its frame
   pub signal-offset-below : signalOffset t s < 8 * frameLength t (signalFrame t s)
-  unfolding offsetRight
-  signal-offset-below =
-      ltb-true (signalOffset t s) (frameBits t s)
-      (and-left (ltb (signalOffset t s) (frameBits t s)) (cond (isArray t s) (eqb (signalOffset t s % 8) 0) true) (offset-right t ok s h))
+  signal-offset-below = offset-below (isArray t s) (frameBits t s) (signalOffset t s) (offset-right t ok s h)
 
-  scalar-width : isArray t s ≡ false → within 1 16 (signalWidth t s) ≡ true
-  unfolding widthRight
-  scalar-width k = let w = width-right t ok s h in rw k at w
+  scalar : isArray t s ≡ false → (1 ≤ signalWidth t s) × (signalWidth t s ≤ 16)
+  scalar k = scalar-width (signalWidth t s) (rw k at (width-right t ok s h))
 
   -- a scalar has at least one bit
   pub scalar-width-low : isArray t s ≡ false → 1 ≤ signalWidth t s
-  scalar-width-low k = within-low 1 16 (signalWidth t s) (scalar-width k)
+  scalar-width-low k = scalar k .0
 
   -- a scalar has at most 16 bits
   pub scalar-width-high : isArray t s ≡ false → signalWidth t s ≤ 16
-  scalar-width-high k = within-high 1 16 (signalWidth t s) (scalar-width k)
+  scalar-width-high k = scalar k .1
 
   -- a scalar's start value fits its bits
   pub scalar-start-below : isArray t s ≡ false → signalStart t s < 2 ^ signalWidth t s
@@ -66,26 +62,20 @@ module _ (t : List ℕ) (ok : RightTable t) (s : ℕ) (h : s < signalCount t) wh
       let w = and-right (ltb (signalOffset t s) (frameBits t s)) (cond (isArray t s) (eqb (signalOffset t s % 8) 0) true) (offset-right t ok s h) in
       eqb-true (signalOffset t s % 8) 0 (rw k at w)
 
-  array-width : isArray t s ≡ true → (within 8 64 (signalWidth t s) && eqb (signalWidth t s % 8) 0) ≡ true
-  unfolding widthRight
-  array-width k = let w = width-right t ok s h in rw k at w
-
-  array-range : isArray t s ≡ true → within 8 64 (signalWidth t s) ≡ true
-  array-range k = and-left (within 8 64 (signalWidth t s)) (eqb (signalWidth t s % 8) 0) (array-width k)
-
-  -- an array has whole bytes
-  pub array-width-whole : isArray t s ≡ true → signalWidth t s % 8 ≡ 0
-  array-width-whole k =
-      eqb-true (signalWidth t s % 8) 0
-      (and-right (within 8 64 (signalWidth t s)) (eqb (signalWidth t s % 8) 0) (array-width k))
+  array : isArray t s ≡ true → (8 ≤ signalWidth t s) × (signalWidth t s ≤ 64) × (signalWidth t s % 8 ≡ 0)
+  array k = array-width (signalWidth t s) (rw k at (width-right t ok s h))
 
   -- an array has at least one byte
   pub array-width-low : isArray t s ≡ true → 8 ≤ signalWidth t s
-  array-width-low k = within-low 8 64 (signalWidth t s) (array-range k)
+  array-width-low k = array k .0
 
   -- an array has at most eight bytes
   pub array-width-high : isArray t s ≡ true → signalWidth t s ≤ 64
-  array-width-high k = within-high 8 64 (signalWidth t s) (array-range k)
+  array-width-high k = array k .1
+
+  -- an array has whole bytes
+  pub array-width-whole : isArray t s ≡ true → signalWidth t s % 8 ≡ 0
+  array-width-whole k = array k .2
 
   -- an array's start value is a byte
   pub array-start-high : isArray t s ≡ true → signalStart t s ≤ 255
@@ -95,5 +85,4 @@ module _ (t : List ℕ) (ok : RightTable t) (s : ℕ) (h : s < signalCount t) wh
 
   -- a signal has at least one bit
   pub signal-width-low : 1 ≤ signalWidth t s
-  signal-width-low =
-      whether (isArray t s) (λ k. omega (arith, array-width-low k)) (λ k. scalar-width-low k)
+  signal-width-low = width-range (isArray t s) (signalWidth t s) (width-right t ok s h) .0

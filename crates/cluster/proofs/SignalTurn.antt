@@ -1,7 +1,7 @@
 -- The check of one signal's record: what is seen of its words agrees with the definition.
-use Prim.Native.Nat.{ℕ, _+_, _*_, _%_, _≤_, _<_}
+use Prim.Native.Nat.{ℕ, _+_, _*_, _≤_, _<_}
 use mathlib.Core.Path.{_≡_, refl, sym}
-use mathlib.Core.Bool.{Bool, true, false, not, cond, _&&_}
+use mathlib.Core.Bool.{Bool, true, false, not, _&&_}
 use mathlib.Core.List.{List, [], _∷_}
 use native.Mathlib.Omega.{arith}
 use borrow.Author.Tests.{ltb-true, leb-true, not-true}
@@ -9,7 +9,7 @@ use lib.Dec.{ltb, leb, eqb}
 use lib.ListN.{getD}
 use Rattle.wire.specs.Bits.{bit}
 use Rattle.wire.proofs.Tests.{and-left, and-right}
-use Rattle.cluster.specs.Right.{takenBefore, overlaps, signalFrameRight, signalKindRight, offsetRight, widthRight}
+use Rattle.cluster.specs.Right.{takenBefore, overlaps, signalFrameRight, signalKindRight, widthRight}
 use Rattle.cluster.specs.Right.{signalWidthRight, startLimit, startRight, signalRight}
 use Rattle.cluster.specs.Seen.{due, leading, hits, signalSeen}
 use Rattle.cluster.specs.Table.{frameCount, frameLength, signalAt}
@@ -17,11 +17,7 @@ use Rattle.cluster.specs.Table.{signalFrame, signalKind, signalOffset, s
 use Rattle.cluster.proofs.Any.{any-ext}
 use Rattle.cluster.proofs.BitMarks.{BitMarks}
 use Rattle.cluster.proofs.Scan.{Agrees, due-is, leading-all}
-use Rattle.cluster.proofs.Widths.{inside-frame, start-limit-high}
-
-offset-below : (array : Bool) (bits offset : ℕ) → offsetRight array bits offset ≡ true → offset < bits
-unfolding offsetRight
-offset-below array bits offset h = ltb-true offset bits (and-left (ltb offset bits) (cond array (eqb (offset % 8) 0) true) h)
+use Rattle.cluster.proofs.Widths.{offset-below, inside-frame, start-limit-high}
 
 -- what a right width column says
 module _ (array : Bool) (bits taken offset width : ℕ)

@@ -1,14 +1,18 @@
--- The widths and start values that each kind of signal takes.
-use Prim.Native.Nat.{ℕ, _*_, _%_, _^_, _≤_}
+-- The offsets, widths and start values that each kind of signal takes.
+use Prim.Native.Nat.{ℕ, _*_, _%_, _^_, _≤_, _<_}
 use mathlib.Core.Path.{_≡_, _∙_}
-use mathlib.Core.Bool.{Bool, true, false, _&&_}
+use mathlib.Core.Bool.{Bool, true, false, cond, _&&_}
 use native.Mathlib.Omega.{arith}
-use borrow.Author.Tests.{leb-true, eqb-true}
-use lib.Dec.{leb, eqb}
+use borrow.Author.Tests.{ltb-true, leb-true, eqb-true}
+use lib.Dec.{ltb, leb, eqb}
 use lib.Pow.{pow-mono, shl-exact}
 use Rattle.wire.proofs.Tests.{and-left, and-right}
-use Rattle.cluster.specs.Right.{within, widthRight, startLimit}
+use Rattle.cluster.specs.Right.{within, offsetRight, widthRight, startLimit}
 use Rattle.cluster.proofs.Ranges.{within-low, within-high}
+
+pub offset-below : (array : Bool) (bits offset : ℕ) → offsetRight array bits offset ≡ true → offset < bits
+unfolding offsetRight
+offset-below array bits offset h = ltb-true offset bits (and-left (ltb offset bits) (cond array (eqb (offset % 8) 0) true) h)
 
 pub scalar-width : (w : ℕ) → widthRight false w ≡ true → (1 ≤ w) × (w ≤ 16)
 unfolding widthRight
