@@ -1,0 +1,48 @@
+use native.Mathlib.Omega.{arith}
+use mathlib.Core.Path.{_≡_}
+use borrow.Author.Tests.{le-leb, lt-leb}
+use Rattle.transport.specs.Cutting.{messageFrame}
+use Rattle.transport.proofs.Counting.{later-frame}
+-- `cutting::frame_bytes` meets its contract.
+use borrow.Author.Needs.{needs}
+use Rattle.transport.proofs.cutting.frame_bytes.Statement.{statement}
+use Rattle.transport.proofs.cutting.frame_bytes.Tie as tie
+
+sub-next-frame : tie.Need-sub-next-frame
+sub-next-frame c = search needs
+
+next-frame-requires : tie.Need-next-frame-requires
+next-frame-requires c κs = search needs
+
+returns : tie.Need-returns
+returns c = later-frame _ _ _ _ (c .before .if1 .taken) (c .next-frame .ensures)
+
+single-frame-requires : tie.Need-single-frame-requires
+single-frame-requires c κs = search needs
+
+returns-2 : tie.Need-returns-2
+unfolding messageFrame
+returns-2 c =
+    let e : c .before .before .before .before .args .k ≡ 0 = omega arith in
+    simp (e, le-leb _ _ (c .before .if2 .taken), c .single-frame .ensures)
+
+first-frame-requires : tie.Need-first-frame-requires
+first-frame-requires c κs = search needs
+
+returns-3 : tie.Need-returns-3
+unfolding messageFrame
+returns-3 c =
+    let e : c .before .before .before .before .args .k ≡ 0 = omega arith in
+    simp (e, lt-leb _ _ (c .before .if2 .left), c .first-frame .ensures)
+
+pub frame-bytes-spec : {M : Type 1} → statement M
+frame-bytes-spec =
+    tie.close
+    (tie.spec
+    sub-next-frame
+    next-frame-requires
+    returns
+    single-frame-requires
+    returns-2
+    first-frame-requires
+    returns-3)

@@ -1,0 +1,24 @@
+-- `Message::bytes_due` meets its contract.
+use native.Mathlib.Omega.{arith}
+use borrow.Author.Needs.{needs}
+use Rattle.transport.specs.Reassembly.{bytesDue}
+use Rattle.transport.proofs.reassembly.Message.bytes_due.Statement.{statement}
+use Rattle.transport.proofs.reassembly.Message.bytes_due.Tie as tie
+
+returns : tie.Need-returns
+unfolding bytesDue
+returns c = omega arith
+
+sub-rest : tie.Need-sub-rest
+sub-rest c = search needs
+
+returns-2 : tie.Need-returns-2
+unfolding bytesDue
+returns-2 c = omega arith
+
+returns-3 : tie.Need-returns-3
+unfolding bytesDue
+returns-3 c = omega arith
+
+pub bytes-due-spec : {M : Type 1} → statement M
+bytes-due-spec = tie.close (tie.spec returns sub-rest returns-2 returns-3)

@@ -1,0 +1,43 @@
+-- `Reassembly::next` meets its contract.
+use borrow.Author.Needs.{needs}
+use Rattle.transport.specs.Parts.{nextOutcome}
+use Rattle.transport.specs.Reassembly.{fits}
+use Rattle.transport.proofs.Outcomes.{leaves-plain}
+use Rattle.transport.proofs.reassembly.Reassembly.next.Statement.{statement}
+use Rattle.transport.proofs.reassembly.Reassembly.next.Tie as tie
+
+enum-told : tie.Need-enum-told
+enum-told c = search needs
+
+ignored-requires : tie.Need-ignored-requires
+ignored-requires c κs = search needs
+
+enum-known-self : tie.Need-enum-known-self
+enum-known-self c = search needs
+
+next-requires : tie.Need-next-requires
+unfolding fits
+next-requires c κs = (rw (c .before .before .self .given .1) at (c .before .before .before .before .before .before .pre .0), search needs)
+
+returns : tie.Need-returns
+unfolding nextOutcome
+returns c = leaves-plain _ _ _ _ _ (rw (c .before .enum-told .given .1)) (c .ignored .ensures)
+
+same-length : tie.Need-same-length
+same-length c = search needs
+
+returns-2 : tie.Need-returns-2
+unfolding nextOutcome
+returns-2 c = rw (c .before .before .before .before .before .self .given .1) (c .before .before .next .ensures)
+
+pub next-spec : {M : Type 1} → statement M
+next-spec =
+    tie.close
+    (tie.spec
+    enum-told
+    ignored-requires
+    enum-known-self
+    next-requires
+    returns
+    same-length
+    returns-2)

@@ -1,0 +1,13 @@
+-- `Reassembly::refused` meets its contract.
+use borrow.Author.Needs.{needs}
+use Rattle.transport.proofs.reassembly.Reassembly.refused.Statement.{statement}
+use Rattle.transport.proofs.reassembly.Reassembly.refused.Tie as tie
+
+of-requires : tie.Need-of-requires
+of-requires c κs = search needs
+
+returns : tie.Need-returns
+returns c = rw (c .of .ensures)
+
+pub refused-spec : {M : Type 1} → statement M
+refused-spec = tie.close (tie.spec of-requires returns)
