@@ -1,6 +1,6 @@
 -- Laws of a step: a wrong counter, a frame for another node, what an ignored or a refused frame changes, and where bytes go.
-use Prim.Native.Nat.{ℕ, _+_, _≤_}
-use mathlib.Core.Path.{_≡_, refl, ap, _∙_}
+use Prim.Native.Nat.{ℕ, _+_, _≤_, _<_}
+use mathlib.Core.Path.{_≡_, refl, ap, sym, _∙_}
 use mathlib.Core.Bool.{Bool, true, false, and-false}
 use mathlib.Core.List.{List}
 use native.Mathlib.Omega.{arith}
@@ -18,17 +18,22 @@ use Rattle.transport.specs.declared.reassembly.Reassembly.the-variants.{
 use Rattle.transport.specs.declared.reassembly.Answer.{Answer}
 use Rattle.transport.specs.declared.reassembly.Answer.the-variants.{Ignored, Started, More, Done, Broken, Refused}
 use Rattle.transport.proofs.FitLaws.{open-fits}
-use Rattle.transport.proofs.StepCases.{other-pci-not-too-short, step-by-kind, step-cases, Accepted, accepted-room, first-room}
+use Rattle.transport.proofs.KindLaws.{pci-of-kind}
+use Rattle.transport.proofs.StepCases.{other-pci-not-too-short, early-not-too-short, step-by-kind, step-cases, Accepted, accepted-room, first-room}
 use Rattle.transport.proofs.Tests.{whether}
+
+-- a frame of the open NAD is not ignored for its NAD
+heard-open : (m : Message) (f : List ℕ) → fits (Open m) ≡ true → frameNad f ≡ m .nad → listens (Open m) (frameNad f) ≡ true
+unfolding listens
+heard-open m f fit same = rw (same, ne-eqb (m .nad) 0 (open-fits m fit .nad-not-0), eq-eqb (m .nad) (m .nad) refl)
 
 module _ (m : Message) (fit : fits (Open m) ≡ true) (f b : List ℕ) where
   -- a next frame of the open NAD with a wrong counter answers broken, closes the message and writes no byte
   pub wrong-counter : length f ≡ 8 → frameNad f ≡ m .nad → kindOf (framePci f) ≡ next → (framePci f ≡ 32 + m .counter → ⊥)
       → step (Open m) f b ≡ plain Nothing Broken
-  unfolding kindIgnored kindStep nextStep counterDue listens
+  unfolding kindIgnored kindStep nextStep counterDue
   wrong-counter eight same kind wrong =
-      step-by-kind (Open m) f b next (other-pci-not-too-short m f b wrong) fit eight
-      (rw (same, ne-eqb (m .nad) 0 (open-fits m fit .nad-not-0), eq-eqb (m .nad) (m .nad) refl)) kind refl
+      step-by-kind (Open m) f b next (other-pci-not-too-short m f b wrong) fit eight (heard-open m f fit same) kind refl
       ∙ rw (ne-eqb (framePci f) (32 + m .counter) wrong)
 
   -- a frame for another node is ignored
@@ -36,6 +41,29 @@ module _ (m : Message) (fit : fits (Open m) ≡ true) (f b : List ℕ) where
   unfolding step tooShort wouldBeTaken ignored listens
   foreign-ignored foreign =
       simp (eq-eqb (length f) 8 (foreign .eight), ne-eqb (frameNad f) (m .nad) (foreign .elsewhere), fit, and-false)
+
+-- "A single or first frame of the open NAD drops the open message and begins anew, unless ignored": it does what it does with
+-- nothing open
+module _ (m : Message) (fit : fits (Open m) ≡ true) (f b : List ℕ) (eight : length f ≡ 8) (same : frameNad f ≡ m .nad) where
+  heard-anew : listens Nothing (frameNad f) ≡ true
+  unfolding listens
+  heard-anew = rw (same, ne-eqb (m .nad) 0 (open-fits m fit .nad-not-0))
+
+  begins : (k : Kind) → framePci f < 32 → kindOf (framePci f) ≡ k → kindIgnored k (Open m) f b ≡ false → kindIgnored k Nothing f b ≡ false
+      → kindStep k (Open m) f ≡ kindStep k Nothing f → step (Open m) f b ≡ step Nothing f b
+  unfolding fits
+  begins k low kind i j e =
+      step-by-kind (Open m) f b k (early-not-too-short (Open m) f b low) fit eight (heard-open m f fit same) kind i
+      ∙ e
+      ∙ sym (step-by-kind Nothing f b k (early-not-too-short Nothing f b low) refl eight heard-anew kind j)
+
+  pub single-anew : kindOf (framePci f) ≡ single → kindIgnored single (Open m) f b ≡ false → step (Open m) f b ≡ step Nothing f b
+  unfolding kindIgnored kindStep
+  single-anew kind h = let p = rw kind at (pci-of-kind (framePci f)) in begins single (omega arith) kind h h refl
+
+  pub first-anew : kindOf (framePci f) ≡ first → kindIgnored first (Open m) f b ≡ false → step (Open m) f b ≡ step Nothing f b
+  unfolding kindIgnored kindStep
+  first-anew kind h = let p = rw kind at (pci-of-kind (framePci f)) in begins first (omega arith) kind h h refl
 
 -- ---- what changes nothing
 

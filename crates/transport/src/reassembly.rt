@@ -2,7 +2,7 @@
 use refusal::Refusal;
 ghost use mathlib.Core.Bool.{Bool, true};
 ghost use mathlib.Core.Path.{_≡_};
-ghost use Prim.Native.Nat.{_+_, _≤_, _<_};
+ghost use Prim.Native.Nat.{_+_, _%_, _≤_};
 ghost use lib.ListN.{length, take, drop};
 ghost use Rattle.transport.specs.Parts.{kindOutcome, nextOutcome, messageOutcome};
 ghost use Rattle.transport.specs.Answers.{takeRefused};
@@ -71,10 +71,7 @@ impl Message {
         ensures { λ r. ⌜ Leaves (messageOutcome self (now (frame .entry)) (now (buffer .entry))) (now (buffer .entry)) r (now (buffer .exit)) ⌝ }
     {
         if frame[1] != 32 + self.counter {
-            return Taken {
-                state: Reassembly::Nothing,
-                answer: Answer::Broken,
-            };
+            return Reassembly::Nothing.answering(Answer::Broken);
         }
         if buffer.len() < self.length as usize {
             return Reassembly::Open(self).refused(Refusal::BUFFER);
@@ -105,7 +102,7 @@ impl Message {
                     nad: self.nad,
                     length: self.length,
                     count: n,
-                    counter: ((self.counter as u16 + 1) % 16) as u8,
+                    counter: counter_after(self.counter),
                 }),
                 answer: Answer::More,
             }
@@ -130,7 +127,7 @@ impl Reassembly {
             return self.refused(Refusal::FRAME);
         }
         if !self.listens(frame[0]) {
-            return self.ignored();
+            return self.answering(Answer::Ignored);
         }
         self.by_kind(frame, buffer)
     }
@@ -145,7 +142,7 @@ impl Reassembly {
             1..=6 => self.single(frame, buffer),
             16..=31 => self.first(frame, buffer),
             32..=47 => self.next(frame, buffer),
-            _ => self.ignored(),
+            _ => self.answering(Answer::Ignored),
         }
     }
 
@@ -169,24 +166,21 @@ impl Reassembly {
         }
     }
 
-    // The state as it was, and a refusal number.
-    fn refused(self, number: u8) -> Taken
-        ensures { λ r. ⌜ r ≡ plain self (takeRefused number) .taken ⌝ }
+    // This state beside an answer.
+    fn answering(self, answer: Answer) -> Taken
+        ensures { λ r. ⌜ r ≡ plain self answer .taken ⌝ }
     {
         Taken {
             state: self,
-            answer: Answer::Refused(Refusal::of(number)),
+            answer,
         }
     }
 
-    // The state as it was, and ignored.
-    fn ignored(self) -> Taken
-        ensures { λ r. ⌜ r ≡ plain self Answer.Ignored .taken ⌝ }
+    // This state beside a refusal.
+    fn refused(self, number: u8) -> Taken
+        ensures { λ r. ⌜ r ≡ plain self (takeRefused number) .taken ⌝ }
     {
-        Taken {
-            state: self,
-            answer: Answer::Ignored,
-        }
+        self.answering(Answer::Refused(Refusal::of(number)))
     }
 
     // Takes a single frame.
@@ -196,7 +190,7 @@ impl Reassembly {
     {
         let bytes = frame[1] as u16;
         if buffer.len() < bytes as usize {
-            return self.ignored();
+            return self.answering(Answer::Ignored);
         }
         deliver(frame, 2, bytes, buffer, 0);
         Taken {
@@ -212,7 +206,7 @@ impl Reassembly {
     {
         let length = 256 * (frame[1] as u16 - 16) + frame[2] as u16;
         if length < 7 || buffer.len() < length as usize {
-            return self.ignored();
+            return self.answering(Answer::Ignored);
         }
         deliver(frame, 3, 5, buffer, 0);
         Taken {
@@ -232,10 +226,17 @@ impl Reassembly {
         ensures { λ r. ⌜ Leaves (nextOutcome self (now (frame .entry)) (now (buffer .entry))) (now (buffer .entry)) r (now (buffer .exit)) ⌝ }
     {
         match self {
-            Reassembly::Nothing => self.ignored(),
+            Reassembly::Nothing => self.answering(Answer::Ignored),
             Reassembly::Open(message) => message.next(frame, buffer),
         }
     }
+}
+
+// The counter that follows: 1, 2, .. 15, 0, 1.
+fn counter_after(counter: u8) -> u8
+    ensures { λ r. ⌜ r ≡ (counter + 1) % 16 ⌝ }
+{
+    ((counter as u16 + 1) % 16) as u8
 }
 
 // Delivers n bytes of a frame to a place of the buffer.

@@ -1,6 +1,5 @@
 -- `Message::next` meets its contract.
 use native.Mathlib.Omega.{arith}
-use mathlib.Core.Path.{refl}
 use borrow.Author.Needs.{needs}
 use Rattle.transport.proofs.FitLaws.{fits-exactly}
 use Rattle.transport.proofs.Fitting.{counter-below, due-high, due-left}
@@ -14,8 +13,11 @@ shared-slice-read-if1 c = search needs
 add-if1 : tie.Need-add-if1
 add-if1 c = omega (arith, counter-below _ (c .before .before .before .before .pre .0))
 
+answering-requires : tie.Need-answering-requires
+answering-requires c κs = search needs
+
 returns : tie.Need-returns
-returns c = leaves-plain _ _ _ _ _ (next-broken _ _ _ (c .if1 .taken)) refl
+returns c = leaves-plain _ _ _ _ _ (next-broken _ _ _ (c .before .if1 .taken)) (c .answering .ensures)
 
 cast-if2 : tie.Need-cast-if2
 cast-if2 c = search needs
@@ -60,6 +62,7 @@ next-spec =
     (tie.spec
     shared-slice-read-if1
     add-if1
+    answering-requires
     returns
     cast-if2
     refused-requires

@@ -21,8 +21,8 @@ first-requires c κs = search needs
 next-requires : tie.Need-next-requires
 next-requires c κs = search needs
 
-ignored-requires : tie.Need-ignored-requires
-ignored-requires c κs = search needs
+answering-requires : tie.Need-answering-requires
+answering-requires c κs = search needs
 
 same-length : tie.Need-same-length
 same-length c = search needs
@@ -63,7 +63,7 @@ returns-4 c =
     ⊎-elim (λ w. inl (omega arith))
     (⊎-elim (λ w. inr (inl (omega arith, omega arith))) (λ w. inr (inr (omega arith))))
     (c .before .if1 .came) in
-    leaves-plain _ _ _ _ _ (step-other _ _ _ (p .0) (p .1) (p .2) (kind-other pci none)) (c .ignored .ensures)
+    leaves-plain _ _ _ _ _ (step-other _ _ _ (p .0) (p .1) (p .2) (kind-other pci none)) (c .answering .ensures)
 
 pub by-kind-spec : {M : Type 1} → statement M
 by-kind-spec =
@@ -73,7 +73,7 @@ by-kind-spec =
     single-requires
     first-requires
     next-requires
-    ignored-requires
+    answering-requires
     same-length
     returns
     same-length-2

@@ -34,11 +34,11 @@ add-length c = omega (arith, c .shared-slice-known3 .given 2)
 cast-if2 : tie.Need-cast-if2
 cast-if2 c = omega (arith, c .before .shared-slice-known3 .given 2)
 
-ignored-requires : tie.Need-ignored-requires
-ignored-requires c κs = search needs
+answering-requires : tie.Need-answering-requires
+answering-requires c κs = search needs
 
 returns : tie.Need-returns
-returns c = ⊎-elim (λ w. leaves-plain _ _ _ _ _ (first-low _ _ _ (w .taken)) (c .ignored .ensures)) (λ w. leaves-plain _ _ _ _ _ (first-high _ _ _ (w .0 .left) (ltb-true _ _ (w .1 .taken))) (c .ignored .ensures)) (c .before .if1 .came)
+returns c = ⊎-elim (λ w. leaves-plain _ _ _ _ _ (first-low _ _ _ (w .taken)) (c .answering .ensures)) (λ w. leaves-plain _ _ _ _ _ (first-high _ _ _ (w .0 .left) (ltb-true _ _ (w .1 .taken))) (c .answering .ensures)) (c .before .if1 .came)
 
 deliver-requires : tie.Need-deliver-requires
 deliver-requires c κs =
@@ -72,7 +72,7 @@ first-spec =
     cast-length-2
     add-length
     cast-if2
-    ignored-requires
+    answering-requires
     returns
     deliver-requires
     shared-slice-read-t6

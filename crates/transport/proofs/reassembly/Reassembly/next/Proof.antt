@@ -9,8 +9,8 @@ use Rattle.transport.proofs.reassembly.Reassembly.next.Tie as tie
 enum-told : tie.Need-enum-told
 enum-told c = search needs
 
-ignored-requires : tie.Need-ignored-requires
-ignored-requires c κs = search needs
+answering-requires : tie.Need-answering-requires
+answering-requires c κs = search needs
 
 enum-known-self : tie.Need-enum-known-self
 enum-known-self c = search needs
@@ -21,7 +21,7 @@ next-requires c κs = (rw (c .before .before .self .given .1) at (c .before .bef
 
 returns : tie.Need-returns
 unfolding nextOutcome
-returns c = leaves-plain _ _ _ _ _ (rw (c .before .enum-told .given .1)) (c .ignored .ensures)
+returns c = leaves-plain _ _ _ _ _ (rw (c .before .enum-told .given .1)) (c .answering .ensures)
 
 same-length : tie.Need-same-length
 same-length c = search needs
@@ -35,7 +35,7 @@ next-spec =
     tie.close
     (tie.spec
     enum-told
-    ignored-requires
+    answering-requires
     enum-known-self
     next-requires
     returns

@@ -15,11 +15,11 @@ cast-bytes c = search needs
 cast-if1 : tie.Need-cast-if1
 cast-if1 c = search needs
 
-ignored-requires : tie.Need-ignored-requires
-ignored-requires c κs = search needs
+answering-requires : tie.Need-answering-requires
+answering-requires c κs = search needs
 
 returns : tie.Need-returns
-returns c = leaves-plain _ _ _ _ _ (single-ignored _ _ _ (c .before .if1 .taken)) (c .ignored .ensures)
+returns c = leaves-plain _ _ _ _ _ (single-ignored _ _ _ (c .before .if1 .taken)) (c .answering .ensures)
 
 deliver-requires : tie.Need-deliver-requires
 deliver-requires c κs = search needs
@@ -41,7 +41,7 @@ single-spec =
     shared-slice-read-bytes
     cast-bytes
     cast-if1
-    ignored-requires
+    answering-requires
     returns
     deliver-requires
     same-length

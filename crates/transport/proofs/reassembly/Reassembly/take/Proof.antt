@@ -28,14 +28,14 @@ shared-slice-read-listens c = search needs
 listens-requires : tie.Need-listens-requires
 listens-requires c κs = search needs
 
-ignored-requires : tie.Need-ignored-requires
-ignored-requires c κs = search needs
+answering-requires : tie.Need-answering-requires
+answering-requires c κs = search needs
 
 returns-3 : tie.Need-returns-3
 returns-3 c =
     let d = c .before .before .before .before in
     let fit = sym (d .before .before .fits2 .ensures) ∙ not-false _ (d .before .if1 .left) in
-    leaves-plain _ _ _ _ _ (step-nad _ _ _ fit (d .if2 .left) (sym (c .before .before .listens .ensures) ∙ not-true _ (c .before .if3 .taken))) (c .ignored .ensures)
+    leaves-plain _ _ _ _ _ (step-nad _ _ _ fit (d .if2 .left) (sym (c .before .before .listens .ensures) ∙ not-true _ (c .before .if3 .taken))) (c .answering .ensures)
 
 by-kind-requires : tie.Need-by-kind-requires
 by-kind-requires c κs =
@@ -59,7 +59,7 @@ take-spec =
     returns-2
     shared-slice-read-listens
     listens-requires
-    ignored-requires
+    answering-requires
     returns-3
     by-kind-requires
     same-length
