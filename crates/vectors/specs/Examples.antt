@@ -1,8 +1,9 @@
 -- Document 01, "Numbers to hold it to": the worked examples marked (P), in one list, with one test for all of them.
-use Prim.Native.Nat.{ℕ}
+use Prim.Native.Nat.{ℕ, suc}
 use mathlib.Core.Bool.{Bool, true, false, _&&_}
 use mathlib.Core.List.{List, [], _∷_}
 use lib.Dec.{eqb}
+use lib.ListN.{length}
 use Rattle.wire.specs.Answer.{refusalOf, valueOf}
 use Rattle.wire.specs.Checksum.{checksumOf}
 use Rattle.wire.specs.Identifier.{protectedOf}
@@ -10,6 +11,7 @@ use Rattle.wire.specs.declared.Answer.{Answer}
 use Rattle.wire.specs.declared.checksum.Model.{Model}
 use Rattle.wire.specs.declared.checksum.Model.the-variants.{Classic, Enhanced}
 use Rattle.signal.specs.Signal.{putScalar}
+use Rattle.transport.specs.Cutting.{messageFrame, messageFrames}
 
 -- an example of one kind or another
 pub data Example : Type 0 where
@@ -19,6 +21,8 @@ pub data Example : Type 0 where
   checksum : ℕ → Model → List ℕ → ℕ → Example
   -- a width, an offset, a value, and the bytes of FF that it was put into
   packing : ℕ → ℕ → ℕ → List ℕ → Example
+  -- a NAD, a message and its frames
+  cutting : ℕ → List ℕ → List (List ℕ) → Example
 
 -- the byte is answered, and nothing is refused
 abbrev pub gives : Answer → ℕ → Bool
@@ -35,11 +39,17 @@ abbrev pub filled : List ℕ → List ℕ
 filled [] = []
 filled (x ∷ xs) = 255 ∷ filled xs
 
+-- the frames of a message from frame k on
+abbrev pub sameFrames : ℕ → List ℕ → ℕ → List (List ℕ) → Bool
+sameFrames nad m k [] = true
+sameFrames nad m k (f ∷ fs) = sameBytes (messageFrame nad m k) f && sameFrames nad m (suc k) fs
+
 -- the test: what the definitions give is what the example says
 unfoldable pub holds : Example → Bool
 holds (identifier id byte) = gives (protectedOf id) byte
 holds (checksum id wish bytes byte) = gives (checksumOf id wish bytes) byte
 holds (packing width offset value bytes) = sameBytes (putScalar (filled bytes) offset width value) bytes
+holds (cutting nad m fs) = eqb (messageFrames (length m)) (length fs) && sameFrames nad m 0 fs
 
 -- the list
 unfoldable pub examples : List Example
@@ -63,6 +73,11 @@ examples =
     ∷ packing 12 4 0xABC (0xCF ∷ 0xAB ∷ [])
     -- "16 bits at 4, value 1234, three bytes: 4F 23 F1"
     ∷ packing 16 4 0x1234 (0x4F ∷ 0x23 ∷ 0xF1 ∷ [])
+    -- "NAD 05, message 01..07: `05 10 07 01 02 03 04 05`, `05 21 06 07 FF FF FF FF`"
+    ∷ cutting 0x05 (0x01 ∷ 0x02 ∷ 0x03 ∷ 0x04 ∷ 0x05 ∷ 0x06 ∷ 0x07 ∷ [])
+    ((0x05 ∷ 0x10 ∷ 0x07 ∷ 0x01 ∷ 0x02 ∷ 0x03 ∷ 0x04 ∷ 0x05 ∷ [])
+    ∷ (0x05 ∷ 0x21 ∷ 0x06 ∷ 0x07 ∷ 0xFF ∷ 0xFF ∷ 0xFF ∷ 0xFF ∷ [])
+    ∷ [])
     ∷ []
 
 -- every example of a list passes

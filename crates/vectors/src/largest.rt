@@ -2,6 +2,7 @@
 use crate::show;
 use crate::tables::changed;
 use crate::tables::first;
+use crate::tables::put;
 
 // The largest table, one word less, one word more, and words replaced.
 pub(crate) fn lengths() {
@@ -11,30 +12,45 @@ pub(crate) fn lengths() {
     first(&t, 2608);
     first(&t, 2607);
     first(&t, 2609);
-    in_largest(2607, 0);
-    in_largest(2607, 65535);
-    in_largest(0, 61);
-    in_largest(1, 257);
-    in_largest(2, 61);
-    in_largest(3, 257);
-    in_largest(4, 60);
-    in_largest(181, 59);
-    in_largest(1461, 24);
-    in_largest(1461, 40);
-    in_largest(1582, 58);
-    in_largest(1583, 59);
-    in_largest(1583, 60);
-    in_largest(2604, 254);
-    in_largest(2604, 253);
-    in_largest(2598, 59);
-    in_largest(2598, 60);
-    in_largest(2594, 60);
+    changes(&mut t[0..2608]);
 }
 
-fn in_largest(at: usize, value: u16) {
-    let mut t = [0u16; 2609];
-    build(&mut t);
-    changed(&mut t[0..2608], at, value);
+// Positions, and the words put there.
+const CHANGES: [[u16; 2]; 18] = [
+    [2607, 0],
+    [2607, 65535],
+    [0, 61],
+    [1, 257],
+    [2, 61],
+    [3, 257],
+    [4, 60],
+    [181, 59],
+    [1461, 24],
+    [1461, 40],
+    [1582, 58],
+    [1583, 59],
+    [1583, 60],
+    [2604, 254],
+    [2604, 253],
+    [2598, 59],
+    [2598, 60],
+    [2594, 60],
+];
+
+// Words replaced one at a time.
+fn changes(t: &mut [u16]) {
+    let rows = CHANGES;
+    let mut i: usize = 0;
+    while i < 18 {
+        in_largest(t, rows[i]);
+        i += 1;
+    }
+}
+
+fn in_largest(t: &mut [u16], row: [u16; 2]) {
+    let at = row[0] as usize;
+    changed(t, at, row[1]);
+    put(t, at, word(at));
 }
 
 // Makes the largest table, with zeros behind it.

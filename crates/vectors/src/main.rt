@@ -3,8 +3,16 @@ mod checksums;
 mod fields;
 mod identifiers;
 mod largest;
+mod lengths;
+mod letters;
+mod messages;
+mod reassembly;
+mod roundtrips;
+mod sequence;
 mod show;
 mod signals;
+mod states;
+mod steps;
 mod tables;
 
 use refusal::Refusal;
@@ -26,4 +34,14 @@ fn main() {
     tables::empty();
     fields::by_name();
     fields::fresh_bytes();
+    lengths::counts();
+    messages::cuts();
+    messages::counters();
+    roundtrips::all();
+    steps::all();
+    sequence::all();
+    letters::pcis();
+    states::all();
+    states::right_ones();
+    letters::frame_lengths();
 }

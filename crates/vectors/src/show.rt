@@ -1,5 +1,6 @@
 // Text on standard output.
 use libc::STDOUT_FILENO;
+use refusal::Refusal;
 use wire::Answer;
 
 // Bytes as they are.
@@ -49,10 +50,19 @@ pub(crate) fn answer(given: Answer) {
         Answer::Byte(byte) => {
             pair(byte);
         }
-        Answer::Refused(refusal) => {
-            text(b"refused ");
-            decimal(refusal.number as u64);
+        Answer::Refused(given) => {
+            refusal(given);
         }
+    }
+}
+
+// A refusal: its number, and its place where that is not 0.
+pub(crate) fn refusal(given: Refusal) {
+    text(b"refused ");
+    decimal(given.number as u64);
+    if given.place != 0 {
+        text(b" at ");
+        decimal(given.place as u64);
     }
 }
 

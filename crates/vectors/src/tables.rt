@@ -325,7 +325,7 @@ pub(crate) fn changed(t: &mut [u16], at: usize, value: u16) {
 }
 
 // Puts a word, if there is one at the position.
-fn put(t: &mut [u16], at: usize, value: u16) {
+pub(crate) fn put(t: &mut [u16], at: usize, value: u16) {
     if at < t.len() {
         t[at] = value;
     }
