@@ -1,3 +1,4 @@
+pub mod AnswerLaws
 pub mod AnswersDue
 pub mod Bytes
 pub mod Counting

@@ -11,7 +11,8 @@ use Rattle.wire.specs.declared.Answer.{Answer}
 use Rattle.wire.specs.declared.checksum.Model.{Model}
 use Rattle.wire.specs.declared.checksum.Model.the-variants.{Classic, Enhanced}
 use Rattle.signal.specs.Signal.{putScalar}
-use Rattle.transport.specs.Cutting.{messageFrame, messageFrames}
+use Rattle.transport.specs.Answers.{frameNumber, cutRefusal}
+use Rattle.transport.specs.Cutting.{countOf, cutOf}
 
 -- an example of one kind or another
 pub data Example : Type 0 where
@@ -39,17 +40,17 @@ abbrev pub filled : List ℕ → List ℕ
 filled [] = []
 filled (x ∷ xs) = 255 ∷ filled xs
 
--- the frames of a message from frame k on
+-- the frames of a message from frame k on are answered, and nothing is refused
 abbrev pub sameFrames : ℕ → List ℕ → ℕ → List (List ℕ) → Bool
 sameFrames nad m k [] = true
-sameFrames nad m k (f ∷ fs) = sameBytes (messageFrame nad m k) f && sameFrames nad m (suc k) fs
+sameFrames nad m k (f ∷ fs) = eqb (cutRefusal (cutOf nad m k .answer)) 0 && sameBytes (cutOf nad m k .bytes) f && sameFrames nad m (suc k) fs
 
 -- the test: what the definitions give is what the example says
 unfoldable pub holds : Example → Bool
 holds (identifier id byte) = gives (protectedOf id) byte
 holds (checksum id wish bytes byte) = gives (checksumOf id wish bytes) byte
 holds (packing width offset value bytes) = sameBytes (putScalar (filled bytes) offset width value) bytes
-holds (cutting nad m fs) = eqb (messageFrames (length m)) (length fs) && sameFrames nad m 0 fs
+holds (cutting nad m fs) = eqb (frameNumber (countOf (length m))) (length fs) && sameFrames nad m 0 fs
 
 -- the list
 unfoldable pub examples : List Example
