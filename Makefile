@@ -4,7 +4,7 @@
 # proves and builds the vectors program, and runs it
 run:
 	@mkdir -p build
-	@echo 'Proving and building the vectors program; the first time takes about three minutes.' >&2
+	@echo 'Proving and building the vectors program; the first time takes about five minutes.' >&2
 	@rt check vectors >build/run.log 2>&1 || { cat build/run.log; exit 1; }
 	@target/bin/vectors
 
