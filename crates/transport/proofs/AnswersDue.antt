@@ -2,12 +2,15 @@
 use Prim.Native.Nat.{ℕ, suc, _+_, _*_, _≤_, _<_}
 use mathlib.Core.Path.{_≡_}
 use native.Mathlib.Omega.{arith}
+use mathlib.Core.Bool.{cond}
 use borrow.Author.Tests.{eq-eqb, ne-eqb}
+use lib.Dec.{eqb}
+use Rattle.transport.specs.Answers.{doneLength}
 use Rattle.transport.specs.Cutting.{messageFrames}
 use Rattle.transport.specs.Exchange.{answerDue}
 use Rattle.transport.specs.declared.reassembly.Answer.the-variants.{Started, More, Done}
 use Rattle.transport.proofs.CuttingLaws.{frames-one, frames-more}
-use Rattle.transport.proofs.Tests.{order}
+use Rattle.transport.proofs.Tests.{order, whether}
 
 -- only a message above six bytes has next frames, and next frame i has a byte of it
 pub next-frame-due : (n i : ℕ) → suc i < messageFrames n → (6 < n) × (5 + 6 * i < n)
@@ -36,3 +39,10 @@ module _ (n : ℕ) where
   pub due-last : (i : ℕ) → 6 < n → 5 + 6 * i < n → n ≤ 5 + 6 * suc i → answerDue n (suc i) ≡ Done n
   unfolding answerDue
   due-last i l h k = rw (eq-eqb (suc i + 1) (messageFrames n) (omega (arith, frames-more n l)))
+
+  -- the length is told at the last frame, and at no other
+  pub due-length : (k : ℕ) → doneLength (answerDue n k) ≡ cond (eqb (k + 1) (messageFrames n)) n 0
+  unfolding answerDue
+  due-length k =
+      whether (eqb (k + 1) (messageFrames n)) (λ t. rw t)
+      (λ t. whether (eqb k 0) (λ z. rw (t, z)) (λ z. rw (t, z)))

@@ -1,7 +1,7 @@
 -- What the number of frames of a length tells of a frame's number.
 use Prim.Native.Nat.{ℕ, zero, suc, _-_, _<_, _≤_}
 use native.Mathlib.Omega.{arith}
-use mathlib.Core.Path.{_≡_, refl, _∙_}
+use mathlib.Core.Path.{_≡_, refl, sym, _∙_}
 use mathlib.Core.Bool.{Bool, true, false, cond}
 use mathlib.Core.List.{List}
 use borrow.Author.Tests.{lt-ltb, le-ltb, leb-true}
@@ -12,6 +12,7 @@ use Rattle.refusal.specs.declared.Refusal.{Refusal}
 use Rattle.transport.specs.Cutting.{isLength, longest, messageFrames, messageFrame, nextFrame, countOf, withoutFrame, cutOf}
 use Rattle.transport.specs.declared.cutting.Counted.the-variants.{Frames, Refused}
 use Rattle.transport.specs.declared.cutting.Answer.the-variants as answer
+use Rattle.transport.proofs.CuttingLaws.{frame-next}
 use Rattle.transport.proofs.Tests.{and-right}
 
 -- a length with a number of frames is one that is not refused
@@ -46,6 +47,5 @@ cut-missing nad k m f e h = let p = picked-frames (isLength (length m)) (message
 
 -- a frame behind the first
 pub later-frame : (nad k : ℕ) (m bytes : List ℕ) → 0 < k → bytes ≡ nextFrame nad m (k - 1) → bytes ≡ messageFrame nad m k
-unfolding messageFrame
 later-frame nad zero m bytes h e = absurd (omega arith)
-later-frame nad (suc i) m bytes h e = let q : suc i - 1 ≡ i = omega arith in e ∙ rw q
+later-frame nad (suc i) m bytes h e = let q : suc i - 1 ≡ i = omega arith in e ∙ rw q (sym (frame-next nad m i))

@@ -1,17 +1,18 @@
 -- The round trip: the frames cut from a message, taken one after the other, put the message into the buffer.
 use Prim.Native.Nat.{ℕ, zero, suc, _+_, _-_, _*_, _/_, _≤_, _<_}
 use mathlib.Core.Path.{_≡_, refl}
-use mathlib.Core.Bool.{true}
+use mathlib.Core.Bool.{true, cond}
 use mathlib.Core.List.{List, _++_}
 use native.Mathlib.Omega.{arith}
 use borrow.Author.Tests.{leb-true, ne-eqb}
-use lib.Dec.{leb}
+use lib.Dec.{leb, eqb}
 use lib.ListN.{length, drop}
+use Rattle.transport.specs.Answers.{doneLength}
 use Rattle.transport.specs.Cutting.{isLength, longest, messageFrames, messageFrame}
 use Rattle.transport.specs.Reassembly.{fits, listens}
 use Rattle.transport.specs.Exchange.{Between, answerTo, afterFrames, answerDue}
 use Rattle.transport.specs.declared.reassembly.Reassembly.the-variants.{Nothing}
-use Rattle.transport.proofs.AnswersDue.{next-frame-due, due-single, due-first, due-more, due-last}
+use Rattle.transport.proofs.AnswersDue.{next-frame-due, due-single, due-first, due-more, due-last, due-length}
 use Rattle.transport.proofs.CuttingLaws.{frame-single, frame-first, frame-next, frames-one, frames-more}
 use Rattle.transport.proofs.Filled.{filled-all}
 use Rattle.transport.proofs.Received.{complete, midway, midway-fits, single-received, first-received, more-received, last-received}
@@ -74,6 +75,11 @@ module _
   answers-due (suc i) h =
       let l = next-frame-due (length m) i h in
       rw (between-frames i h) (next-answer i (l .0) (l .1))
+
+  -- the length is told at the last frame, and at no other
+  pub length-told : (k : ℕ) → k < messageFrames (length m)
+      → doneLength (answerTo (afterFrames nad m x k) (messageFrame nad m k)) ≡ cond (eqb (k + 1) (messageFrames (length m))) (length m) 0
+  length-told k h = rw (answers-due k h) (due-length (length m) k)
 
   all-frames : afterFrames nad m x (messageFrames (length m)) ≡ complete m (x .buffer)
   unfolding afterFrames

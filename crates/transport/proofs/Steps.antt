@@ -2,7 +2,7 @@
 use Prim.Native.Nat.{ℕ}
 use native.Mathlib.Omega.{arith}
 use mathlib.Core.Path.{_≡_, refl, sym, _∙_}
-use mathlib.Core.Bool.{true, false, not, and-false}
+use mathlib.Core.Bool.{Bool, true, false, and-false}
 use mathlib.Core.List.{List}
 use borrow.Author.Tests.{eq-eqb, ne-eqb, eqb-true}
 use lib.Dec.{ltb, eqb}
@@ -20,15 +20,12 @@ use Rattle.transport.proofs.KindLaws.{kind-next}
 use Rattle.transport.proofs.StepCases.{listens-same, other-pci-not-too-short}
 use Rattle.transport.proofs.Tests.{whether}
 
--- only next frames are next frames
-pub single-apart : single ≡ next → ⊥
-single-apart e = let n : _≡_ {A = ℕ} 0 1 = cc in omega arith
-
-pub first-apart : first ≡ next → ⊥
-first-apart e = let n : _≡_ {A = ℕ} 0 1 = cc in omega arith
-
-pub other-apart : other ≡ next → ⊥
-other-apart e = let n : _≡_ {A = ℕ} 0 1 = cc in omega arith
+-- a next frame, and not one of the other kinds
+abbrev pub isNext : Kind → Bool
+isNext single = false
+isNext first = false
+isNext next = true
+isNext other = false
 
 -- refusal 2 is not given where the state is refused, where the frame is not of eight bytes, where the NAD is ignored, and
 -- where the frame is no next frame
@@ -54,12 +51,17 @@ not-short-nad (Open m) f b e h =
     absurd (omega arith))
     (λ q. simp (q, and-false))
 
-not-short-kind : (s : Reassembly) (f b : List ℕ) → fits s ≡ true → (kindOf (framePci f) ≡ next → ⊥) → tooShort s f b ≡ false
+not-short-kind : (s : Reassembly) (f b : List ℕ) → fits s ≡ true → isNext (kindOf (framePci f)) ≡ false → tooShort s f b ≡ false
 unfolding fits tooShort
 not-short-kind Nothing f b e h = refl
 not-short-kind (Open m) f b e h =
     let c = counter-below m e in
-    other-pci-not-too-short m f b (λ q. h (kind-next (framePci f) (omega (arith, q)) (omega (arith, q))))
+    other-pci-not-too-short m f b
+    (λ q.
+    let k = kind-next (framePci f) (omega (arith, q)) (omega (arith, q)) in
+    let t : isNext (kindOf (framePci f)) ≡ true = rw k in
+    let n : _≡_ {A = ℕ} 0 1 = cc in
+    omega arith)
 
 module _ (s : Reassembly) (f b : List ℕ) where
   pub step-unfit : fits s ≡ false → step s f b ≡ plain s (Refused (refused state))
@@ -77,11 +79,9 @@ module _ (s : Reassembly) (f b : List ℕ) where
       step-nad h = rw (not-short-nad s f b fit h, fit, eq-eqb (length f) 8 eight, h)
 
       module _ (heard : listens s (frameNad f) ≡ true) where
-        pub step-kind : (k : Kind) → kindOf (framePci f) ≡ k → (k ≡ next → ⊥) → step s f b ≡ kindOutcome k s f b
+        pub step-kind : (k : Kind) → kindOf (framePci f) ≡ k → isNext k ≡ false → step s f b ≡ kindOutcome k s f b
         unfolding step ignored kindOutcome
-        step-kind k e n =
-            let no : kindOf (framePci f) ≡ next → ⊥ = (λ q. n (sym e ∙ q)) in
-            rw (not-short-kind s f b fit no, fit, eq-eqb (length f) 8 eight, heard, e)
+        step-kind k e n = rw (not-short-kind s f b fit (rw e n), fit, eq-eqb (length f) 8 eight, heard, e)
 
 -- a next frame of the open NAD, in a state that fits
 next-open : (m : Message) (f b : List ℕ) → messageFits m ≡ true → length f ≡ 8 → listens (Open m) (frameNad f) ≡ true → kindOf (framePci f) ≡ next
@@ -106,4 +106,4 @@ step-next (Open m) f b e l h k = next-open m f b e l h k
 pub step-other : (s : Reassembly) (f b : List ℕ) → fits s ≡ true → length f ≡ 8 → listens s (frameNad f) ≡ true → kindOf (framePci f) ≡ other
     → step s f b ≡ plain s Ignored
 unfolding kindOutcome kindIgnored
-step-other s f b e l h k = step-kind s f b e l h other k other-apart
+step-other s f b e l h k = step-kind s f b e l h other k refl

@@ -1,5 +1,5 @@
-use borrow.Author.Tests.{lt-leb}
 -- `cutting::count` meets its contract.
+use borrow.Author.Tests.{lt-leb}
 use Rattle.transport.specs.Cutting.{countOf}
 use borrow.Author.Tests.{le-leb, leb-true}
 use native.Mathlib.Omega.{arith}

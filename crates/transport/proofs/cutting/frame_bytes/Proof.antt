@@ -1,10 +1,9 @@
-use native.Mathlib.Omega.{arith}
-use mathlib.Core.Path.{_≡_}
-use borrow.Author.Tests.{le-leb, lt-leb}
-use Rattle.transport.specs.Cutting.{messageFrame}
-use Rattle.transport.proofs.Counting.{later-frame}
 -- `cutting::frame_bytes` meets its contract.
+use native.Mathlib.Omega.{arith}
+use mathlib.Core.Path.{_≡_, sym, _∙_}
 use borrow.Author.Needs.{needs}
+use Rattle.transport.proofs.Counting.{later-frame}
+use Rattle.transport.proofs.CuttingLaws.{frame-single, frame-first}
 use Rattle.transport.proofs.cutting.frame_bytes.Statement.{statement}
 use Rattle.transport.proofs.cutting.frame_bytes.Tie as tie
 
@@ -21,19 +20,17 @@ single-frame-requires : tie.Need-single-frame-requires
 single-frame-requires c κs = search needs
 
 returns-2 : tie.Need-returns-2
-unfolding messageFrame
 returns-2 c =
     let e : c .before .before .before .before .args .k ≡ 0 = omega arith in
-    simp (e, le-leb _ _ (c .before .if2 .taken), c .single-frame .ensures)
+    rw e (c .single-frame .ensures ∙ sym (frame-single _ _ (c .before .if2 .taken)))
 
 first-frame-requires : tie.Need-first-frame-requires
 first-frame-requires c κs = search needs
 
 returns-3 : tie.Need-returns-3
-unfolding messageFrame
 returns-3 c =
     let e : c .before .before .before .before .args .k ≡ 0 = omega arith in
-    simp (e, lt-leb _ _ (c .before .if2 .left), c .first-frame .ensures)
+    rw e (c .first-frame .ensures ∙ sym (frame-first _ _ (c .before .if2 .left)))
 
 pub frame-bytes-spec : {M : Type 1} → statement M
 frame-bytes-spec =

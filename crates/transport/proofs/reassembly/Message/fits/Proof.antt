@@ -1,5 +1,5 @@
-use Rattle.transport.proofs.Fitting.{fits-by-counter}
 -- `Message::fits` meets its contract: each way out has the tests that led there.
+use Rattle.transport.proofs.Fitting.{fits-by-counter}
 use Rattle.transport.specs.Reassembly.{messageFits}
 use borrow.Author.Tests.{eq-eqb, ne-eqb, lt-ltb, le-ltb, lt-leb, le-leb}
 use native.Mathlib.Omega.{arith}

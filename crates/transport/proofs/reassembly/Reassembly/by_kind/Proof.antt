@@ -1,7 +1,8 @@
+-- `Reassembly::by_kind` meets its contract: each range of the match is a kind of the definition.
+use mathlib.Core.Path.{refl}
 use mathlib.Core.Logic.{inl, inr, ⊎-elim}
 use Rattle.transport.proofs.KindLaws.{NoKind, kind-single, kind-first, kind-next, kind-other}
--- `Reassembly::by_kind` meets its contract: each range of the match is a kind of the definition.
-use Rattle.transport.proofs.Steps.{step-kind, step-next, step-other, single-apart, first-apart}
+use Rattle.transport.proofs.Steps.{step-kind, step-next, step-other}
 use Rattle.transport.proofs.Outcomes.{leaves-plain}
 use Rattle.transport.specs.Reassembly.{framePci, single, first, next}
 use native.Mathlib.Omega.{arith}
@@ -32,7 +33,7 @@ returns c =
     let d = c .before .before .before .before .before in
     let p = d .before .before .before .before .pre in
     let kind = kind-single (framePci (d .before .before .before .before .args .frame .now)) (d .if1 .left) (omega arith) in
-    rw (step-kind _ _ _ (p .0) (p .1) (p .2) single kind single-apart) (c .before .before .single .ensures)
+    rw (step-kind _ _ _ (p .0) (p .1) (p .2) single kind refl) (c .before .before .single .ensures)
 
 same-length-2 : tie.Need-same-length-2
 same-length-2 c = search needs
@@ -42,7 +43,7 @@ returns-2 c =
     let d = c .before .before .before .before .before in
     let p = d .before .before .before .before .before .before .pre in
     let kind = kind-first (framePci (d .before .before .before .before .before .before .args .frame .now)) (d .if3 .left) (omega arith) in
-    rw (step-kind _ _ _ (p .0) (p .1) (p .2) first kind first-apart) (c .before .before .first .ensures)
+    rw (step-kind _ _ _ (p .0) (p .1) (p .2) first kind refl) (c .before .before .first .ensures)
 
 same-length-3 : tie.Need-same-length-3
 same-length-3 c = search needs
