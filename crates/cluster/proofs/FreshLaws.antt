@@ -26,7 +26,7 @@ use Rattle.cluster.proofs.Starts.{start-within, start-is, start-bytes-l
 -- ---- the bits of no signal
 
 -- a bit that is not inside stands before or behind
-not-inside : (o w j : ℕ) → inside o w j ≡ false → Apart j 1 o w
+pub not-inside : (o w j : ℕ) → inside o w j ≡ false → Apart j 1 o w
 not-inside o w j h =
     order j o
     (λ a. inl (omega arith))

@@ -32,4 +32,6 @@ pub mod SignalTurn
 pub mod Starts
 pub mod Taken
 pub mod UsedMarks
+pub mod ValueLaws
+pub mod ValueSteps
 pub mod Widths

@@ -1,4 +1,5 @@
 pub mod Table
+pub mod Values
 pub mod Right
 pub mod Check
 pub mod Lists

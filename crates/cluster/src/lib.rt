@@ -9,6 +9,7 @@ mod marks;
 pub mod members;
 pub mod signals;
 mod table;
+pub mod values;
 
 ghost use mathlib.Core.Path.{_≡_};
 ghost use Rattle.cluster.specs.Check.{fault as faultAt, judged};

@@ -1,0 +1,21 @@
+-- `cluster::values::put_array` meets its contract: the bytes are put where the table has them.
+use borrow.Author.Needs.{needs}
+use Rattle.cluster.specs.Values.{withArray}
+use Rattle.cluster.proofs.values.put_array.Statement.{statement}
+use Rattle.cluster.proofs.values.put_array.Tie as tie
+
+place-requires : tie.Need-place-requires
+place-requires c κs = search needs
+
+put-array-requires : tie.Need-put-array-requires
+put-array-requires c κs = search needs
+
+same-length : tie.Need-same-length
+same-length c = search needs
+
+returns : tie.Need-returns
+unfolding withArray
+returns c = rw (← c .before .before .before .place .ensures) (c .before .before .put-array .ensures)
+
+pub put-array-spec : {M : Type 1} → statement M
+put-array-spec = tie.close (tie.spec place-requires put-array-requires same-length returns)

@@ -1,0 +1,151 @@
+-- The state that a step of a call leaves fits the same table: marking, asking, waiting, reading, sending, closing, and one more byte.
+use Prim.Native.Nat.{ℕ, _+_, _-_, _<_}
+use mathlib.Core.Path.{_≡_, refl}
+use mathlib.Core.Bool.{Bool, true}
+use mathlib.Core.List.{List}
+use native.Mathlib.Omega.{arith}
+use borrow.Author.Tests.{ltb-true, lt-ltb, leb-true, le-leb}
+use Rattle.cluster.specs.Check.{RightTable}
+use Rattle.cluster.specs.Table.{signalCount, scheduleCount}
+use Rattle.cluster.specs.Values.{signalPublished}
+use Rattle.transport.specs.Cutting.{isLength}
+use Rattle.transport.proofs.Tests.{whether}
+use Rattle.master.specs.declared.state.Message.the-variants as message
+use Rattle.master.specs.declared.state.State.{State}
+use Rattle.master.specs.Fresh.{fresh}
+use Rattle.master.specs.Transfers.{isOpen, openLength}
+use Rattle.master.specs.Fits.{entryThere, scheduleThere, frameThere, currentDelay, waitFits, isSending, canOpen}
+use Rattle.master.specs.Fits.{countFits, messageFits, stateFits}
+use Rattle.master.specs.Write.{marked, rewritten}
+use Rattle.master.specs.Plan.{asking, waited}
+use Rattle.master.specs.Select.{withPlan}
+use Rattle.master.specs.Status.{withoutStatus}
+use Rattle.master.specs.Message.{messageSent, messageFailed, withMessage}
+use Rattle.master.specs.Closing.{failed, succeeded}
+use Rattle.master.specs.Byte.{passed, early}
+use Rattle.master.proofs.Admitted.{Fits}
+use Rattle.master.proofs.MessageFits.{message-failed-fits, message-sent-fits, first-frame-fits, nothing-open, open-sending}
+use Rattle.master.proofs.PendingFits.{none-pending, sent-fits, marks-fit}
+
+-- the fresh state fits every table
+pub fresh-fits : (t : List ℕ) → stateFits t fresh ≡ true
+unfolding stateFits fresh entryThere scheduleThere frameThere waitFits currentDelay canOpen isOpen countFits messageFits
+fresh-fits t = rw (none-pending t 0 60)
+
+module _ (t : List ℕ) (s : State) (fits : Fits t s) where
+  -- the state after a write of a published signal fits
+  pub marked-fits : RightTable t → (s' : ℕ) → s' < signalCount t → signalPublished t s' ≡ true → Fits t (marked t s' s)
+  unfolding marked rewritten countFits
+  marked-fits ok s' hs p = record {
+    entry-there = fits .entry-there;
+    schedule-there = fits .schedule-there;
+    frame-there = fits .frame-there;
+    wait-fits = fits .wait-fits;
+    pending-fits = marks-fit t ok s' hs p 0 (s .pending) (fits .pending-fits);
+    can-open = fits .can-open;
+    count-fits = fits .count-fits;
+    message-fits = fits .message-fits;
+  }
+
+  -- the state after a select of a schedule that is there fits
+  pub asking-fits : (n : ℕ) → n < scheduleCount t → Fits t (withPlan s (asking (s .plan) n))
+  unfolding withPlan asking scheduleThere waitFits
+  asking-fits n h = record {
+    entry-there = fits .entry-there;
+    schedule-there = lt-ltb n (scheduleCount t) h;
+    frame-there = fits .frame-there;
+    wait-fits = fits .wait-fits;
+    pending-fits = fits .pending-fits;
+    can-open = fits .can-open;
+    count-fits = fits .count-fits;
+    message-fits = fits .message-fits;
+  }
+
+  -- the state after a waiting tick fits
+  pub waited-fits : Fits t (withPlan s (waited (s .plan)))
+  unfolding withPlan waited waitFits
+  waited-fits = record {
+    entry-there = fits .entry-there;
+    schedule-there = fits .schedule-there;
+    frame-there = fits .frame-there;
+    wait-fits = le-leb (s .plan .wait - 1) (currentDelay t (s .plan .current))
+        (omega (arith, leb-true (s .plan .wait) (currentDelay t (s .plan .current)) (fits .wait-fits)));
+    pending-fits = fits .pending-fits;
+    can-open = fits .can-open;
+    count-fits = fits .count-fits;
+    message-fits = fits .message-fits;
+  }
+
+  -- the state after a status reading fits
+  pub status-fits : Fits t (withoutStatus s)
+  unfolding withoutStatus
+  status-fits = record {
+    entry-there = fits .entry-there;
+    schedule-there = fits .schedule-there;
+    frame-there = fits .frame-there;
+    wait-fits = fits .wait-fits;
+    pending-fits = fits .pending-fits;
+    can-open = fits .can-open;
+    count-fits = fits .count-fits;
+    message-fits = fits .message-fits;
+  }
+
+  -- the state after a send of a message with a right length fits
+  pub send-fits : (nad n : ℕ) → isLength n ≡ true → Fits t (withMessage s (message.Sending (record { nad = nad; length = n; next = 0 })))
+  unfolding withMessage isSending
+  send-fits nad n h = record {
+    entry-there = fits .entry-there;
+    schedule-there = fits .schedule-there;
+    frame-there = fits .frame-there;
+    wait-fits = fits .wait-fits;
+    pending-fits = fits .pending-fits;
+    can-open = open-sending t (s .message) _ (s .plan .current) (s .transfer .opened) refl (fits .can-open);
+    count-fits = fits .count-fits;
+    message-fits = first-frame-fits nad n h;
+  }
+
+  -- the state after a failed transfer fits
+  pub failed-fits : (counts : Bool) → Fits t (failed t s counts)
+  unfolding failed frameThere countFits isOpen
+  failed-fits counts = record {
+    entry-there = fits .entry-there;
+    schedule-there = fits .schedule-there;
+    frame-there = refl;
+    wait-fits = fits .wait-fits;
+    pending-fits = fits .pending-fits;
+    can-open = nothing-open t (messageFailed (s .transfer .opened) (s .message)) (s .plan .current);
+    count-fits = refl;
+    message-fits = message-failed-fits (s .transfer .opened) (s .message) (fits .message-fits);
+  }
+
+  -- the state after a successful transfer fits
+  pub succeeded-fits : Fits t (succeeded t s)
+  unfolding succeeded frameThere countFits isOpen
+  succeeded-fits = record {
+    entry-there = fits .entry-there;
+    schedule-there = fits .schedule-there;
+    frame-there = refl;
+    wait-fits = fits .wait-fits;
+    pending-fits = sent-fits t (s .transfer .opened) (s .transfer .written) (s .pending) (fits .pending-fits);
+    can-open = nothing-open t (messageSent (s .transfer .opened) (s .message)) (s .plan .current);
+    count-fits = refl;
+    message-fits = message-sent-fits (s .transfer .opened) (s .message) (fits .message-fits);
+  }
+
+  -- the state after a byte that is not the last one fits
+  pub passed-fits : (nine : List ℕ) → early t (s .transfer) ≡ true → Fits t (passed s nine)
+  unfolding passed countFits early
+  passed-fits nine h = record {
+    entry-there = fits .entry-there;
+    schedule-there = fits .schedule-there;
+    frame-there = fits .frame-there;
+    wait-fits = fits .wait-fits;
+    pending-fits = fits .pending-fits;
+    can-open = fits .can-open;
+    count-fits =
+        whether (isOpen (s .transfer .opened))
+        (λ y. rw y (le-leb (s .transfer .count + 1) (openLength t (s .transfer .opened))
+        (omega (arith, ltb-true (s .transfer .count) (openLength t (s .transfer .opened)) h))))
+        (λ n. rw n);
+    message-fits = fits .message-fits;
+  }

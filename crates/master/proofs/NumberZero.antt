@@ -1,0 +1,117 @@
+-- The number 0 stands for no refusal: a verdict of a call that has it accepts.
+use Prim.Native.Nat.{ℕ, suc}
+use mathlib.Core.Path.{_≡_, refl}
+use mathlib.Core.Bool.{Bool, true, false, not, _&&_, Bool·beq}
+use mathlib.Core.List.{List, [], _∷_}
+use native.Mathlib.Omega.{arith}
+use lib.Dec.{ltb, eqb}
+use lib.ListN.{length}
+use Rattle.cluster.specs.declared.Verdict.{Verdict}
+use Rattle.cluster.specs.declared.Verdict.the-variants.{Accepted, Refused}
+use Rattle.cluster.specs.Right.{wordsRight}
+use Rattle.cluster.specs.Check.{faults, surplus, judged, then}
+use Rattle.cluster.specs.Table.{size, signalCount, scheduleCount, memberCount, isArray}
+use Rattle.cluster.specs.Values.{signalPublished}
+use Rattle.transport.specs.Cutting.{isLength}
+use Rattle.transport.proofs.Tests.{whether}
+use Rattle.master.specs.declared.state.State.{State}
+use Rattle.master.specs.Fits.{stateFits, isSending, lentFits}
+use Rattle.master.specs.Transfers.{isOpen}
+use Rattle.master.specs.Admit.{unless, bufferSize, admitted}
+use Rattle.master.specs.Answers.{verdictNumber}
+use Rattle.master.specs.Start.{freshVerdict}
+use Rattle.master.specs.Write.{writable}
+use Rattle.master.specs.Read.{readVerdict}
+use Rattle.master.specs.Select.{selectVerdict}
+use Rattle.master.specs.Message.{sendVerdict}
+use Rattle.master.specs.Tick.{tickVerdict}
+use Rattle.master.specs.Byte.{byteVerdict}
+use Rattle.master.specs.Ahead.{memberOf, aheadVerdict}
+
+-- a verdict that refuses with no 0
+abbrev pub Numbered : Verdict → Type 0
+Numbered v = verdictNumber v ≡ 0 → v ≡ Accepted
+
+accepting : Numbered Accepted
+accepting e = refl
+
+both : (v w : Verdict) → Numbered v → Numbered w → Numbered (then v w)
+both Accepted w a b = b
+both (Refused r) w a b = a
+
+tested : (b : Bool) (n : ℕ) (v : Verdict) → Numbered v → Numbered (unless b (suc n) v)
+tested true n v a = a
+tested false n v a = λ e. absurd (omega arith)
+
+-- ---- the tests at the head of the calls
+
+words-numbered : (t : List ℕ) (i : ℕ) (rights : List Bool) → Numbered (faults t i rights)
+unfolding faults
+words-numbered t i [] = accepting
+words-numbered t i (right ∷ rest) =
+    whether (ltb i (length t) && right) (λ y. rw y (words-numbered t (suc i) rest)) (λ n. rw n (λ e. absurd (omega arith)))
+
+surplus-numbered : (t : List ℕ) → Numbered (surplus t)
+unfolding surplus
+surplus-numbered t = whether (ltb (size t) (length t)) (λ y. rw y (λ e. absurd (omega arith))) (λ n. rw n accepting)
+
+judged-numbered : (t : List ℕ) → Numbered (judged t)
+unfolding judged
+judged-numbered t = both (faults t 0 (wordsRight t)) (surplus t) (words-numbered t 0 (wordsRight t)) (surplus-numbered t)
+
+-- tests 1, 2 and 3
+pub admitted-numbered : (t : List ℕ) (n : ℕ) (s : State) → Numbered (admitted t n s)
+unfolding admitted
+admitted-numbered t n s =
+    both (judged t) _ (judged-numbered t) (tested (eqb n (bufferSize t)) 1 _ (tested (stateFits t s) 2 Accepted accepting))
+
+-- ---- the calls
+
+-- fresh
+pub fresh-numbered : (t : List ℕ) (n : ℕ) → Numbered (freshVerdict t n)
+unfolding freshVerdict
+fresh-numbered t n = both (judged t) _ (judged-numbered t) (tested (eqb n (bufferSize t)) 1 Accepted accepting)
+
+-- a write
+pub write-numbered : (t : List ℕ) (n : ℕ) (x : State) (s : ℕ) (array fits : Bool) → Numbered (then (admitted t n x) (writable t s array fits))
+unfolding writable
+write-numbered t n x s array fits =
+    both (admitted t n x) _ (admitted-numbered t n x)
+    (tested (ltb s (signalCount t)) 3 _
+    (tested (signalPublished t s) 4 _ (tested (Bool·beq (isArray t s) array) 5 _ (tested fits 6 Accepted accepting))))
+
+-- a read
+pub read-numbered : (t : List ℕ) (n : ℕ) (x : State) (s : ℕ) (array : Bool) → Numbered (readVerdict t n x s array)
+unfolding readVerdict
+read-numbered t n x s array =
+    both (admitted t n x) _ (admitted-numbered t n x)
+    (tested (ltb s (signalCount t)) 3 _ (tested (Bool·beq (isArray t s) array) 5 Accepted accepting))
+
+-- select
+pub select-numbered : (t : List ℕ) (s : State) (n : ℕ) → Numbered (selectVerdict t s n)
+unfolding selectVerdict
+select-numbered t s n =
+    both (admitted t (bufferSize t) s) _ (admitted-numbered t (bufferSize t) s) (tested (ltb n (scheduleCount t)) 3 Accepted accepting)
+
+-- tick
+pub tick-numbered : (t : List ℕ) (n lent : ℕ) (s : State) → Numbered (tickVerdict t n lent s)
+unfolding tickVerdict
+tick-numbered t n lent s = both (admitted t n s) _ (admitted-numbered t n s) (tested (lentFits (s .message) lent) 2 Accepted accepting)
+
+-- byte in
+pub byte-numbered : (t : List ℕ) (n : ℕ) (s : State) → Numbered (byteVerdict t n s)
+unfolding byteVerdict
+byte-numbered t n s = both (admitted t n s) _ (admitted-numbered t n s) (tested (isOpen (s .transfer .opened)) 7 Accepted accepting)
+
+-- send
+pub send-numbered : (t : List ℕ) (s : State) (n : ℕ) → Numbered (sendVerdict t s n)
+unfolding sendVerdict
+send-numbered t s n =
+    both (admitted t (bufferSize t) s) _ (admitted-numbered t (bufferSize t) s)
+    (tested (isLength n) 8 _ (tested (not (isSending (s .message))) 9 Accepted accepting))
+
+-- number ahead
+pub ahead-numbered : (t : List ℕ) (s : State) (f : ℕ) → Numbered (aheadVerdict t s f)
+unfolding aheadVerdict
+ahead-numbered t s f =
+    both (admitted t (bufferSize t) s) _ (admitted-numbered t (bufferSize t) s) (tested (ltb (memberOf t f) (memberCount t)) 3 Accepted accepting)

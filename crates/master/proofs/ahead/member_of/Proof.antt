@@ -1,0 +1,61 @@
+-- `ahead::member_of` meets its contract.
+use Prim.Native.Nat.{_-_}
+use borrow.Author.Needs.{needs}
+use borrow.Author.Tests.{eq-eqb, ne-eqb}
+use lib.Dec.{eqb}
+use mathlib.Core.Path.{_∙_, _≡_, refl, sym}
+use native.Mathlib.Nat.{sub-zero}
+use Rattle.cluster.proofs.Searching.{ended, right, wrong}
+use Rattle.cluster.specs.Lists.{firstFrom}
+use Rattle.cluster.specs.Table.{memberCount, memberFrame}
+use Rattle.master.specs.Ahead.{memberOf}
+use Rattle.master.proofs.ahead.member_of.Statement.{statement}
+use Rattle.master.proofs.ahead.member_of.Tie as tie
+
+abbrev Inv-loop : tie.InvT-loop
+Inv-loop t f n m₀ m = (n ≡ memberCount t) × (memberOf t f ≡ firstFrom (λ k. eqb (memberFrame t k) f) m (n - m))
+
+abbrev μ-loop : tie.MeasureT-loop
+μ-loop t f n m₀ m = n - m
+
+count-requires : tie.Need-count-requires Inv-loop μ-loop
+count-requires c κs = search needs
+
+loop-holds : tie.Need-loop-holds Inv-loop μ-loop
+unfolding memberOf
+loop-holds c = (c .count .ensures, rw (c .count .ensures, sub-zero) refl)
+
+frame-requires : tie.Need-frame-requires Inv-loop μ-loop
+frame-requires c κs = search needs
+
+returns : tie.Need-returns Inv-loop μ-loop
+returns c = sym (c .before .before .before .loop .inv .1 ∙ right _ _ _ (c .before .before .loop-test .taken) (eq-eqb _ _ (sym (c .before .frame .ensures) ∙ c .if1 .taken)))
+
+add-m : tie.Need-add-m Inv-loop μ-loop
+add-m c = search needs
+
+loop-less : tie.Need-loop-less Inv-loop μ-loop
+loop-less c = search needs
+
+loop-again : tie.Need-loop-again Inv-loop μ-loop
+loop-again c =
+    let at = c .before .before .before .loop in
+    (at .inv .0, at .inv .1 ∙ wrong _ _ _ (c .before .before .loop-test .taken) (ne-eqb _ _ (λ e. c .if1 .left (c .before .frame .ensures ∙ e))))
+
+returns-2 : tie.Need-returns-2 Inv-loop μ-loop
+returns-2 c = sym (c .before .loop .inv .1 ∙ ended _ _ _ (c .loop-test .left))
+
+pub member-of-spec : {M : Type 1} → statement M
+member-of-spec =
+    tie.close
+    (tie.spec
+    Inv-loop
+    μ-loop
+    count-requires
+    loop-holds
+    frame-requires
+    returns
+    add-m
+    loop-less
+    loop-again
+    returns-2)

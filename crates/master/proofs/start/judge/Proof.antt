@@ -1,0 +1,48 @@
+-- `start::judge` meets its contract.
+use borrow.Author.Needs.{needs}
+use borrow.Author.Tests.{eq-eqb, ne-eqb}
+use Rattle.master.specs.Start.{freshVerdict}
+use Rattle.master.proofs.start.judge.Statement.{statement}
+use Rattle.master.proofs.start.judge.Tie as tie
+
+check-requires : tie.Need-check-requires
+check-requires c κs = search needs
+
+enum-known-refusal : tie.Need-enum-known-refusal
+enum-known-refusal c = search needs
+
+returns : tie.Need-returns
+unfolding freshVerdict
+returns c = rw (← c .before .before .before .check .ensures, c .before .refusal .given .1)
+
+enum-told : tie.Need-enum-told
+enum-told c = search needs
+
+buffer-size-requires : tie.Need-buffer-size-requires
+buffer-size-requires c κs = search needs
+
+refused-requires : tie.Need-refused-requires
+refused-requires c κs = search needs
+
+returns-2 : tie.Need-returns-2
+unfolding freshVerdict
+returns-2 c =
+    let check = c .before .before .before .before .before .check in
+    rw (← check .ensures, c .before .before .before .enum-told .given .1, ← c .before .before .buffer-size .ensures, ne-eqb _ _ (c .before .if1 .taken), c .refused .ensures)
+
+returns-3 : tie.Need-returns-3
+unfolding freshVerdict
+returns-3 c = rw (← c .before .before .before .before .check .ensures, c .before .before .enum-told .given .1, ← c .before .buffer-size .ensures, eq-eqb _ _ (c .if1 .left))
+
+pub judge-spec : {M : Type 1} → statement M
+judge-spec =
+    tie.close
+    (tie.spec
+    check-requires
+    enum-known-refusal
+    returns
+    enum-told
+    buffer-size-requires
+    refused-requires
+    returns-2
+    returns-3)

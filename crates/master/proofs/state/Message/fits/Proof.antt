@@ -1,0 +1,50 @@
+-- `state::Message::fits` meets its contract.
+use borrow.Author.Needs.{needs}
+use Rattle.master.specs.Fits.{messageFits}
+use Rattle.master.proofs.state.Message.fits.Statement.{statement}
+use Rattle.master.proofs.state.Message.fits.Tie as tie
+
+enum-told : tie.Need-enum-told
+enum-told c = search needs
+
+enum-known-self : tie.Need-enum-known-self
+enum-known-self c = search needs
+
+fits-requires : tie.Need-fits-requires
+fits-requires c κs = search needs
+
+enum-told-2 : tie.Need-enum-told-2
+enum-told-2 c = search needs
+
+enum-told-3 : tie.Need-enum-told-3
+enum-told-3 c = search needs
+
+returns : tie.Need-returns
+unfolding messageFits
+returns c = rw (c .enum-told .given .1)
+
+returns-2 : tie.Need-returns-2
+unfolding messageFits
+returns-2 c = rw (c .before .before .self .given .1, c .fits2 .ensures)
+
+returns-3 : tie.Need-returns-3
+unfolding messageFits
+returns-3 c = rw (c .enum-told2 .given .1)
+
+returns-4 : tie.Need-returns-4
+unfolding messageFits
+returns-4 c = rw (c .enum-told3 .given .1)
+
+pub fits-spec : {M : Type 1} → statement M
+fits-spec =
+    tie.close
+    (tie.spec
+    enum-told
+    enum-known-self
+    fits-requires
+    enum-told-2
+    enum-told-3
+    returns
+    returns-2
+    returns-3
+    returns-4)

@@ -1,0 +1,54 @@
+-- `state::Opened::checksum_right` meets its contract.
+use borrow.Author.Needs.{needs}
+use lib.ListN.{length}
+use mathlib.Core.Path.{_≡_}
+use native.Mathlib.Nat.{sub-zero}
+use native.Mathlib.Omega.{arith}
+use Rattle.master.proofs.Parts.{first-length}
+use Rattle.master.specs.Byte.{checksumRight}
+use Rattle.master.proofs.state.Opened.checksum_right.Statement.{statement}
+use Rattle.master.proofs.state.Opened.checksum_right.Tie as tie
+
+length-requires : tie.Need-length-requires
+length-requires c κs = search needs
+
+cast-n : tie.Need-cast-n
+cast-n c = search needs
+
+array-read-result : tie.Need-array-read-result
+array-read-result c = omega (arith, c .length .ensures, c .before .before .pre .2)
+
+sub-checksum : tie.Need-sub-checksum
+sub-checksum c = search needs
+
+part-checksum-start : tie.Need-part-checksum-start
+part-checksum-start c = search needs
+
+part-checksum-end : tie.Need-part-checksum-end
+part-checksum-end c = omega (arith, c .before .length .ensures, c .before .before .before .pre .2)
+
+checksum-requires : tie.Need-checksum-requires
+checksum-requires c κs =
+    let a = c .before .before .before .before .args in
+    let asked = c .before .before .before .before .pre in
+    let told = c .before .before .length in
+    let l : length (a .t3) ≡ 9 = search needs in
+    let k = first-length (a .t3) (told .result) (omega (arith, l, told .ensures, asked .2)) in
+    (asked .0, omega (arith, k, told .ensures, asked .1), omega (arith, k, told .ensures, asked .2))
+
+returns : tie.Need-returns
+unfolding checksumRight
+returns c = rw (c .checksum .ensures, c .before .before .before .length .ensures, sub-zero)
+
+pub checksum-right-spec : {M : Type 1} → statement M
+checksum-right-spec =
+    tie.close
+    (tie.spec
+    length-requires
+    cast-n
+    array-read-result
+    sub-checksum
+    part-checksum-start
+    part-checksum-end
+    checksum-requires
+    returns)

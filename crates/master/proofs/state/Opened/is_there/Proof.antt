@@ -1,0 +1,50 @@
+-- `state::Opened::is_there` meets its contract.
+use borrow.Author.Needs.{needs}
+use Rattle.master.specs.Fits.{frameThere}
+use Rattle.master.proofs.state.Opened.is_there.Statement.{statement}
+use Rattle.master.proofs.state.Opened.is_there.Tie as tie
+
+enum-told : tie.Need-enum-told
+enum-told c = search needs
+
+enum-known-self : tie.Need-enum-known-self
+enum-known-self c = search needs
+
+count-requires : tie.Need-count-requires
+count-requires c κs = search needs
+
+enum-told-2 : tie.Need-enum-told-2
+enum-told-2 c = search needs
+
+enum-told-3 : tie.Need-enum-told-3
+enum-told-3 c = search needs
+
+returns : tie.Need-returns
+unfolding frameThere
+returns c = rw (c .enum-told .given .1)
+
+returns-2 : tie.Need-returns-2
+unfolding frameThere
+returns-2 c = rw (c .before .before .self .given .1, c .count .ensures)
+
+returns-3 : tie.Need-returns-3
+unfolding frameThere
+returns-3 c = rw (c .enum-told2 .given .1)
+
+returns-4 : tie.Need-returns-4
+unfolding frameThere
+returns-4 c = rw (c .enum-told3 .given .1)
+
+pub is-there-spec : {M : Type 1} → statement M
+is-there-spec =
+    tie.close
+    (tie.spec
+    enum-told
+    enum-known-self
+    count-requires
+    enum-told-2
+    enum-told-3
+    returns
+    returns-2
+    returns-3
+    returns-4)

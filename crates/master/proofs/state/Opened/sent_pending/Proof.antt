@@ -1,0 +1,56 @@
+-- `state::Opened::sent_pending` meets its contract.
+use borrow.Author.Needs.{needs}
+use native.Mathlib.Omega.{arith}
+use Rattle.cluster.proofs.HeaderLaws.{frame-count}
+use Rattle.master.proofs.Admitted.{frame-below}
+use Rattle.master.specs.Closing.{pendingSent}
+use Rattle.master.proofs.state.Opened.sent_pending.Statement.{statement}
+use Rattle.master.proofs.state.Opened.sent_pending.Tie as tie
+
+enum-told : tie.Need-enum-told
+enum-told c = search needs
+
+enum-known-self : tie.Need-enum-known-self
+enum-known-self c = search needs
+
+cleared-requires : tie.Need-cleared-requires
+cleared-requires c κs =
+    let a = c .before .before .before .before .args in
+    let asked = c .before .before .before .before .pre in
+    omega (arith, frame-below (a .t .now) (asked .0) (c .before .self .given .0 .0) (rw (c .before .self .given .1) at (asked .1)), frame-count (a .t .now) (asked .0))
+
+enum-told-2 : tie.Need-enum-told-2
+enum-told-2 c = search needs
+
+enum-told-3 : tie.Need-enum-told-3
+enum-told-3 c = search needs
+
+returns : tie.Need-returns
+unfolding pendingSent
+returns c = rw (c .enum-told .given .1)
+
+returns-2 : tie.Need-returns-2
+unfolding pendingSent
+returns-2 c = rw (c .before .before .self .given .1, c .cleared .ensures)
+
+returns-3 : tie.Need-returns-3
+unfolding pendingSent
+returns-3 c = rw (c .enum-told2 .given .1)
+
+returns-4 : tie.Need-returns-4
+unfolding pendingSent
+returns-4 c = rw (c .enum-told3 .given .1)
+
+pub sent-pending-spec : {M : Type 1} → statement M
+sent-pending-spec =
+    tie.close
+    (tie.spec
+    enum-told
+    enum-known-self
+    cleared-requires
+    enum-told-2
+    enum-told-3
+    returns
+    returns-2
+    returns-3
+    returns-4)

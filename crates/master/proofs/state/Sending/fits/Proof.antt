@@ -1,0 +1,35 @@
+-- `state::Sending::fits` meets its contract.
+use borrow.Author.Needs.{needs}
+use mathlib.Core.Path.{_∙_, sym}
+use Rattle.master.proofs.Counted.{counted-frames, counted-refused}
+use Rattle.master.proofs.state.Sending.fits.Statement.{statement}
+use Rattle.master.proofs.state.Sending.fits.Tie as tie
+
+cast-count : tie.Need-cast-count
+cast-count c = search needs
+
+count-requires : tie.Need-count-requires
+count-requires c κs = search needs
+
+enum-known-frames : tie.Need-enum-known-frames
+enum-known-frames c = search needs
+
+enum-known-refusal : tie.Need-enum-known-refusal
+enum-known-refusal c = search needs
+
+returns : tie.Need-returns
+returns c =
+    let a = c .before .before .before .before .before .before .args in
+    let count = c .before .before .before .before .count in
+    let frames = c .before .before .frames in
+    counted-frames (a .self .length) (a .self .next) (frames .given .0 .0) (sym (count .ensures) ∙ frames .given .1)
+
+returns-2 : tie.Need-returns-2
+returns-2 c =
+    let a = c .before .before .before .before .before .args in
+    counted-refused (a .self .length) (a .self .next) (c .before .refusal .given .0 .0) (sym (c .before .before .before .count .ensures) ∙ c .before .refusal .given .1)
+
+pub fits-spec : {M : Type 1} → statement M
+fits-spec =
+    tie.close
+    (tie.spec cast-count count-requires enum-known-frames enum-known-refusal returns returns-2)

@@ -1,0 +1,69 @@
+-- `state::State::admit` meets its contract.
+use borrow.Author.Needs.{needs}
+use borrow.Author.Tests.{eq-eqb, ne-eqb, not-false, not-true}
+use Rattle.master.specs.Admit.{admitted}
+use Rattle.master.proofs.state.State.admit.Statement.{statement}
+use Rattle.master.proofs.state.State.admit.Tie as tie
+
+check-requires : tie.Need-check-requires
+check-requires c κs = search needs
+
+enum-known-refusal : tie.Need-enum-known-refusal
+enum-known-refusal c = search needs
+
+returns : tie.Need-returns
+unfolding admitted
+returns c = rw (← c .before .before .before .check .ensures, c .before .refusal .given .1)
+
+enum-told : tie.Need-enum-told
+enum-told c = search needs
+
+buffer-size-requires : tie.Need-buffer-size-requires
+buffer-size-requires c κs = search needs
+
+refused-requires : tie.Need-refused-requires
+refused-requires c κs = search needs
+
+returns-2 : tie.Need-returns-2
+unfolding admitted
+returns-2 c =
+    let check = c .before .before .before .before .before .check in
+    rw (← check .ensures, c .before .before .before .enum-told .given .1, ← c .before .before .buffer-size .ensures, ne-eqb _ _ (c .before .if1 .taken), c .refused .ensures)
+
+fits-requires : tie.Need-fits-requires
+fits-requires c κs = search needs
+
+refused-requires-2 : tie.Need-refused-requires-2
+refused-requires-2 c κs = search needs
+
+returns-3 : tie.Need-returns-3
+unfolding admitted
+returns-3 c =
+    let check = c .before .before .before .before .before .before .before .check in
+    let enum-told = c .before .before .before .before .before .enum-told in
+    let buffer-size = c .before .before .before .before .buffer-size in
+    let fits2 = c .before .before .fits2 in
+    rw (← check .ensures, enum-told .given .1, ← buffer-size .ensures, eq-eqb _ _ (c .before .before .before .if1 .left), ← fits2 .ensures, not-true (fits2 .result) (c .before .if2 .taken), c .refused2 .ensures)
+
+returns-4 : tie.Need-returns-4
+unfolding admitted
+returns-4 c =
+    let check = c .before .before .before .before .before .before .check in
+    let enum-told = c .before .before .before .before .enum-told in
+    rw (← check .ensures, enum-told .given .1, ← c .before .before .before .buffer-size .ensures, eq-eqb _ _ (c .before .before .if1 .left), ← c .before .fits2 .ensures, not-false (c .before .fits2 .result) (c .if2 .left))
+
+pub admit-spec : {M : Type 1} → statement M
+admit-spec =
+    tie.close
+    (tie.spec
+    check-requires
+    enum-known-refusal
+    returns
+    enum-told
+    buffer-size-requires
+    refused-requires
+    returns-2
+    fits-requires
+    refused-requires-2
+    returns-3
+    returns-4)

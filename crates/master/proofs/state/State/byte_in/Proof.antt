@@ -1,0 +1,81 @@
+-- `state::State::byte_in` meets its contract.
+use borrow.Author.Needs.{needs}
+use lib.ListN.{length}
+use mathlib.Core.Path.{_∙_, sym}
+use Rattle.master.proofs.Verdicts.{byte-size}
+use Rattle.master.specs.Byte.{byteOf, taken}
+use Rattle.master.proofs.state.State.byte_in.Statement.{statement}
+use Rattle.master.proofs.state.State.byte_in.Tie as tie
+
+judge-byte-requires : tie.Need-judge-byte-requires
+judge-byte-requires c κs = search needs
+
+enum-known-refusal : tie.Need-enum-known-refusal
+enum-known-refusal c = search needs
+
+answering-requires : tie.Need-answering-requires
+answering-requires c κs = search needs
+
+returns : tie.Need-returns
+unfolding byteOf taken
+returns c =
+    let e = (sym (c .before .before .before .before .judge-byte .ensures) ∙ c .before .before .refusal .given .1) in
+    record { handed = rw (e, c .answering .ensures); kept = rw e }
+
+enum-told : tie.Need-enum-told
+enum-told c = search needs
+
+sends-requires : tie.Need-sends-requires
+sends-requires c κs = search needs
+
+sent-byte-requires : tie.Need-sent-byte-requires
+sent-byte-requires c κs =
+    let a = c .before .before .before .before .before .before .before .before .args in
+    let judge-byte = c .before .before .before .before .before .judge-byte in
+    let e = (sym (judge-byte .ensures) ∙ c .before .before .before .enum-told .given .1) in
+    rw (← byte-size (a .t .now) (length (a .bytes .now)) (a .self) e) e
+
+returns-2 : tie.Need-returns-2
+unfolding byteOf taken
+returns-2 c =
+    let judge-byte = c .before .before .before .before .before .before .judge-byte in
+    let enum-told = c .before .before .before .before .enum-told in
+    let sends = c .before .before .sends in
+    let e = (sym (judge-byte .ensures) ∙ enum-told .given .1) in
+    record { handed = rw (e, ← sends .ensures, c .before .if1 .taken, c .sent-byte .ensures); kept = rw (e, ← sends .ensures, c .before .if1 .taken) }
+
+received-byte-requires : tie.Need-received-byte-requires
+received-byte-requires c κs =
+    let judge-byte = c .before .before .before .before .before .before .judge-byte in
+    let enum-told = c .before .before .before .before .enum-told in
+    (sym (judge-byte .ensures) ∙ enum-told .given .1)
+
+same-length : tie.Need-same-length
+same-length c = search needs
+
+returns-3 : tie.Need-returns-3
+unfolding byteOf taken
+returns-3 c =
+    let judge-byte = c .before .before .before .before .before .before .before .before .before .judge-byte in
+    let enum-told = c .before .before .before .before .before .before .before .enum-told in
+    let sends = c .before .before .before .before .before .sends in
+    let if1 = c .before .before .before .before .if1 in
+    let e = (sym (judge-byte .ensures) ∙ enum-told .given .1) in
+    let l = c .before .before .received-byte .ensures in
+    record { handed = rw (e, ← sends .ensures, if1 .left) (l .handed); kept = rw (e, ← sends .ensures, if1 .left) (l .kept) }
+
+pub byte-in-spec : {M : Type 1} → statement M
+byte-in-spec =
+    tie.close
+    (tie.spec
+    judge-byte-requires
+    enum-known-refusal
+    answering-requires
+    returns
+    enum-told
+    sends-requires
+    sent-byte-requires
+    returns-2
+    received-byte-requires
+    same-length
+    returns-3)

@@ -1,0 +1,63 @@
+-- `state::State::judge_ahead` meets its contract.
+use borrow.Author.Needs.{needs}
+use borrow.Author.Tests.{le-ltb, lt-ltb}
+use Rattle.master.specs.Ahead.{aheadVerdict}
+use Rattle.master.proofs.state.State.judge_ahead.Statement.{statement}
+use Rattle.master.proofs.state.State.judge_ahead.Tie as tie
+
+buffer-size-requires : tie.Need-buffer-size-requires
+buffer-size-requires c κs = search needs
+
+admit-requires : tie.Need-admit-requires
+admit-requires c κs = search needs
+
+enum-known-refusal : tie.Need-enum-known-refusal
+enum-known-refusal c = search needs
+
+returns : tie.Need-returns
+unfolding aheadVerdict
+returns c =
+    let buffer-size = c .before .before .before .before .buffer-size in
+    rw (← buffer-size .ensures, ← c .before .before .before .admit .ensures, c .before .refusal .given .1)
+
+enum-told : tie.Need-enum-told
+enum-told c = search needs
+
+count-requires : tie.Need-count-requires
+count-requires c κs = search needs
+
+member-of-requires : tie.Need-member-of-requires
+member-of-requires c κs = search needs
+
+refused-requires : tie.Need-refused-requires
+refused-requires c κs = search needs
+
+returns-2 : tie.Need-returns-2
+unfolding aheadVerdict
+returns-2 c =
+    let buffer-size = c .before .before .before .before .before .before .before .buffer-size in
+    let admit = c .before .before .before .before .before .before .admit in
+    let enum-told = c .before .before .before .before .enum-told in
+    rw (← buffer-size .ensures, ← admit .ensures, enum-told .given .1, ← c .before .before .before .count .ensures, ← c .before .before .member-of .ensures, le-ltb _ _ (c .before .if1 .taken), c .refused .ensures)
+
+returns-3 : tie.Need-returns-3
+unfolding aheadVerdict
+returns-3 c =
+    let buffer-size = c .before .before .before .before .before .before .buffer-size in
+    let admit = c .before .before .before .before .before .admit in
+    rw (← buffer-size .ensures, ← admit .ensures, c .before .before .before .enum-told .given .1, ← c .before .before .count .ensures, ← c .before .member-of .ensures, lt-ltb _ _ (c .if1 .left))
+
+pub judge-ahead-spec : {M : Type 1} → statement M
+judge-ahead-spec =
+    tie.close
+    (tie.spec
+    buffer-size-requires
+    admit-requires
+    enum-known-refusal
+    returns
+    enum-told
+    count-requires
+    member-of-requires
+    refused-requires
+    returns-2
+    returns-3)

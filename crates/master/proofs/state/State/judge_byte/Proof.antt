@@ -1,0 +1,52 @@
+-- `state::State::judge_byte` meets its contract.
+use borrow.Author.Needs.{needs}
+use borrow.Author.Tests.{not-false, not-true}
+use Rattle.master.specs.Byte.{byteVerdict}
+use Rattle.master.proofs.state.State.judge_byte.Statement.{statement}
+use Rattle.master.proofs.state.State.judge_byte.Tie as tie
+
+admit-requires : tie.Need-admit-requires
+admit-requires c κs = search needs
+
+enum-known-refusal : tie.Need-enum-known-refusal
+enum-known-refusal c = search needs
+
+returns : tie.Need-returns
+unfolding byteVerdict
+returns c = rw (← c .before .before .before .admit .ensures, c .before .refusal .given .1)
+
+enum-told : tie.Need-enum-told
+enum-told c = search needs
+
+is-open-requires : tie.Need-is-open-requires
+is-open-requires c κs = search needs
+
+refused-requires : tie.Need-refused-requires
+refused-requires c κs = search needs
+
+returns-2 : tie.Need-returns-2
+unfolding byteVerdict
+returns-2 c =
+    let admit = c .before .before .before .before .before .before .admit in
+    let enum-told = c .before .before .before .before .enum-told in
+    let is-open = c .before .before .is-open in
+    rw (← admit .ensures, enum-told .given .1, ← is-open .ensures, not-true (is-open .result) (c .before .if1 .taken), c .refused .ensures)
+
+returns-3 : tie.Need-returns-3
+unfolding byteVerdict
+returns-3 c =
+    let admit = c .before .before .before .before .before .admit in
+    rw (← admit .ensures, c .before .before .before .enum-told .given .1, ← c .before .is-open .ensures, not-false (c .before .is-open .result) (c .if1 .left))
+
+pub judge-byte-spec : {M : Type 1} → statement M
+judge-byte-spec =
+    tie.close
+    (tie.spec
+    admit-requires
+    enum-known-refusal
+    returns
+    enum-told
+    is-open-requires
+    refused-requires
+    returns-2
+    returns-3)

@@ -1,0 +1,52 @@
+-- `state::State::judge_tick` meets its contract.
+use borrow.Author.Needs.{needs}
+use borrow.Author.Tests.{not-false, not-true}
+use Rattle.master.specs.Tick.{tickVerdict}
+use Rattle.master.proofs.state.State.judge_tick.Statement.{statement}
+use Rattle.master.proofs.state.State.judge_tick.Tie as tie
+
+admit-requires : tie.Need-admit-requires
+admit-requires c κs = search needs
+
+enum-known-refusal : tie.Need-enum-known-refusal
+enum-known-refusal c = search needs
+
+returns : tie.Need-returns
+unfolding tickVerdict
+returns c = rw (← c .before .before .before .admit .ensures, c .before .refusal .given .1)
+
+enum-told : tie.Need-enum-told
+enum-told c = search needs
+
+lent-fits-requires : tie.Need-lent-fits-requires
+lent-fits-requires c κs = search needs
+
+refused-requires : tie.Need-refused-requires
+refused-requires c κs = search needs
+
+returns-2 : tie.Need-returns-2
+unfolding tickVerdict
+returns-2 c =
+    let admit = c .before .before .before .before .before .admit in
+    let lent-fits = c .before .before .lent-fits in
+    rw (← admit .ensures, c .before .before .before .enum-told .given .1, ← lent-fits .ensures, not-true (lent-fits .result) (c .before .if1 .taken), c .refused .ensures)
+
+returns-3 : tie.Need-returns-3
+unfolding tickVerdict
+returns-3 c =
+    let admit = c .before .before .before .before .admit in
+    let lent-fits = c .before .lent-fits in
+    rw (← admit .ensures, c .before .before .enum-told .given .1, ← lent-fits .ensures, not-false (lent-fits .result) (c .if1 .left))
+
+pub judge-tick-spec : {M : Type 1} → statement M
+judge-tick-spec =
+    tie.close
+    (tie.spec
+    admit-requires
+    enum-known-refusal
+    returns
+    enum-told
+    lent-fits-requires
+    refused-requires
+    returns-2
+    returns-3)

@@ -1,0 +1,134 @@
+-- `state::State::last_byte` meets its contract.
+use borrow.Author.Needs.{needs}
+use borrow.Author.Tests.{not-false, not-true}
+use lib.ListN.{length}
+use mathlib.Core.Path.{_∙_, refl, sym}
+use native.Mathlib.Omega.{arith}
+use Rattle.master.proofs.LastByte.{last-frame, last-nothing, last-request, last-response}
+use Rattle.master.proofs.Parts.{frame-end}
+use Rattle.master.proofs.Verdicts.{byte-fits, byte-identifier, byte-length-high, byte-length-low, byte-size, byte-table}
+use Rattle.master.specs.Byte.{lastByte}
+use Rattle.master.proofs.state.State.last_byte.Statement.{statement}
+use Rattle.master.proofs.state.State.last_byte.Tie as tie
+
+checksum-right-requires : tie.Need-checksum-right-requires
+checksum-right-requires c κs =
+    let a = c .before .before .before .args in
+    let asked = c .before .before .before .pre in
+    (byte-identifier (a .t .now) (length (a .bytes .now)) (a .self) asked, byte-length-low (a .t .now) (length (a .bytes .now)) (a .self) asked, byte-length-high (a .t .now) (length (a .bytes .now)) (a .self) asked)
+
+failed-requires : tie.Need-failed-requires
+failed-requires c κs =
+    let a = c .before .before .before .before .before .args in
+    let asked = c .before .before .before .before .before .pre in
+    byte-identifier (a .t .now) (length (a .bytes .now)) (a .self) asked
+
+answering-requires : tie.Need-answering-requires
+answering-requires c κs = search needs
+
+returns : tie.Need-returns
+unfolding lastByte
+returns c =
+    let checksum-right = c .before .before .before .checksum-right in
+    let if1 = c .before .before .if1 in
+    record { handed = rw (← checksum-right .ensures, not-true (checksum-right .result) (if1 .taken), c .answering .ensures, c .before .failed .ensures); kept = rw (← checksum-right .ensures, not-true (checksum-right .result) (if1 .taken)) }
+
+succeeded-requires : tie.Need-succeeded-requires
+succeeded-requires c κs =
+    let a = c .before .before .before .before .before .args in
+    let asked = c .before .before .before .before .before .pre in
+    (byte-table (a .t .now) (length (a .bytes .now)) (a .self) asked, byte-fits (a .t .now) (length (a .bytes .now)) (a .self) asked .frame-there, byte-fits (a .t .now) (length (a .bytes .now)) (a .self) asked .message-fits)
+
+enum-told : tie.Need-enum-told
+enum-told c = search needs
+
+answering-requires-2 : tie.Need-answering-requires-2
+answering-requires-2 c κs = search needs
+
+enum-known-opened : tie.Need-enum-known-opened
+enum-known-opened c = search needs
+
+length-requires : tie.Need-length-requires
+length-requires c κs = search needs
+
+store-requires : tie.Need-store-requires
+store-requires c κs =
+    let a = c .before .before .before .before .before .before .before .before .before .before .before .args in
+    let asked = c .before .before .before .before .before .before .before .before .before .before .before .pre in
+    let opened = c .before .before .before .opened in
+    (frame-end (a .t .now) (byte-table (a .t .now) (length (a .bytes .now)) (a .self) asked) (a .bytes .now) (byte-size (a .t .now) (length (a .bytes .now)) (a .self) asked) (opened .given .0 .0) (rw (opened .given .1) at (byte-fits (a .t .now) (length (a .bytes .now)) (a .self) asked .frame-there)) _ refl, omega (arith, c .length .ensures, rw (opened .given .1) at (byte-length-high (a .t .now) (length (a .bytes .now)) (a .self) asked)))
+
+answering-requires-3 : tie.Need-answering-requires-3
+answering-requires-3 c κs = search needs
+
+enum-told-2 : tie.Need-enum-told-2
+enum-told-2 c = search needs
+
+answering-requires-4 : tie.Need-answering-requires-4
+answering-requires-4 c κs = search needs
+
+enum-told-3 : tie.Need-enum-told-3
+enum-told-3 c = search needs
+
+responding-requires : tie.Need-responding-requires
+responding-requires c κs = search needs
+
+returns-2 : tie.Need-returns-2
+unfolding lastByte
+returns-2 c =
+    let a = c .before .before .before .before .before .before .before .before .before .args in
+    let checksum-right = c .before .before .before .before .before .checksum-right in
+    last-nothing (a .t .now) (a .self) (a .nine) (a .bytes .now) (sym (checksum-right .ensures) ∙ not-false (checksum-right .result) (c .before .before .before .before .if1 .left)) _ _ (c .before .enum-told .given .1) (c .answering2 .ensures ∙ rw (c .before .before .before .succeeded .ensures)) refl
+
+same-length : tie.Need-same-length
+same-length c = search needs
+
+returns-3 : tie.Need-returns-3
+unfolding lastByte
+returns-3 c =
+    let a = c .before .before .before .before .before .before .before .before .before .before .before .before .before .before .before .args in
+    let checksum-right = c .before .before .before .before .before .before .before .before .before .before .before .checksum-right in
+    let if1 = c .before .before .before .before .before .before .before .before .before .before .if1 in
+    let succeeded = c .before .before .before .before .before .before .before .before .before .succeeded in
+    let opened = c .before .before .before .before .before .before .before .opened in
+    let told = c .before .before .before .before .length in
+    last-frame (a .t .now) (a .self) (a .nine) (a .bytes .now) (sym (checksum-right .ensures) ∙ not-false (checksum-right .result) (if1 .left)) _ _ (opened .given .0 .0) (told .result) (opened .given .1) (c .answering3 .ensures ∙ rw (succeeded .ensures)) (told .ensures) (c .before .before .before .store .ensures)
+
+returns-4 : tie.Need-returns-4
+unfolding lastByte
+returns-4 c =
+    let a = c .before .before .before .before .before .before .before .before .before .args in
+    let checksum-right = c .before .before .before .before .before .checksum-right in
+    last-request (a .t .now) (a .self) (a .nine) (a .bytes .now) (sym (checksum-right .ensures) ∙ not-false (checksum-right .result) (c .before .before .before .before .if1 .left)) _ _ (c .before .enum-told2 .given .1) (c .answering4 .ensures ∙ rw (c .before .before .before .succeeded .ensures)) refl
+
+returns-5 : tie.Need-returns-5
+unfolding lastByte
+returns-5 c =
+    let a = c .before .before .before .before .before .before .before .before .before .args in
+    let checksum-right = c .before .before .before .before .before .checksum-right in
+    last-response (a .t .now) (a .self) (a .nine) (a .bytes .now) (sym (checksum-right .ensures) ∙ not-false (checksum-right .result) (c .before .before .before .before .if1 .left)) _ _ (c .before .enum-told3 .given .1) (c .responding .ensures ∙ rw (c .before .before .before .succeeded .ensures)) refl
+
+pub last-byte-spec : {M : Type 1} → statement M
+last-byte-spec =
+    tie.close
+    (tie.spec
+    checksum-right-requires
+    failed-requires
+    answering-requires
+    returns
+    succeeded-requires
+    enum-told
+    answering-requires-2
+    enum-known-opened
+    length-requires
+    store-requires
+    answering-requires-3
+    enum-told-2
+    answering-requires-4
+    enum-told-3
+    responding-requires
+    returns-2
+    same-length
+    returns-3
+    returns-4
+    returns-5)

@@ -1,0 +1,54 @@
+-- `state::State::number_ahead` meets its contract.
+use borrow.Author.Needs.{needs}
+use mathlib.Core.Path.{_∙_, sym}
+use native.Mathlib.Omega.{arith}
+use Rattle.master.proofs.Verdicts.{ahead-member, ahead-table}
+use Rattle.master.specs.Ahead.{aheadOf, framesAhead}
+use Rattle.master.proofs.state.State.number_ahead.Statement.{statement}
+use Rattle.master.proofs.state.State.number_ahead.Tie as tie
+
+judge-ahead-requires : tie.Need-judge-ahead-requires
+judge-ahead-requires c κs = search needs
+
+enum-known-refusal : tie.Need-enum-known-refusal
+enum-known-refusal c = search needs
+
+returns : tie.Need-returns
+unfolding aheadOf framesAhead
+returns c = rw (← c .before .before .before .judge-ahead .ensures, c .before .refusal .given .1)
+
+enum-told : tie.Need-enum-told
+enum-told c = search needs
+
+member-of-requires : tie.Need-member-of-requires
+member-of-requires c κs = search needs
+
+list-requires : tie.Need-list-requires
+list-requires c κs = search needs
+
+count-pending-requires : tie.Need-count-pending-requires
+count-pending-requires c κs =
+    let a = c .before .before .before .before .before .before .before .args in
+    let judge-ahead = c .before .before .before .before .before .judge-ahead in
+    let e = sym (judge-ahead .ensures) ∙ c .before .before .before .enum-told .given .1 in
+    (ahead-table (a .t .now) (a .self) (a .f) e, omega (arith, c .before .member-of .ensures, ahead-member (a .t .now) (a .self) (a .f) e))
+
+returns-2 : tie.Need-returns-2
+unfolding aheadOf framesAhead
+returns-2 c =
+    let judge-ahead = c .before .before .before .before .before .before .judge-ahead in
+    let enum-told = c .before .before .before .before .enum-told in
+    rw (← judge-ahead .ensures, enum-told .given .1, c .count-pending .ensures, c .before .list .ensures, c .before .before .member-of .ensures)
+
+pub number-ahead-spec : {M : Type 1} → statement M
+number-ahead-spec =
+    tie.close
+    (tie.spec
+    judge-ahead-requires
+    enum-known-refusal
+    returns
+    enum-told
+    member-of-requires
+    list-requires
+    count-pending-requires
+    returns-2)

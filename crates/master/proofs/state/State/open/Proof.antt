@@ -1,0 +1,33 @@
+-- `state::State::open` meets its contract.
+use borrow.Author.Needs.{needs}
+use borrow.Author.Tests.{not-false, not-true}
+use Rattle.master.proofs.Admitted.{open-identifier}
+use Rattle.master.specs.Tick.{opens}
+use Rattle.master.proofs.state.State.open.Statement.{statement}
+use Rattle.master.proofs.state.State.open.Tie as tie
+
+is-open-requires : tie.Need-is-open-requires
+is-open-requires c κs = search needs
+
+returns : tie.Need-returns
+unfolding opens
+returns c = rw (← c .before .is-open .ensures, not-true (c .before .is-open .result) (c .if1 .taken))
+
+opening-requires : tie.Need-opening-requires
+opening-requires c κs = search needs
+
+protected-requires : tie.Need-protected-requires
+protected-requires c κs =
+    let a = c .before .before .before .before .before .before .args in
+    let asked = c .before .before .before .before .before .before .pre in
+    open-identifier (a .t .now) (asked .0) (a .opened) (asked .2)
+
+returns-2 : tie.Need-returns-2
+unfolding opens
+returns-2 c =
+    let is-open = c .before .before .before .is-open in
+    rw (← is-open .ensures, not-false (is-open .result) (c .before .before .if1 .left), c .protected .ensures, c .before .opening .ensures)
+
+pub open-spec : {M : Type 1} → statement M
+open-spec =
+    tie.close (tie.spec is-open-requires returns opening-requires protected-requires returns-2)

@@ -1,0 +1,76 @@
+-- `state::State::sent_byte` meets its contract.
+use borrow.Author.Needs.{needs}
+use borrow.Author.Tests.{eq-eqb, ne-eqb}
+use native.Mathlib.Omega.{arith}
+use Rattle.master.proofs.Verdicts.{byte-count-high, byte-fits, byte-identifier, byte-table}
+use Rattle.master.specs.Admit.{bufferSize}
+use Rattle.master.specs.Byte.{sentByte}
+use Rattle.master.proofs.state.State.sent_byte.Statement.{statement}
+use Rattle.master.proofs.state.State.sent_byte.Tie as tie
+
+cast-if1 : tie.Need-cast-if1
+cast-if1 c = search needs
+
+array-read-if1 : tie.Need-array-read-if1
+array-read-if1 c =
+    let a = c .before .before .before .before .args in
+    omega (arith, byte-count-high (a .t .now) (bufferSize (a .t .now)) (a .self) (c .before .before .before .before .pre))
+
+failed-requires : tie.Need-failed-requires
+failed-requires c κs =
+    let a = c .before .before .before .before .before .args in
+    let asked = c .before .before .before .before .before .pre in
+    byte-identifier (a .t .now) (bufferSize (a .t .now)) (a .self) asked
+
+answering-requires : tie.Need-answering-requires
+answering-requires c κs = search needs
+
+returns : tie.Need-returns
+unfolding sentByte
+returns c = rw (ne-eqb _ _ (c .before .before .if1 .taken), c .answering .ensures, c .before .failed .ensures)
+
+early-requires : tie.Need-early-requires
+early-requires c κs = search needs
+
+passed-requires : tie.Need-passed-requires
+passed-requires c κs =
+    let a = c .before .before .before .before .before .before .before .args in
+    let asked = c .before .before .before .before .before .before .before .pre in
+    byte-count-high (a .t .now) (bufferSize (a .t .now)) (a .self) asked
+
+answering-requires-2 : tie.Need-answering-requires-2
+answering-requires-2 c κs = search needs
+
+returns-2 : tie.Need-returns-2
+unfolding sentByte
+returns-2 c = rw (eq-eqb _ _ (c .before .before .before .before .if1 .left), ← c .before .before .before .early .ensures, c .before .before .if2 .taken, c .answering2 .ensures, c .before .passed .ensures)
+
+succeeded-requires : tie.Need-succeeded-requires
+succeeded-requires c κs =
+    let a = c .before .before .before .before .before .before .before .args in
+    let asked = c .before .before .before .before .before .before .before .pre in
+    (byte-table (a .t .now) (bufferSize (a .t .now)) (a .self) asked, byte-fits (a .t .now) (bufferSize (a .t .now)) (a .self) asked .frame-there, byte-fits (a .t .now) (bufferSize (a .t .now)) (a .self) asked .message-fits)
+
+answering-requires-3 : tie.Need-answering-requires-3
+answering-requires-3 c κs = search needs
+
+returns-3 : tie.Need-returns-3
+unfolding sentByte
+returns-3 c = rw (eq-eqb _ _ (c .before .before .before .before .if1 .left), ← c .before .before .before .early .ensures, c .before .before .if2 .left, c .answering3 .ensures, c .before .succeeded .ensures)
+
+pub sent-byte-spec : {M : Type 1} → statement M
+sent-byte-spec =
+    tie.close
+    (tie.spec
+    cast-if1
+    array-read-if1
+    failed-requires
+    answering-requires
+    returns
+    early-requires
+    passed-requires
+    answering-requires-2
+    returns-2
+    succeeded-requires
+    answering-requires-3
+    returns-3)

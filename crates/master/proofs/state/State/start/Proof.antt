@@ -1,0 +1,57 @@
+-- `state::State::start` meets its contract.
+use borrow.Author.Needs.{needs}
+use mathlib.Core.Path.{_∙_, sym}
+use Rattle.master.proofs.Filling.{filled-fresh}
+use Rattle.master.specs.Start.{freshOf}
+use Rattle.master.proofs.state.State.start.Statement.{statement}
+use Rattle.master.proofs.state.State.start.Tie as tie
+
+judge-requires : tie.Need-judge-requires
+judge-requires c κs = search needs
+
+enum-known-refusal : tie.Need-enum-known-refusal
+enum-known-refusal c = search needs
+
+fresh-requires : tie.Need-fresh-requires
+fresh-requires c κs = search needs
+
+returns : tie.Need-returns
+unfolding freshOf
+returns c =
+    let e = sym (c .before .before .before .before .judge .ensures) ∙ c .before .before .refusal .given .1 in
+    record { handed = rw (e, c .fresh .ensures); kept = rw e }
+
+enum-told : tie.Need-enum-told
+enum-told c = search needs
+
+fill-requires : tie.Need-fill-requires
+fill-requires c κs = search needs
+
+fresh-requires-2 : tie.Need-fresh-requires-2
+fresh-requires-2 c κs = search needs
+
+same-length : tie.Need-same-length
+same-length c = search needs
+
+returns-2 : tie.Need-returns-2
+unfolding freshOf
+returns-2 c =
+    let a = c .before .before .before .before .before .before .before .before .before .before .args in
+    let judge = c .before .before .before .before .before .before .before .judge in
+    let enum-told = c .before .before .before .before .before .enum-told in
+    let e = sym (judge .ensures) ∙ enum-told .given .1 in
+    record { handed = rw (e, c .fresh2 .ensures); kept = rw (e, c .before .before .before .fill .ensures) (filled-fresh (a .t .now) (a .bytes .now) e) }
+
+pub start-spec : {M : Type 1} → statement M
+start-spec =
+    tie.close
+    (tie.spec
+    judge-requires
+    enum-known-refusal
+    fresh-requires
+    returns
+    enum-told
+    fill-requires
+    fresh-requires-2
+    same-length
+    returns-2)

@@ -1,0 +1,62 @@
+-- `state::State::tick` meets its contract.
+use borrow.Author.Needs.{needs}
+use mathlib.Core.Path.{_∙_, sym}
+use Rattle.master.specs.Tick.{tickOf, ticked}
+use Rattle.master.proofs.state.State.tick.Statement.{statement}
+use Rattle.master.proofs.state.State.tick.Tie as tie
+
+judge-tick-requires : tie.Need-judge-tick-requires
+judge-tick-requires c κs = search needs
+
+enum-known-refusal : tie.Need-enum-known-refusal
+enum-known-refusal c = search needs
+
+returns : tie.Need-returns
+unfolding tickOf ticked
+returns c = rw (← c .before .before .before .judge-tick .ensures, c .before .refusal .given .1)
+
+enum-told : tie.Need-enum-told
+enum-told c = search needs
+
+waits-requires : tie.Need-waits-requires
+waits-requires c κs = search needs
+
+waited-requires : tie.Need-waited-requires
+waited-requires c κs = sym (c .before .waits .ensures) ∙ c .if1 .taken
+
+with-plan-requires : tie.Need-with-plan-requires
+with-plan-requires c κs = search needs
+
+returns-2 : tie.Need-returns-2
+unfolding tickOf ticked
+returns-2 c =
+    let judge-tick = c .before .before .before .before .before .before .before .judge-tick in
+    let enum-told = c .before .before .before .before .before .enum-told in
+    rw (← judge-tick .ensures, enum-told .given .1, ← c .before .before .before .waits .ensures, c .before .before .if1 .taken, c .with-plan .ensures, c .before .waited .ensures)
+
+slot-requires : tie.Need-slot-requires
+slot-requires c κs =
+    let judge-tick = c .before .before .before .before .before .judge-tick in
+    (sym (judge-tick .ensures) ∙ c .before .before .before .enum-told .given .1)
+
+returns-3 : tie.Need-returns-3
+unfolding tickOf ticked
+returns-3 c =
+    let judge-tick = c .before .before .before .before .before .before .judge-tick in
+    let enum-told = c .before .before .before .before .enum-told in
+    rw (← judge-tick .ensures, enum-told .given .1, ← c .before .before .waits .ensures, c .before .if1 .left, c .slot .ensures)
+
+pub tick-spec : {M : Type 1} → statement M
+tick-spec =
+    tie.close
+    (tie.spec
+    judge-tick-requires
+    enum-known-refusal
+    returns
+    enum-told
+    waits-requires
+    waited-requires
+    with-plan-requires
+    returns-2
+    slot-requires
+    returns-3)

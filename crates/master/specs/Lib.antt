@@ -1,0 +1,16 @@
+pub mod Fresh
+pub mod Transfers
+pub mod Fits
+pub mod Admit
+pub mod Start
+pub mod Write
+pub mod Read
+pub mod Plan
+pub mod Select
+pub mod Status
+pub mod Message
+pub mod Closing
+pub mod Tick
+pub mod Byte
+pub mod Ahead
+pub mod Answers

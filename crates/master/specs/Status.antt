@@ -1,0 +1,43 @@
+-- Document 01, "Status": the parts, what a closed transfer does to them, and the word that is read.
+use Prim.Native.Nat.{ℕ, _+_, _*_}
+use mathlib.Core.Bool.{Bool, true, cond, not, _||_}
+use mathlib.Core.List.{List}
+use Rattle.wire.specs.Bits.{digit}
+use Rattle.refusal.specs.declared.Refusal.{Refusal}
+use Rattle.master.specs.declared.state.Status.{Status}
+use Rattle.master.specs.declared.state.State.{State}
+use Rattle.master.specs.declared.status.StatusAnswer.the-variants as answer
+use Rattle.master.specs.declared.status.StatusRead.{StatusRead}
+use Rattle.master.specs.Fresh.{noStatus}
+use Rattle.master.specs.Admit.{admitted, answered, bufferSize}
+
+-- "a failed one sets bit 0, a successful one bit 1, and either stays set until read; overrun means two or more since the last reading"
+unfoldable pub counted : Status → Bool → ℕ → Status
+counted x success last =
+    record {
+      error = x .error || not success;
+      success = x .success || success;
+      overrun = x .overrun || (x .error || x .success);
+      last = last;
+    }
+
+-- "Only closed transfers with at least one response byte count"
+unfoldable pub statusAfter : Status → Bool → Bool → ℕ → Status
+statusAfter x counts success last = cond counts (counted x success last) x
+
+-- "bit 0 error in response, bit 1 successful transfer, bit 2 overrun, bits 8 to 15 the protected identifier of the last transfer
+-- counted, other bits 0"
+unfoldable pub statusWord : Status → ℕ
+statusWord x = digit (x .error) + 2 * digit (x .success) + 4 * digit (x .overrun) + 256 * x .last
+
+-- "Reading sets it to 0."
+unfoldable pub withoutStatus : State → State
+withoutStatus s =
+    record { pending = s .pending; plan = s .plan; transfer = s .transfer; message = s .message; status = noStatus }
+
+-- what a status reading hands back
+unfoldable pub statusOf : List ℕ → State → StatusRead
+statusOf t s =
+    answered (admitted t (bufferSize t) s)
+    (λ r. record { state = s; answer = answer.Refused r })
+    (record { state = withoutStatus s; answer = answer.Word (statusWord (s .status)) })

@@ -1,0 +1,91 @@
+-- Document 01, "Calls and steps": what an open transfer is: its length, its identifier, who sends it, and the bytes copied at its opening.
+use Prim.Native.Nat.{ℕ, _-_, _*_}
+use mathlib.Core.Bool.{Bool, true, false, cond}
+use mathlib.Core.List.{List, [], _∷_, _++_}
+use lib.ListN.{length, take, drop, replicate}
+use Rattle.wire.specs.Identifier.{protectedByte}
+use Rattle.wire.specs.Checksum.{checksumByte}
+use Rattle.wire.specs.declared.checksum.Model.{Model}
+use Rattle.wire.specs.declared.checksum.Model.the-variants.{Classic, Enhanced}
+use Rattle.cluster.specs.Table.{identifier, frameLength, published, classic}
+use Rattle.transport.specs.Cutting.{cutOf}
+use Rattle.master.specs.declared.state.Opened.{Opened}
+use Rattle.master.specs.declared.state.Opened.the-variants.{Nothing, Frame, Request, Response}
+use Rattle.master.specs.declared.state.Message as state
+use Rattle.master.specs.declared.state.Message.the-variants as message
+use Rattle.master.specs.declared.state.Transfer.{Transfer}
+
+-- a transfer is open
+unfoldable pub isOpen : Opened → Bool
+isOpen Nothing = false
+isOpen (Frame f) = true
+isOpen Request = true
+isOpen Response = true
+
+-- the data bytes of a transfer; requests and responses have "length 8"
+unfoldable pub openLength : List ℕ → Opened → ℕ
+openLength t Nothing = 0
+openLength t (Frame f) = frameLength t f
+openLength t Request = 8
+openLength t Response = 8
+
+-- "Kind 2 opens identifier 60", "Kind 3 always opens identifier 61"
+unfoldable pub openIdentifier : List ℕ → Opened → ℕ
+openIdentifier t Nothing = 0
+openIdentifier t (Frame f) = identifier t f
+openIdentifier t Request = 60
+openIdentifier t Response = 61
+
+-- "Identifiers 60 to 63 use classic (000); the others as the table says."
+unfoldable pub openModel : List ℕ → Opened → Model
+openModel t Nothing = Classic
+openModel t (Frame f) = cond (classic t f) Classic Enhanced
+openModel t Request = Classic
+openModel t Response = Classic
+
+-- the master sends the response: of "published frames and kind 2"
+unfoldable pub sends : List ℕ → Opened → Bool
+sends t Nothing = false
+sends t (Frame f) = published t f
+sends t Request = true
+sends t Response = false
+
+-- the protected identifier of a transfer
+unfoldable pub openProtected : List ℕ → Opened → ℕ
+openProtected t o = protectedByte (openIdentifier t o)
+
+-- the checksum that a transfer has over its data
+unfoldable pub openChecksum : List ℕ → Opened → List ℕ → ℕ
+openChecksum t o ds = checksumByte (openIdentifier t o) (openModel t o) ds
+
+-- the data of a frame in the buffer: "eight a frame"
+unfoldable pub frameData : List ℕ → List ℕ → ℕ → List ℕ
+frameData t bs f = take (frameLength t f) (drop (8 * f) bs)
+
+-- "a frame is cut from the bytes lent when it opens"; there is none where no message is being sent
+unfoldable pub requestData : state.Message → List ℕ → List ℕ
+requestData message.None m = replicate 8 255
+requestData (message.Sending x) m = cutOf (x .nad) m (x .next) .bytes
+requestData message.Completed m = replicate 8 255
+requestData message.Failed m = replicate 8 255
+
+-- the data that the master sends in a transfer
+unfoldable pub sentData : List ℕ → List ℕ → state.Message → List ℕ → Opened → List ℕ
+sentData t bs x m Nothing = []
+sentData t bs x m (Frame f) = frameData t bs f
+sentData t bs x m Request = requestData x m
+sentData t bs x m Response = []
+
+-- data and checksum; the unused ones of the nine bytes are 255
+unfoldable pub copied : List ℕ → Opened → List ℕ → List ℕ
+copied t o ds = ds ++ (openChecksum t o ds ∷ replicate (8 - length ds) 255)
+
+-- "Opening .., for published frames and kind 2, copies data and checksum into the state"
+unfoldable pub opening : List ℕ → List ℕ → state.Message → List ℕ → Opened → Transfer
+opening t bs x m o =
+    record {
+      opened = o;
+      count = 0;
+      bytes = cond (sends t o) (copied t o (sentData t bs x m o)) (replicate 9 255);
+      written = false;
+    }

@@ -1,0 +1,42 @@
+// Tests 1, 2 and 3, which stand at the head of the calls.
+use crate::state::State;
+use cluster::Verdict;
+use cluster::check;
+use cluster::frames;
+use refusal::Refusal;
+ghost use mathlib.Core.Path.{_≡_};
+ghost use Rattle.refusal.specs.Numbers.{refused as refusedWith};
+ghost use Rattle.cluster.specs.declared.Verdict.the-variants as verdict;
+ghost use Rattle.master.specs.Admit.{bufferSize, admitted};
+
+impl State {
+    // Judges the table, the number of frame bytes, and the state; a call that is lent no frame bytes asks with the right number.
+    pub fn admit(self, t: &[u16], size: usize) -> Verdict
+        ensures { λ r. ⌜ r ≡ admitted (now (t .entry)) size self ⌝ }
+    {
+        if let Verdict::Refused(refusal) = check(t) {
+            return Verdict::Refused(refusal);
+        }
+        if size != buffer_size(t) {
+            return refused(Refusal::BUFFER);
+        }
+        if !self.fits(t) {
+            return refused(Refusal::STATE);
+        }
+        Verdict::Accepted
+    }
+}
+
+// The frame bytes that a table has.
+pub fn buffer_size(t: &[u16]) -> usize
+    ensures { λ r. ⌜ r ≡ bufferSize (now (t .entry)) ⌝ }
+{
+    8 * (frames::count(t) as usize)
+}
+
+// A verdict that refuses with a number.
+pub(crate) fn refused(number: u8) -> Verdict
+    ensures { λ r. ⌜ r ≡ verdict.Refused (refusedWith number) ⌝ }
+{
+    Verdict::Refused(Refusal::of(number))
+}

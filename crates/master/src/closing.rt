@@ -1,0 +1,98 @@
+// Closing a transfer: as failed, or as successful.
+use crate::state::Opened;
+use crate::state::State;
+use crate::state::Status;
+use crate::state::Transfer;
+ghost use mathlib.Core.Bool.{true};
+ghost use mathlib.Core.Path.{_≡_};
+ghost use mathlib.Core.List.{List};
+ghost use Prim.Native.Nat.{_<_};
+ghost use Rattle.master.specs.Fits.{messageFits, frameThere};
+ghost use Rattle.cluster.specs.Check.{RightTable};
+ghost use Rattle.master.specs.Transfers.{openIdentifier, openProtected};
+ghost use Rattle.master.specs.Status.{statusAfter};
+ghost use Rattle.master.specs.declared.state.Opened.the-variants.{Frame};
+ghost use Rattle.master.specs.Closing.{failed as failedOf, pendingSent, succeeded as succeededOf};
+
+impl State {
+    // Closes the transfer as failed; it counts for status where it had a response byte.
+    pub(crate) fn failed(self, t: &[u16], counts: bool) -> State
+        requires { ⌜ openIdentifier (now t) (self .transfer .opened) < 64 ⌝ }
+        ensures { λ r. ⌜ r ≡ failedOf (now (t .entry)) self counts ⌝ }
+    {
+        let pending = self.pending;
+        let plan = self.plan;
+        let transfer = self.transfer;
+        let opened = transfer.opened;
+        let message = self.message;
+        let status = self.status;
+        State {
+            pending,
+            plan,
+            transfer: Transfer::none(),
+            message: message.failed(opened),
+            status: status.after(counts, false, opened.protected(t)),
+        }
+    }
+
+    // Closes the transfer as successful; its frame stays pending where it was written since the opening.
+    pub(crate) fn succeeded(self, t: &[u16]) -> State
+        requires { ⌜ RightTable (now t) × (frameThere (now t) (self .transfer .opened) ≡ true) × (messageFits (self .message) ≡ true) ⌝ }
+        ensures { λ r. ⌜ r ≡ succeededOf (now (t .entry)) self ⌝ }
+    {
+        let pending = self.pending;
+        let plan = self.plan;
+        let transfer = self.transfer;
+        let opened = transfer.opened;
+        let message = self.message;
+        let status = self.status;
+        State {
+            pending: opened.sent_pending(t, transfer.written, pending),
+            plan,
+            transfer: Transfer::none(),
+            message: message.sent(opened),
+            status: status.after(true, true, opened.protected(t)),
+        }
+    }
+}
+
+impl Opened {
+    // The pending bits after a success: a frame that was not written since is no longer pending.
+    fn sent_pending(self, t: &[u16], written: bool, pending: [bool; 60]) -> [bool; 60]
+        requires { ⌜ RightTable (now t) × (frameThere (now t) self ≡ true) ⌝ }
+        ensures { λ r. ⌜ r ≡ pendingSent self written pending ⌝ }
+    {
+        match self {
+            Opened::Nothing => pending,
+            Opened::Frame(f) => cleared(f, written, pending),
+            Opened::Request => pending,
+            Opened::Response => pending,
+        }
+    }
+}
+
+impl Status {
+    // The status after a transfer, whether it counts or not.
+    fn after(self, counts: bool, success: bool, last: u8) -> Status
+        ensures { λ r. ⌜ r ≡ statusAfter self counts success last ⌝ }
+    {
+        if counts {
+            self.counted(success, last)
+        } else {
+            self
+        }
+    }
+}
+
+// The pending bits without that of a frame, unless it was written since.
+fn cleared(f: u16, written: bool, pending: [bool; 60]) -> [bool; 60]
+    requires { ⌜ f < 60 ⌝ }
+    ensures { λ r. ⌜ r ≡ pendingSent (Frame f) written pending ⌝ }
+{
+    if written {
+        return pending;
+    }
+    let mut next = pending;
+    next[f as usize] = false;
+    next
+}

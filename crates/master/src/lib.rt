@@ -1,0 +1,18 @@
+// The LIN master above the UART: its state, and every call on it (document 01, "Calls and steps", "Status", and the sending half of
+// "Diagnostic messages"). Every call accepts every table, state, buffer and number; a refused one changes nothing. The calls are
+// methods of `state::State`, one module each; the state is handed back by value beside the answer.
+pub mod admit;
+pub mod ahead;
+pub mod byte;
+pub mod closing;
+pub mod fits;
+pub mod message;
+pub mod opened;
+pub mod plan;
+pub mod read;
+pub mod select;
+pub mod start;
+pub mod state;
+pub mod status;
+pub mod tick;
+pub mod write;

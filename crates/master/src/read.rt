@@ -1,0 +1,74 @@
+// The two reads.
+use crate::admit::refused;
+use crate::state::State;
+use cluster::Verdict;
+use cluster::signals;
+use cluster::values;
+use refusal::Refusal;
+ghost use mathlib.Core.Path.{_≡_};
+ghost use lib.ListN.{length};
+ghost use Rattle.master.specs.Read.{readVerdict, readOf, readArrayOf};
+
+// What a read of a scalar answers.
+pub enum ReadAnswer {
+    Value(u16),
+    Refused(Refusal),
+}
+
+// What a read of an array answers: the number of bytes.
+pub enum ArrayAnswer {
+    Bytes(usize),
+    Refused(Refusal),
+}
+
+// The answer, and the bytes; the unused ones are 255.
+pub struct ReadArray {
+    pub answer: ArrayAnswer,
+    pub bytes: [u8; 8],
+}
+
+impl State {
+    // Reads a scalar.
+    pub fn read(self, t: &[u16], bytes: &[u8], s: u16) -> ReadAnswer
+        ensures { λ r. ⌜ r ≡ readOf (now (t .entry)) self (now (bytes .entry)) s ⌝ }
+    {
+        if let Verdict::Refused(refusal) = self.judge_read(t, bytes.len(), s, false) {
+            return ReadAnswer::Refused(refusal);
+        }
+        ReadAnswer::Value(values::get_scalar(t, bytes, s))
+    }
+
+    // Reads an array.
+    pub fn read_array(self, t: &[u16], bytes: &[u8], s: u16) -> ReadArray
+        ensures { λ r. ⌜ r ≡ readArrayOf (now (t .entry)) self (now (bytes .entry)) s ⌝ }
+    {
+        if let Verdict::Refused(refusal) = self.judge_read(t, bytes.len(), s, true) {
+            return ReadArray {
+                answer: ArrayAnswer::Refused(refusal),
+                bytes: [255; 8],
+            };
+        }
+        let array = values::get_array(t, bytes, s);
+        let values = array.bytes;
+        ReadArray {
+            answer: ArrayAnswer::Bytes(array.count),
+            bytes: values,
+        }
+    }
+
+    // The verdict on a read.
+    fn judge_read(self, t: &[u16], size: usize, s: u16, array: bool) -> Verdict
+        ensures { λ r. ⌜ r ≡ readVerdict (now (t .entry)) size self s array ⌝ }
+    {
+        if let Verdict::Refused(refusal) = self.admit(t, size) {
+            return Verdict::Refused(refusal);
+        }
+        if signals::count(t) <= s {
+            return refused(Refusal::UNKNOWN);
+        }
+        if signals::is_array(t, s) != array {
+            return refused(Refusal::KIND);
+        }
+        Verdict::Accepted
+    }
+}

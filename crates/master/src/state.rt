@@ -1,0 +1,155 @@
+// The master's state, and its parts.
+ghost use mathlib.Core.Path.{_≡_};
+ghost use Rattle.master.specs.Fresh.{fresh as freshState, limits as limitsOf, noPlan, noTransfer, noStatus};
+ghost use Rattle.master.specs.Select.{withPlan};
+
+// The current place in a schedule: none, or the number of an entry in the table.
+pub enum Current {
+    None,
+    Entry(u16),
+}
+
+// The schedule that begins at the next slot start, if one was asked for.
+pub enum Requested {
+    None,
+    Schedule(u16),
+}
+
+// Where the schedule stands.
+pub struct Plan {
+    // The ticks left in the current slot.
+    pub wait: u16,
+    pub current: Current,
+    pub requested: Requested,
+}
+
+// What an open transfer is of: a frame by its number, the request (60) or the response (61).
+pub enum Opened {
+    Nothing,
+    Frame(u16),
+    Request,
+    Response,
+}
+
+// The transfer record.
+pub struct Transfer {
+    pub opened: Opened,
+    // The response bytes that have passed.
+    pub count: u8,
+    // Data and checksum: copied at the opening of a sent transfer, gathered in a received one; the unused ones are 255.
+    pub bytes: [u8; 9],
+    // A write to the frame came after the opening.
+    pub written: bool,
+}
+
+// A message that is being sent: to which NAD, its length, and the number of its next frame, from 0.
+pub struct Sending {
+    pub nad: u8,
+    pub length: u16,
+    pub next: u16,
+}
+
+// The diagnostic message.
+pub enum Message {
+    None,
+    Sending(Sending),
+    Completed,
+    Failed,
+}
+
+// Status in its parts.
+pub struct Status {
+    pub error: bool,
+    pub success: bool,
+    pub overrun: bool,
+    // The protected identifier of the last transfer counted.
+    pub last: u8,
+}
+
+// The whole state.
+pub struct State {
+    pub pending: [bool; 60],
+    pub plan: Plan,
+    pub transfer: Transfer,
+    pub message: Message,
+    pub status: Status,
+}
+
+impl State {
+    // The most frames a table has, one pending bit each.
+    pub const FRAMES: u16 = 60;
+    // The most signals and the most schedule entries a table has.
+    pub const RECORDS: u16 = 256;
+    // The length of the longest message.
+    pub const LONGEST: u16 = 4095;
+
+    // Nothing pending, no schedule, no transfer, no message, status 0.
+    pub fn fresh() -> State
+        ensures { λ r. ⌜ r ≡ freshState ⌝ }
+    {
+        State {
+            pending: [false; 60],
+            plan: Plan::none(),
+            transfer: Transfer::none(),
+            message: Message::None,
+            status: Status::none(),
+        }
+    }
+
+    // The limits of document 01: frames, signals or entries, bytes of a message.
+    pub fn limits() -> [u16; 3]
+        ensures { λ r. ⌜ r ≡ limitsOf ⌝ }
+    {
+        [State::FRAMES, State::RECORDS, State::LONGEST]
+    }
+
+    // The state with another plan.
+    pub(crate) fn with_plan(self, plan: Plan) -> State
+        ensures { λ r. ⌜ r ≡ withPlan self plan ⌝ }
+    {
+        let mut next = self;
+        next.plan = plan;
+        next
+    }
+}
+
+impl Plan {
+    // No schedule, and none asked for.
+    pub fn none() -> Plan
+        ensures { λ r. ⌜ r ≡ noPlan ⌝ }
+    {
+        Plan {
+            wait: 0,
+            current: Current::None,
+            requested: Requested::None,
+        }
+    }
+}
+
+impl Transfer {
+    // No transfer.
+    pub fn none() -> Transfer
+        ensures { λ r. ⌜ r ≡ noTransfer ⌝ }
+    {
+        Transfer {
+            opened: Opened::Nothing,
+            count: 0,
+            bytes: [255; 9],
+            written: false,
+        }
+    }
+}
+
+impl Status {
+    // Status 0.
+    pub fn none() -> Status
+        ensures { λ r. ⌜ r ≡ noStatus ⌝ }
+    {
+        Status {
+            error: false,
+            success: false,
+            overrun: false,
+            last: 0,
+        }
+    }
+}

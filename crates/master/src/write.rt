@@ -1,0 +1,150 @@
+// The two writes.
+use crate::admit::refused;
+use crate::state::Opened;
+use crate::state::State;
+use crate::state::Transfer;
+use cluster::Verdict;
+use cluster::signals;
+use cluster::values;
+use refusal::Refusal;
+ghost use mathlib.Core.Bool.{Bool, true, false};
+ghost use mathlib.Core.Path.{_≡_};
+ghost use Prim.Native.Nat.{_<_};
+ghost use lib.ListN.{length};
+ghost use Rattle.cluster.specs.Check.{then, RightTable};
+ghost use Rattle.cluster.specs.Table.{signalCount};
+ghost use Rattle.cluster.specs.Values.{valueFits, arrayFits};
+ghost use Rattle.master.specs.Admit.{admitted, Leaves};
+ghost use Rattle.master.specs.Write.{writable as writableOf, markedFrom, touchesOpen, rewritten as rewrittenOf, marked as markedOf};
+ghost use Rattle.master.specs.Write.{refusedWrite, writeOf, writeArrayOf};
+
+// What a write answers.
+pub enum WriteAnswer {
+    Written,
+    Refused(Refusal),
+}
+
+// The state handed back, and the answer.
+pub struct Wrote {
+    pub state: State,
+    pub answer: WriteAnswer,
+}
+
+impl State {
+    // Writes a scalar and marks its frame as written.
+    pub fn write(self, t: &[u16], bytes: &mut [u8], s: u16, v: u32) -> Wrote
+        ensures { λ r. ⌜ Leaves (writeOf (now (t .entry)) self (now (bytes .entry)) s v) r (now (bytes .exit)) ⌝ }
+    {
+        if let Verdict::Refused(refusal) = self.judge_scalar(t, bytes.len(), s, v) {
+            return self.not_written(refusal);
+        }
+        values::put_scalar(t, bytes, s, v as u16);
+        Wrote {
+            state: self.marked(t, s),
+            answer: WriteAnswer::Written,
+        }
+    }
+
+    // Writes an array and marks its frame as written.
+    pub fn write_array(self, t: &[u16], bytes: &mut [u8], s: u16, values: &[u8]) -> Wrote
+        ensures { λ r. ⌜ Leaves (writeArrayOf (now (t .entry)) self (now (bytes .entry)) s (now (values .entry))) r (now (bytes .exit)) ⌝ }
+    {
+        if let Verdict::Refused(refusal) = self.judge_array(t, bytes.len(), s, values) {
+            return self.not_written(refusal);
+        }
+        values::put_array(t, bytes, s, values);
+        Wrote {
+            state: self.marked(t, s),
+            answer: WriteAnswer::Written,
+        }
+    }
+
+    // The verdict on a write of a scalar.
+    fn judge_scalar(self, t: &[u16], size: usize, s: u16, v: u32) -> Verdict
+        ensures { λ r. ⌜ r ≡ then (admitted (now (t .entry)) size self) (writableOf (now (t .entry)) s false (valueFits (now (t .entry)) s v)) ⌝ }
+    {
+        if let Verdict::Refused(refusal) = self.admit(t, size) {
+            return Verdict::Refused(refusal);
+        }
+        writable(t, s, false, values::scalar_fits(t, s, v))
+    }
+
+    // The verdict on a write of an array.
+    fn judge_array(self, t: &[u16], size: usize, s: u16, values: &[u8]) -> Verdict
+        ensures { λ r. ⌜ r ≡ then (admitted (now (t .entry)) size self) (writableOf (now (t .entry)) s true (arrayFits (now (t .entry)) s (now (values .entry)))) ⌝ }
+    {
+        if let Verdict::Refused(refusal) = self.admit(t, size) {
+            return Verdict::Refused(refusal);
+        }
+        writable(t, s, true, values::array_fits(t, s, values))
+    }
+
+    // A refused write.
+    fn not_written(self, refusal: Refusal) -> Wrote
+        ensures { λ r. ⌜ r ≡ refusedWrite self refusal ⌝ }
+    {
+        Wrote {
+            state: self,
+            answer: WriteAnswer::Refused(refusal),
+        }
+    }
+
+    // The frames of a signal are pending, and an open transfer of one of them was written since.
+    fn marked(self, t: &[u16], s: u16) -> State
+        requires { ⌜ RightTable (now t) × (s < signalCount (now t)) ⌝ }
+        ensures { λ r. ⌜ r ≡ markedOf (now (t .entry)) s self ⌝ }
+    {
+        let transfer = self.transfer;
+        let mut next = self;
+        next.pending[signals::frame(t, s) as usize] = true;
+        next.transfer = transfer.rewritten(t, s);
+        next
+    }
+}
+
+impl Transfer {
+    // Written since its opening, where a signal touches its frame.
+    fn rewritten(self, t: &[u16], s: u16) -> Transfer
+        ensures { λ r. ⌜ r ≡ rewrittenOf (now (t .entry)) s self ⌝ }
+    {
+        let opened = self.opened;
+        let mut next = self;
+        if opened.touched(t, s) {
+            next.written = true;
+        }
+        next
+    }
+}
+
+impl Opened {
+    // Whether a signal touches the frame of the transfer.
+    fn touched(self, t: &[u16], s: u16) -> bool
+        ensures { λ r. ⌜ r ≡ touchesOpen (now (t .entry)) s self ⌝ }
+    {
+        match self {
+            Opened::Nothing => false,
+            Opened::Frame(f) => values::touches(t, s, f),
+            Opened::Request => false,
+            Opened::Response => false,
+        }
+    }
+}
+
+// Refusals 4 to 7 of a write.
+fn writable(t: &[u16], s: u16, array: bool, fits: bool) -> Verdict
+    ensures { λ r. ⌜ r ≡ writableOf (now (t .entry)) s array fits ⌝ }
+{
+    if signals::count(t) <= s {
+        return refused(Refusal::UNKNOWN);
+    }
+    if !values::published(t, s) {
+        return refused(Refusal::NOT_PUBLISHED);
+    }
+    if signals::is_array(t, s) != array {
+        return refused(Refusal::KIND);
+    }
+    if !fits {
+        return refused(Refusal::VALUE);
+    }
+    Verdict::Accepted
+}
