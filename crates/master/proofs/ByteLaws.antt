@@ -7,6 +7,8 @@ use native.Mathlib.Omega.{arith}
 use lib.ListN.{length, getD, take, length-take}
 use Rattle.cluster.specs.Check.{RightTable}
 use Rattle.cluster.specs.Table.{published}
+use Rattle.cluster.specs.declared.Verdict.{Verdict}
+use Rattle.cluster.specs.declared.Verdict.the-variants.{Accepted, Refused}
 use Rattle.transport.specs.Reassembly.{written}
 use Rattle.transport.proofs.WrittenLaws.{written-length, written-before, written-behind}
 use Rattle.transport.proofs.Tests.{order}
@@ -16,12 +18,12 @@ use Rattle.master.specs.declared.state.State.{State}
 use Rattle.master.specs.declared.byte.ByteAnswer.{ByteAnswer}
 use Rattle.master.specs.declared.byte.ByteAnswer.the-variants as answer
 use Rattle.master.specs.declared.byte.Took.{Took}
-use Rattle.master.specs.Admit.{admitted, bufferSize, Step}
+use Rattle.master.specs.Admit.{admitted, answered, bufferSize, Step}
 use Rattle.master.specs.Answers.{successful}
 use Rattle.master.specs.Fits.{frameThere}
 use Rattle.master.specs.Transfers.{openLength, sends, frameData}
 use Rattle.master.specs.Closing.{failed, pendingSent, succeeded}
-use Rattle.master.specs.Byte.{plain, passed, withByte, accepted, taken, byteVerdict, byteOf}
+use Rattle.master.specs.Byte.{plain, passed, withByte, sentByte, accepted, taken, byteVerdict, byteOf}
 use Rattle.master.proofs.Admitted.{then-first, admitted-table, admitted-size, admitted-fits, fits-clauses, open-length-high}
 use Rattle.master.proofs.Answered.{by-verdict}
 use Rattle.master.proofs.Cases.{keeping, taken-by, accepted-state}
@@ -97,3 +99,15 @@ module _ (t : List ℕ) (s : State) (bs : List ℕ) (b g : ℕ) where
   unfolding sends
   byte-published p =
       byte-other-frames (λ n e. let q : published t g ≡ false = rw e at n in let z : _≡_ {A = ℕ} 0 1 = cc in omega arith)
+
+-- a byte of a sent transfer is answered by the copy: whatever the live bytes are
+pub byte-by-copy : (t : List ℕ) (s : State) (bs cs : List ℕ) (b : ℕ) → length bs ≡ length cs → sends t (s .transfer .opened) ≡ true
+    → byteOf t s bs b .given ≡ byteOf t s cs b .given
+unfolding byteOf taken
+byte-by-copy t s bs cs b e h = rw (e, h) (by-copy (byteVerdict t (length cs) s))
+  where
+    by-copy : (v : Verdict) →
+        answered {A = Step Took} v (λ r. record { given = plain s (answer.Refused r); left = bs }) (record { given = sentByte t s b; left = bs }) .given
+        ≡ answered {A = Step Took} v (λ r. record { given = plain s (answer.Refused r); left = cs }) (record { given = sentByte t s b; left = cs }) .given
+    by-copy Accepted = refl
+    by-copy (Refused r) = refl

@@ -1,6 +1,6 @@
 -- The last byte of a received transfer with a right checksum, by what is open.
 use Prim.Native.Nat.{ℕ, _*_}
-use mathlib.Core.Path.{_≡_, refl, sym, ap, _∙_}
+use mathlib.Core.Path.{_≡_, sym, ap, _∙_}
 use mathlib.Core.Bool.{true}
 use mathlib.Core.List.{List}
 use lib.ListN.{take}
@@ -10,7 +10,7 @@ use Rattle.master.specs.declared.state.Opened.the-variants.{Nothing, Fra
 use Rattle.master.specs.declared.state.State.{State}
 use Rattle.master.specs.declared.byte.ByteAnswer.the-variants.{Success}
 use Rattle.master.specs.declared.byte.Took.{Took}
-use Rattle.master.specs.Admit.{Step, Leaves}
+use Rattle.master.specs.Admit.{Leaves}
 use Rattle.master.specs.Transfers.{openLength}
 use Rattle.master.specs.Closing.{succeeded}
 use Rattle.master.specs.Byte.{plain, responding, checksumRight, accepted, lastByte}

@@ -1,22 +1,22 @@
 -- What an accepted call knows, call by call.
 use Prim.Native.Nat.{ℕ, _≤_, _<_}
-use mathlib.Core.Path.{_≡_, refl}
-use mathlib.Core.Bool.{Bool, true, false, not, _&&_, Bool·beq}
+use mathlib.Core.Path.{_≡_}
+use mathlib.Core.Bool.{Bool, true, false}
 use mathlib.Core.List.{List}
 use native.Mathlib.Omega.{arith}
 use lib.Dec.{ltb, leb}
 use borrow.Author.Tests.{ltb-true, leb-true}
 use Rattle.refusal.specs.Numbers as number
-use Rattle.transport.proofs.Tests.{and-left, and-right}
+use Rattle.transport.proofs.Tests.{and-right}
 use Rattle.transport.specs.Cutting.{isLength}
 use Rattle.cluster.specs.declared.Verdict.the-variants.{Accepted}
-use Rattle.cluster.specs.Table.{signalCount, memberCount, isArray}
-use Rattle.cluster.specs.Values.{signalPublished, valueFits}
+use Rattle.cluster.specs.Table.{memberCount}
+use Rattle.cluster.specs.Values.{valueFits}
 use Rattle.cluster.specs.Check.{RightTable, then}
 use Rattle.cluster.proofs.ValueLaws.{value-limit}
 use Rattle.master.specs.declared.state.State.{State}
 use Rattle.master.specs.Transfers.{isOpen, openLength, openIdentifier}
-use Rattle.master.specs.Fits.{frameThere, isSending, lentFits, messageFits}
+use Rattle.master.specs.Fits.{lentFits, stateFits}
 use Rattle.master.specs.Admit.{unless, bufferSize, admitted}
 use Rattle.master.specs.Write.{writable}
 use Rattle.master.specs.Message.{sendVerdict}
@@ -24,7 +24,7 @@ use Rattle.master.specs.Tick.{tickVerdict}
 use Rattle.master.specs.Byte.{byteVerdict}
 use Rattle.master.specs.Ahead.{memberOf, aheadVerdict}
 use Rattle.master.proofs.Answered.{Writable, writable-signal}
-use Rattle.master.proofs.Admitted.{then-first, then-second, unless-test, unless-rest, admitted-table, admitted-size, admitted-fits, Fits, fits-clauses, open-identifier, open-length-low, open-length-high, open-count}
+use Rattle.master.proofs.Admitted.{then-first, then-second, unless-test, admits, admitted-table, admitted-size, admitted-fits, Fits, fits-clauses, open-identifier, open-length-low, open-length-high, open-count}
 
 -- ---- write
 
@@ -116,3 +116,9 @@ module _ (t : List ℕ) (n : ℕ) (s : State) (h : byteVerdict t n s ≡ Accepte
 
   pub byte-count-high : s .transfer .count ≤ 8
   byte-count-high = omega (arith, byte-count, byte-length-high)
+
+-- in a state that fits, only a lent message of another length brings a 3 on tick
+pub tick-refusal : (t : List ℕ) (n lent : ℕ) (s : State) → RightTable t → n ≡ bufferSize t → stateFits t s ≡ true
+    → tickVerdict t n lent s ≡ unless (lentFits (s .message) lent) number.state Accepted
+unfolding tickVerdict
+tick-refusal t n lent s ok e h = rw (admits t n s ok e h)

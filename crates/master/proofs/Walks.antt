@@ -1,6 +1,6 @@
 -- The walks over the members of a table: what one member does to the search in a list and to the count of its pending frames.
 use Prim.Native.Nat.{ℕ, suc, _+_, _-_, _≤_, _<_}
-use mathlib.Core.Path.{_≡_, refl}
+use mathlib.Core.Path.{_≡_}
 use mathlib.Core.Bool.{Bool, true, false, cond, _&&_}
 use mathlib.Core.List.{List, [], _∷_}
 use native.Mathlib.Numerals.{add-one}
@@ -10,7 +10,7 @@ use lib.ListN.{getD}
 use Rattle.transport.proofs.Tests.{whether}
 use Rattle.cluster.specs.Table.{memberList, memberFrame}
 use Rattle.cluster.specs.Lists.{membersFrom}
-use Rattle.master.specs.declared.state.Opened.the-variants.{Nothing, Frame}
+use Rattle.master.specs.declared.state.Opened.the-variants.{Frame}
 use Rattle.master.specs.Fits.{isOneOf}
 use Rattle.master.specs.Tick.{firstPending}
 use Rattle.master.specs.Ahead.{pendingCount}

@@ -83,8 +83,9 @@ impl State {
     fn not_written(self, refusal: Refusal) -> Wrote
         ensures { λ r. ⌜ r ≡ refusedWrite self refusal ⌝ }
     {
+        let unchanged = self;
         Wrote {
-            state: self,
+            state: unchanged,
             answer: WriteAnswer::Refused(refusal),
         }
     }
