@@ -12,7 +12,7 @@ use Rattle.cluster.specs.declared.Verdict.{Verdict}
 use Rattle.cluster.specs.declared.Verdict.the-variants.{Accepted, Refused}
 use Rattle.cluster.specs.Table.{signalCount, isArray}
 use Rattle.cluster.specs.Values.{signalPublished}
-use Rattle.master.specs.Admit.{unless, answered}
+use Rattle.master.specs.Admit.{answered}
 use Rattle.master.specs.Write.{writable}
 use Rattle.master.proofs.Admitted.{unless-test, unless-rest}
 
@@ -21,10 +21,6 @@ pub by-verdict : {A : Type 0} (P : A → Type 0) (v : Verdict) (refuse : Refusal
     → ((r : Refusal) → v ≡ Refused r → P (refuse r)) → (v ≡ Accepted → P go) → P (answered v refuse go)
 by-verdict P Accepted refuse go other rest = rest refl
 by-verdict P (Refused r) refuse go other rest = other r refl
-
--- a test in front of nothing but acceptance
-pub unless-only : (b : Bool) (n : ℕ) → unless b n Accepted ≡ Accepted → b ≡ true
-unless-only b n h = unless-test b n Accepted h
 
 -- what a write that is not refused knows of its signal
 pub record Writable (t : List ℕ) (s : ℕ) (array fits : Bool) : Type 0 where

@@ -31,7 +31,7 @@ use Rattle.master.proofs.Admitted.{then-second, unless-test, Fits, fits
 use Rattle.master.proofs.Cases.{taken-by, accepted-state}
 use Rattle.master.proofs.FitsKept.{marked-fits, asking-fits, status-fits, send-fits, failed-fits, succeeded-fits, passed-fits}
 use Rattle.master.proofs.SlotFits.{ticked-fits}
-use Rattle.master.proofs.Answered.{by-verdict, unless-only, writable-signal}
+use Rattle.master.proofs.Answered.{by-verdict, writable-signal}
 
 -- the state after a byte fits
 pub taken-fits : (t : List ℕ) (s : State) → Fits t s → (bs : List ℕ) (b : ℕ) → Fits t (taken t s bs b .given .state)
@@ -72,7 +72,7 @@ select-keeps t s n ok h =
     (λ r e. h)
     (λ a. let b = then-second (admitted t (bufferSize t) s) _ a in
     fits-all t (withPlan s (asking (s .plan) n))
-    (asking-fits t s (fits-clauses t s h) n (ltb-true n (scheduleCount t) (unless-only (ltb n (scheduleCount t)) number.unknown b))))
+    (asking-fits t s (fits-clauses t s h) n (ltb-true n (scheduleCount t) (unless-test (ltb n (scheduleCount t)) number.unknown _ b))))
 
 -- a tick
 pub tick-keeps : (t bs m : List ℕ) (s : State) → RightTable t → stateFits t s ≡ true → stateFits t (tickOf t bs m s .state) ≡ true

@@ -4,7 +4,6 @@ pub mod Answered
 pub mod Bits
 pub mod ByteLaws
 pub mod Cases
-pub mod Conditions
 pub mod Counted
 pub mod Filling
 pub mod FitsKept

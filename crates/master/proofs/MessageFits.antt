@@ -19,7 +19,7 @@ use Rattle.master.specs.declared.state.Message.the-variants as message
 use Rattle.master.specs.Transfers.{isOpen}
 use Rattle.master.specs.Fits.{isSending, entryOpens, canOpen, messageFits}
 use Rattle.master.specs.Message.{sendingAt, moved, messageSent, messageFailed}
-use Rattle.master.proofs.Conditions.{and-true}
+use Rattle.master.proofs.Tests.{and-true}
 
 -- ---- the message
 

@@ -1,22 +1,14 @@
 -- The nine bytes of a transfer, filled one after the other, and the bytes of a frame put back into the buffer.
-use Prim.Native.Nat.{ℕ, suc, _+_, _-_, _<_, _≤_}
-use mathlib.Core.Path.{_≡_, refl, sym, _∙_}
+use Prim.Native.Nat.{ℕ, suc, _+_, _-_, _≤_}
+use mathlib.Core.Path.{_≡_, refl, _∙_}
 use mathlib.Core.List.{List, _∷_, _++_, append-nil}
-use native.Mathlib.Numerals.{add-one}
 use native.Mathlib.Omega.{arith}
-use lib.ListN.{length, getD, set, take, drop, replicate, drop-of-length-le, length-drop}
+use lib.ListN.{length, set, take, drop, replicate, drop-of-length-le, length-drop}
 use borrow.Rule.Slice.PartMut.{putMid}
 use Rattle.transport.specs.Reassembly.{written}
+use Rattle.transport.proofs.Bytes.{delivered}
 use Rattle.cluster.proofs.ValueSteps.{drop-replicate}
-use lib.Seq.{drop-drop, drop-cons, set-at, length-take-le, take-suc, append-snoc, take-length}
-
--- one byte more is copied
-pub fill-turn : (to₀ from to : List ℕ) (i : ℕ) → i < length from → i < length to₀ → to ≡ take i from ++ drop i to₀ →
-    set to i (getD from i 0) ≡ take (i + 1) from ++ drop (i + 1) to₀
-fill-turn to₀ from to i h h₀ q =
-    let s : set (take i from ++ (getD to₀ i 0 ∷ drop (suc i) to₀)) i (getD from i 0) ≡ take i from ++ (getD from i 0 ∷ drop (suc i) to₀) =
-    set-at (take i from) (getD to₀ i 0) (drop (suc i) to₀) (getD from i 0) i (length-take-le i from (omega arith)) in
-    rw (q, drop-cons to₀ i 0 h₀, s, add-one, take-suc from i 0 h) (sym (append-snoc (take i from) (getD from i 0) (drop (suc i) to₀)))
+use lib.Seq.{set-at, length-take-le, take-length}
 
 -- a part that is filled to its end has the first bytes
 pub filled-nine : (part nine now : List ℕ) (i : ℕ) → i ≡ length part → now ≡ take i nine ++ drop i part → now ≡ take (length part) nine
@@ -34,9 +26,8 @@ nine-bytes ds x now i e h q =
 -- the part of the buffer that was lent to take a frame's data, put back
 pub stored : (b nine ys : List ℕ) (at n : ℕ) → at + n ≤ length b → n ≤ length nine → ys ≡ take (length (take (at + n - at) (drop at b))) nine
     → putMid at (at + n - at) b ys ≡ written b at (take n nine)
-unfolding written
 stored b nine ys at n h k e =
     let p : at + n - at ≡ n = omega arith in
+    let q : 0 + n - 0 ≡ n = omega arith in
     let l : length (take n (drop at b)) ≡ n = length-take-le n (drop at b) (simp length-drop (omega arith)) in
-    let d : length (take n nine) ≡ n = length-take-le n nine k in
-    rw (e, p, l, d, drop-drop n at b)
+    delivered b nine ys at 0 n (omega arith) (rw (e, p, l, q))

@@ -5,7 +5,7 @@ use mathlib.Core.Bool.{true}
 use mathlib.Core.List.{List}
 use native.Mathlib.Omega.{arith}
 use native.Mathlib.Nat.{sub-zero}
-use lib.ListN.{length, take, drop, length-drop}
+use lib.ListN.{length, take, drop}
 use lib.Seq.{length-take-le, take-length}
 use Rattle.cluster.specs.Table.{frameCount, frameLength}
 use Rattle.cluster.specs.Check.{RightTable}
@@ -15,6 +15,7 @@ use Rattle.master.specs.Admit.{bufferSize}
 use Rattle.master.specs.Fits.{frameThere}
 use Rattle.master.specs.Transfers.{frameData}
 use Rattle.master.proofs.Admitted.{frame-below}
+use Rattle.master.proofs.OpenLaws.{frame-data-length}
 
 pub buffer-size-is : (t : List ℕ) → bufferSize t ≡ 8 * frameCount t
 unfolding bufferSize
@@ -35,9 +36,7 @@ module _ (t : List ℕ) (ok : RightTable t) (bs : List ℕ) (size : length bs �
   part-data = let p : 8 * f + n - 8 * f ≡ n = omega arith in rw (p, e)
 
   part-length : length (take (8 * f + n - 8 * f) (drop (8 * f) bs)) ≡ n
-  part-length =
-      let p : 8 * f + n - 8 * f ≡ n = omega arith in
-      rw p (length-take-le n (drop (8 * f) bs) (simp length-drop (omega (arith, part-end))))
+  part-length = rw (part-data, e) (frame-data-length t ok bs f (frame-below t ok f there) size)
 
   pub part-low : 1 ≤ length (take (8 * f + n - 8 * f) (drop (8 * f) bs))
   part-low = omega (arith, part-length, e, frame-length-low t ok f (frame-below t ok f there))

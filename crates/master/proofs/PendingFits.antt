@@ -15,8 +15,7 @@ use Rattle.master.specs.declared.state.Opened.the-variants.{Nothing, Fra
 use Rattle.master.specs.Fits.{bitFits, pendingFits}
 use Rattle.master.specs.Write.{markedFrom}
 use Rattle.master.specs.Closing.{pendingSent}
-use Rattle.master.proofs.Conditions.{and-true}
-use Rattle.master.proofs.Tests.{or-true, or-false}
+use Rattle.master.proofs.Tests.{and-true, or-true, or-false}
 
 module _ (t : List ℕ) where
   -- nothing pending fits

@@ -1,6 +1,7 @@
 // Runs the master through scripted scenarios and prints each call with its answer. The file stdout beside src/ has what 01 says.
 mod calls;
 mod desk;
+mod faults;
 mod messages;
 mod parts;
 mod pending;
@@ -28,6 +29,7 @@ fn main() {
     transfers::all(&message);
     messages::all(&message);
     refusals::all(&message);
+    faults::all(&message);
     states::all(&message);
 }
 

@@ -25,10 +25,9 @@ unfolding dataBytes
 six m at = simp add-assoc
 
 -- one byte more is copied
-pub copy-turn : (to₀ from to : List ℕ) (i : ℕ) → i < length from → length to₀ ≡ length from → to ≡ take i from ++ drop i to₀ →
+pub copy-turn : (to₀ from to : List ℕ) (i : ℕ) → i < length from → i < length to₀ → to ≡ take i from ++ drop i to₀ →
     set to i (getD from i 0) ≡ take (i + 1) from ++ drop (i + 1) to₀
-copy-turn to₀ from to i h e q =
-    let h₀ : i < length to₀ = omega arith in
+copy-turn to₀ from to i h h₀ q =
     let s : set (take i from ++ (getD to₀ i 0 ∷ drop (suc i) to₀)) i (getD from i 0) ≡ take i from ++ (getD from i 0 ∷ drop (suc i) to₀) =
     set-at (take i from) (getD to₀ i 0) (drop (suc i) to₀) (getD from i 0) i (length-take-le i from (omega arith)) in
     rw (q, drop-cons to₀ i 0 h₀, s, add-one, take-suc from i 0 h) (sym (append-snoc (take i from) (getD from i 0) (drop (suc i) to₀)))

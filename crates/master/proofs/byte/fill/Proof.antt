@@ -5,7 +5,8 @@ use lib.ListN.{drop, length, length-set, take}
 use mathlib.Core.List.{_++_}
 use mathlib.Core.Path.{_≡_, refl}
 use native.Mathlib.Omega.{arith}
-use Rattle.master.proofs.Nine.{fill-turn, filled-nine}
+use Rattle.transport.proofs.Bytes.{copy-turn}
+use Rattle.master.proofs.Nine.{filled-nine}
 use Rattle.master.proofs.byte.fill.Statement.{statement}
 use Rattle.master.proofs.byte.fill.Tie as tie
 
@@ -35,7 +36,7 @@ loop-again c =
     let a = c .before .before .args in
     let at = c .before .loop in
     let l : length (a .t2) ≡ 9 = search needs in
-    (omega (arith, c .loop-test .taken, at .inv .1), simp length-set (at .inv .1), fill-turn (a .part .now) (a .t2) _ (at .i) (omega (arith, c .loop-test .taken, at .inv .1, c .before .before .pre, l)) (omega (arith, c .loop-test .taken, at .inv .1)) (at .inv .2))
+    (omega (arith, c .loop-test .taken, at .inv .1), simp length-set (at .inv .1), copy-turn (a .part .now) (a .t2) _ (at .i) (omega (arith, c .loop-test .taken, at .inv .1, c .before .before .pre, l)) (omega (arith, c .loop-test .taken, at .inv .1)) (at .inv .2))
 
 same-length : tie.Need-same-length Inv-loop μ-loop
 same-length c = c .before .loop .inv .1

@@ -5,7 +5,8 @@ use lib.ListN.{drop, length, replicate, take}
 use mathlib.Core.List.{_++_}
 use mathlib.Core.Path.{_≡_, refl}
 use native.Mathlib.Omega.{arith}
-use Rattle.master.proofs.Nine.{fill-turn, nine-bytes}
+use Rattle.transport.proofs.Bytes.{copy-turn}
+use Rattle.master.proofs.Nine.{nine-bytes}
 use Rattle.master.proofs.opened.nine.Statement.{statement}
 use Rattle.master.proofs.opened.nine.Tie as tie
 
@@ -34,7 +35,7 @@ loop-again : tie.Need-loop-again Inv-loop μ-loop
 loop-again c =
     let at = c .before .before .loop in
     let test = c .before .loop-test in
-    (omega (arith, test .taken), refl, fill-turn (replicate 9 255) (c .before .before .before .args .bytes .now) _ (at .i) (test .taken) (omega (arith, test .taken, c .before .before .before .pre)) (at .inv .2))
+    (omega (arith, test .taken), refl, copy-turn (replicate 9 255) (c .before .before .before .args .bytes .now) _ (at .i) (test .taken) (omega (arith, test .taken, c .before .before .before .pre)) (at .inv .2))
 
 array-write-all-2 : tie.Need-array-write-all-2 Inv-loop μ-loop
 array-write-all-2 c = omega (arith, c .before .before .pre)
