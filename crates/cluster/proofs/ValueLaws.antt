@@ -10,7 +10,7 @@ use lib.ListN.{length, getD}
 use Rattle.wire.specs.Bits.{bit, Bytes}
 use Rattle.signal.specs.Signal.{bitAt, inside, putBits, scalarWidth, putScalar, putArray}
 use Rattle.signal.proofs.Inside.{order}
-use Rattle.signal.proofs.Laws.{Apart, bit-stays, byte-stays, get-put-value, get-put-array, get-other, get-other-array}
+use Rattle.signal.proofs.Laws.{Apart, bit-stays, byte-stays, put-alike, get-put-value, get-put-array, get-other, get-other-array}
 use Rattle.signal.proofs.PutBits.{put-length, put-bytes}
 use Rattle.cluster.specs.Check.{RightTable}
 use Rattle.cluster.specs.Fresh.{signalPlace, arrayLength}
@@ -42,6 +42,20 @@ scalar-bytes t bs s v = put-bytes bs (signalPlace t s) (scalarWidth (signalWidth
 pub array-bytes : (t bs : List ℕ) (s : ℕ) (vs : List ℕ) → Bytes (withArray t bs s vs)
 unfolding withArray putArray
 array-bytes t bs s vs = put-bytes bs (signalPlace t s) (8 * length vs) (bitAt vs)
+
+-- ---- a byte after a write goes by what that byte was before
+
+-- a write of a scalar
+pub scalar-alike : (t bs cs : List ℕ) (s v i : ℕ) → length bs ≡ length cs → getD bs i 0 ≡ getD cs i 0
+    → getD (withScalar t bs s v) i 0 ≡ getD (withScalar t cs s v) i 0
+unfolding withScalar putScalar
+scalar-alike t bs cs s v = put-alike bs cs (signalPlace t s) (scalarWidth (signalWidth t s)) (bit v)
+
+-- a write of an array
+pub array-alike : (t bs cs : List ℕ) (s : ℕ) (vs : List ℕ) (i : ℕ) → length bs ≡ length cs → getD bs i 0 ≡ getD cs i 0
+    → getD (withArray t bs s vs) i 0 ≡ getD (withArray t cs s vs) i 0
+unfolding withArray putArray
+array-alike t bs cs s vs = put-alike bs cs (signalPlace t s) (8 * length vs) (bitAt vs)
 
 -- ---- a write of a scalar and of an array in one form
 

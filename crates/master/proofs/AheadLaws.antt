@@ -12,7 +12,7 @@ use lib.Seq.{take-at, getD-at}
 use Rattle.cluster.specs.Check.{RightTable}
 use Rattle.cluster.specs.Lists.{membersFrom, members}
 use Rattle.cluster.specs.Table.{memberCount, memberList, memberFrame}
-use Rattle.cluster.proofs.ListLaws.{listed-distinct}
+use Rattle.cluster.proofs.ListLaws.{listed, listed-distinct}
 use Rattle.cluster.proofs.ListWalk.{turn-in, turn-out}
 use Rattle.cluster.proofs.MemberLaws.{members-distinct}
 use Rattle.cluster.proofs.Searching.{first-holds, first-least}
@@ -93,7 +93,7 @@ module _ (t : List ℕ) (ok : RightTable t) (bits : List Bool) (f : ℕ) (h : me
       })
 
   -- the frames ahead are the only ones in front of the frame
-  same-ahead : (fs gs : List ℕ) → list ≡ fs ++ (f ∷ gs) → fs ≡ framesAhead t f
+  pub same-ahead : (fs gs : List ℕ) → list ≡ fs ++ (f ∷ gs) → fs ≡ framesAhead t f
   same-ahead fs gs e =
       let cs = framesAhead t f in
       let ds = ahead-parts t f h .0 in
@@ -125,3 +125,13 @@ member-of t ok m h =
     let f = memberFrame t m in
     let b : memberOf t f < memberCount t = omega (arith, found t f m refl) in
     members-distinct t ok (memberOf t f) m b h (member-of-frame t f b)
+
+-- a frame that stands in a list is the frame of a member of that list
+pub listed-member : (t : List ℕ) → RightTable t → (l f : ℕ) (ahead behind : List ℕ) → members t l ≡ ahead ++ (f ∷ behind)
+    → (memberOf t f < memberCount t) × (memberList t (memberOf t f) ≡ l)
+listed-member t ok l f ahead behind e =
+    let b : length ahead < length (members t l) = rw e (omega (arith, length-append ahead (f ∷ behind))) in
+    let w = listed t l (length ahead) b in
+    let g : getD (members t l) (length ahead) 0 ≡ f = rw e (getD-at ahead f behind 0 (length ahead) refl) in
+    let q : memberOf t f ≡ w .member = ap (memberOf t) (sym g ∙ w .same) ∙ member-of t ok (w .member) (w .below) in
+    (rw q (w .below), ap (memberList t) q ∙ w .list)

@@ -60,7 +60,7 @@ byte-pending t s bs b =
 
 module _ (t : List ℕ) (ok : RightTable t) (s : State) (bs : List ℕ) (size : length bs ≡ bufferSize t) where
   -- data stored in one frame leave each byte of another
-  stored-other : (f g : ℕ) (nine : List ℕ) → frameThere t (Frame f) ≡ true → (f ≡ g → ⊥) → (k : ℕ) → k < 8
+  pub stored-other : (f g : ℕ) (nine : List ℕ) → frameThere t (Frame f) ≡ true → (f ≡ g → ⊥) → (k : ℕ) → k < 8
       → getD (written bs (8 * f) (take (openLength t (Frame f)) nine)) (8 * g + k) 0 ≡ getD bs (8 * g + k) 0
   stored-other f g nine h n k b =
       let ds = take (openLength t (Frame f)) nine in

@@ -68,33 +68,35 @@ opened t bs m s o =
 
 module _ (t bs m : List ℕ) (P : Ticked → Type 0) where
   opens-by : (s : State) (o : Opened)
-      → P (record { state = s; answer = tick.Silent })
+      → (isOpen o ≡ false → P (record { state = s; answer = tick.Silent }))
       → (isOpen o ≡ true → P (record { state = opened t bs m s o; answer = tick.Opened (openProtected t o) }))
       → P (opens t bs m s o)
   unfolding opens
-  opens-by s o silent opening = whether (isOpen o) (λ y. rw y (opening y)) (λ n. rw n silent)
+  opens-by s o silent opening = whether (isOpen o) (λ y. rw y (opening y)) (λ n. rw n (silent n))
 
   slot-by : (s : State) (c : Current)
-      → P (record { state = s; answer = tick.Idle })
+      → (c ≡ current.None → P (record { state = s; answer = tick.Idle }))
       → ((e : ℕ) → c ≡ current.Entry e → P (opens t bs m (withPlan s (begun t e)) (slotOpens t (s .pending) (s .message) e)))
       → P (slotAt t bs m s c)
   unfolding slotAt
-  slot-by s current.None idle entry = idle
+  slot-by s current.None idle entry = idle refl
   slot-by s (current.Entry e) idle entry = entry e refl
 
   -- a tick waits, or starts a slot that is idle, silent or opens something
   pub ticked-by : (s : State)
       → (waits (s .plan) ≡ true → P (record { state = withPlan s (waited (s .plan)); answer = tick.Waiting }))
-      → P (record { state = abandoned t s; answer = tick.Idle })
-      → ((e : ℕ) → entryDue t (s .plan .requested) (s .plan .current) ≡ current.Entry e
+      → (waits (s .plan) ≡ false → entryDue t (s .plan .requested) (s .plan .current) ≡ current.None
+      → P (record { state = abandoned t s; answer = tick.Idle }))
+      → ((e : ℕ) → waits (s .plan) ≡ false → entryDue t (s .plan .requested) (s .plan .current) ≡ current.Entry e
+      → isOpen (slotOpens t (abandoned t s .pending) (abandoned t s .message) e) ≡ false
       → P (record { state = withPlan (abandoned t s) (begun t e); answer = tick.Silent }))
-      → ((e : ℕ) (o : Opened) → entryDue t (s .plan .requested) (s .plan .current) ≡ current.Entry e
+      → ((e : ℕ) (o : Opened) → waits (s .plan) ≡ false → entryDue t (s .plan .requested) (s .plan .current) ≡ current.Entry e
       → o ≡ slotOpens t (abandoned t s .pending) (abandoned t s .message) e → isOpen o ≡ true
       → P (record { state = opened t bs m (withPlan (abandoned t s) (begun t e)) o; answer = tick.Opened (openProtected t o) }))
       → P (ticked t bs m s)
   unfolding ticked slot
   ticked-by s waiting idle silent opening =
       whether (waits (s .plan)) (λ y. rw y (waiting y))
-      (λ n. rw n (slot-by (abandoned t s) (entryDue t (s .plan .requested) (s .plan .current)) idle
+      (λ n. rw n (slot-by (abandoned t s) (entryDue t (s .plan .requested) (s .plan .current)) (idle n)
       (λ e c. let o = slotOpens t (abandoned t s .pending) (abandoned t s .message) e in
-      opens-by (withPlan (abandoned t s) (begun t e)) o (silent e c) (opening e o c refl))))
+      opens-by (withPlan (abandoned t s) (begun t e)) o (silent e n c) (opening e o n c refl))))

@@ -7,6 +7,7 @@ pub mod Cases
 pub mod Counted
 pub mod Filling
 pub mod FitsKept
+pub mod History
 pub mod Keeps
 pub mod LastByte
 pub mod Lengths

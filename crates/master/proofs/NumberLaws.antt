@@ -81,7 +81,7 @@ unfolding selectOf
 select-number t s n = numbered (λ (w : Chosen). selectRefusal (w .answer)) (selectVerdict t s n) _ _ (λ r. refl) refl
 
 ticked-number : (t bs m : List ℕ) (s : State) → tickRefusal (ticked t bs m s .answer) ≡ 0
-ticked-number t bs m s = ticked-by t bs m (λ w. tickRefusal (w .answer) ≡ 0) s (λ y. refl) refl (λ e c. refl) (λ e o c p y. refl)
+ticked-number t bs m s = ticked-by t bs m (λ w. tickRefusal (w .answer) ≡ 0) s (λ y. refl) (λ n c. refl) (λ e n c q. refl) (λ e o n c p y. refl)
 
 -- tick
 pub tick-number : (t bs m : List ℕ) (s : State) → tickRefusal (tickOf t bs m s .answer) ≡ verdictNumber (tickVerdict t (length bs) (length m) s)

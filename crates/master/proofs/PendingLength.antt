@@ -31,16 +31,17 @@ use Rattle.master.proofs.Answered.{by-verdict}
 
 -- ---- the calls that leave the pending bits
 
-module _ (t bs m : List ℕ) where
-  abandoned-pending : (s : State) → abandoned t s .pending ≡ s .pending
-  unfolding abandoned failed
-  abandoned-pending s = whether (isOpen (s .transfer .opened)) (λ y. rw y) (λ n. rw n)
+-- closing what is open at a slot start leaves them
+pub abandoned-pending : (t : List ℕ) (s : State) → abandoned t s .pending ≡ s .pending
+unfolding abandoned failed
+abandoned-pending t s = whether (isOpen (s .transfer .opened)) (λ y. rw y) (λ n. rw n)
 
+module _ (t bs m : List ℕ) where
   ticked-pending : (s : State) → ticked t bs m s .state .pending ≡ s .pending
   unfolding withPlan
   ticked-pending s =
       ticked-by t bs m (λ w. w .state .pending ≡ s .pending) s
-      (λ y. refl) (abandoned-pending s) (λ e c. abandoned-pending s) (λ e o c p y. abandoned-pending s)
+      (λ y. refl) (λ n c. abandoned-pending t s) (λ e n c q. abandoned-pending t s) (λ e o n c p y. abandoned-pending t s)
 
   -- no tick changes a pending bit, also where it closes a transfer
   pub tick-pending : (s : State) → tickOf t bs m s .state .pending ≡ s .pending

@@ -83,7 +83,7 @@ tick-refused t bs m s =
     by-verdict (λ (w : Ticked). (r : Refusal) → w .answer ≡ tick.Refused r → w .state ≡ s) (tickVerdict t (length bs) (length m) s) _ _
     (λ q e r k. refl)
     (λ a. ticked-by t bs m (λ w. (r : Refusal) → w .answer ≡ tick.Refused r → w .state ≡ s) s
-    (λ y r k. cc) (λ r k. cc) (λ e c r k. cc) (λ e o c p y r k. cc))
+    (λ y r k. cc) (λ n c r k. cc) (λ e n c q r k. cc) (λ e o n c p y r k. cc))
 
 -- what a refused byte in leaves: the state, the frame bytes, and no response
 abbrev pub Untouched : State → List ℕ → Step Took → Type 0

@@ -55,7 +55,7 @@ module _ (t : List ℕ) (s : State) where
       by-verdict (λ (w : Ticked). Stays (s .status) (w .state .status)) (tickVerdict t (length bs) (length m) s) _ _
       (λ r e. same (s .status))
       (λ a. ticked-by t bs m (λ w. Stays (s .status) (w .state .status)) s
-      (λ y. same (s .status)) abandoned-stays (λ e c. abandoned-stays) (λ e o c p y. abandoned-stays))
+      (λ y. same (s .status)) (λ n c. abandoned-stays) (λ e n c q. abandoned-stays) (λ e o n c p y. abandoned-stays))
 
   failed-stays : Stays (s .status) (failed t s true .status)
   unfolding failed

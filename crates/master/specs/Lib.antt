@@ -14,3 +14,12 @@ pub mod Tick
 pub mod Byte
 pub mod Ahead
 pub mod Answers
+pub mod Seq
+pub mod Calls
+pub mod Run
+pub mod Acts
+pub mod Schedule
+pub mod History
+pub mod Answering
+pub mod Replies
+pub mod Claim

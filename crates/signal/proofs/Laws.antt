@@ -1,5 +1,5 @@
 -- The laws of signals that the crates above use, each proved once over every offset and width.
-use Prim.Native.Nat.{ℕ, _+_, _-_, _*_, _%_, _^_, _<_, _≤_}
+use Prim.Native.Nat.{ℕ, _+_, _-_, _*_, _/_, _%_, _^_, _<_, _≤_}
 use mathlib.Core.Path.{_≡_, refl, sym, _∙_, ap}
 use mathlib.Core.Bool.{Bool, cond, _&&_}
 use mathlib.Core.List.{List}
@@ -61,6 +61,19 @@ byte-stays bs o w f i hb apart =
     ∙ number-ext 8 (λ k. bitAt (putBits bs o w f) (8 * i + k)) (λ k. bitAt bs (8 * i + k))
     (λ k hk. bit-stays bs o w f (8 * i + k) (apart-bit (8 * i) 8 o w k hk apart))
     ∙ byte-is bs i hb
+
+-- a byte after a put goes by what that byte was before, in whatever bytes it stands
+pub put-alike : (bs cs : List ℕ) (o w : ℕ) (f : ℕ → Bool) (i : ℕ) → length bs ≡ length cs → getD bs i 0 ≡ getD cs i 0
+    → getD (putBits bs o w f) i 0 ≡ getD (putBits cs o w f) i 0
+unfolding bitAt
+put-alike bs cs o w f i e same =
+    sym (byte-is (putBits bs o w f) i (put-bytes bs o w f))
+    ∙ number-ext 8 (λ k. bitAt (putBits bs o w f) (8 * i + k)) (λ k. bitAt (putBits cs o w f) (8 * i + k))
+    (λ k hk.
+    let at : (8 * i + k) / 8 ≡ i = omega arith in
+    let old : bitAt bs (8 * i + k) ≡ bitAt cs (8 * i + k) = rw (at, same) in
+    put-bit bs o w f (8 * i + k) ∙ rw (e, old) (sym (put-bit cs o w f (8 * i + k))))
+    ∙ byte-is (putBits cs o w f) i (put-bytes cs o w f)
 
 -- ---- scalars
 

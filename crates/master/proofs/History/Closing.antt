@@ -1,0 +1,107 @@
+-- Closing a transfer: the message and the status after it, and the transfer record that a slot start leaves.
+use Prim.Native.Nat.{ℕ, _<_}
+use mathlib.Core.Path.{_≡_, refl, sym, ap, _∙_}
+use mathlib.Core.Bool.{Bool, true, false, cond, _&&_}
+use mathlib.Core.List.{List, [], _∷_, _++_}
+use native.Mathlib.Omega.{arith}
+use lib.Dec.{ltb}
+use lib.ListN.{length, length-append, replicate}
+use borrow.Author.Tests.{lt-ltb}
+use Rattle.transport.proofs.Tests.{whether}
+use Rattle.master.specs.declared.state.Opened.{Opened}
+use Rattle.master.specs.declared.state.Opened.the-variants.{Nothing, Frame, Request, Response}
+use Rattle.master.specs.declared.state.Message.{Message}
+use Rattle.master.specs.declared.state.Transfer.{Transfer}
+use Rattle.master.specs.declared.state.State.{State}
+use Rattle.master.specs.declared.byte.ByteAnswer.{ByteAnswer}
+use Rattle.master.specs.Answers.{successful}
+use Rattle.master.specs.Fresh.{noTransfer}
+use Rattle.master.specs.Transfers.{isOpen, sends, openProtected}
+use Rattle.master.specs.Status.{counted, statusAfter}
+use Rattle.master.specs.Message.{messageSent, messageFailed}
+use Rattle.master.specs.Closing.{failed}
+use Rattle.master.specs.Tick.{abandoned}
+use Rattle.master.specs.Seq.{Seq, _▹_}
+use Rattle.master.specs.Acts.{ticked, took}
+use Rattle.master.specs.declared.tick.TickAnswer.{TickAnswer}
+use Rattle.master.specs.Schedule.{Scheduled, act, isStart, starts}
+use Rattle.master.specs.History.{isEnd, closes, succeeds, openAfter, gotBy, gotAfter}
+use Rattle.master.specs.Answering.{messageAfter, countedAfter, statusOver}
+use Rattle.master.proofs.SlotFits.{not-open}
+use Rattle.master.proofs.History.Computed.{rewrittenAfter, rewritten-closed}
+use Rattle.master.proofs.History.Events.{starts-closes, starts-unsent}
+use Rattle.master.proofs.History.StatusOver.{status-counted}
+use Rattle.master.proofs.History.TransferIs.{TransferIs}
+use Rattle.master.proofs.History.Agrees.{Agrees}
+use Rattle.master.specs.Run.{Held}
+
+-- ---- a byte that ends its transfer
+
+module _ (t : List ℕ) (h : Seq Scheduled) (x : Held) (is : Agrees t h x) (y : Scheduled) (b : ℕ) (c : ByteAnswer) (a : act y ≡ took b c) (e : isEnd c ≡ true) where
+  pub end-closes : closes y ≡ true
+  unfolding closes
+  end-closes = rw (a, e)
+
+  pub end-message : messageAfter t (h ▹ y)
+      ≡ cond (successful c) (messageSent (x .state .transfer .opened) (x .state .message)) (messageFailed (x .state .transfer .opened) (x .state .message))
+  unfolding messageAfter succeeds
+  end-message = rw (end-closes, a, is .message-is, is .transfer .opened-is)
+
+  -- it counts: the byte is one of the response
+  pub end-status : isOpen (x .state .transfer .opened) ≡ true
+      → counted (x .state .status) (successful c) (openProtected t (x .state .transfer .opened)) ≡ statusOver (countedAfter t (h ▹ y))
+  unfolding countedAfter gotBy succeeds
+  end-status o =
+      let p : isOpen (openAfter t h) ≡ true = rw (is .transfer .opened-is) at o in
+      let l : ltb 0 (length (gotAfter h ++ (b ∷ []))) ≡ true = lt-ltb 0 (length (gotAfter h ++ (b ∷ []))) (omega (arith, length-append (gotAfter h) (b ∷ []))) in
+      rw (end-closes, a, p, l, is .status-is, is .transfer .opened-is)
+      (sym (status-counted (countedAfter t h) (record { protected = openProtected t (openAfter t h); success = successful c })))
+
+-- ---- a slot start
+
+-- the message behind the closing of what is open
+pub abandoned-message : (t : List ℕ) (s : State) → abandoned t s .message ≡ messageFailed (s .transfer .opened) (s .message)
+unfolding abandoned failed messageFailed
+abandoned-message t s = whether (isOpen (s .transfer .opened)) (λ y. rw y) (λ n. rw (n, not-open (s .transfer .opened) n))
+
+module _ (t : List ℕ) (h : Seq Scheduled) (x : Held) (is : Agrees t h x) where
+  -- where nothing is open the record is that of no transfer
+  none-open : openAfter t h ≡ Nothing → x .state .transfer ≡ noTransfer
+  unfolding sends
+  none-open n =
+      let g = is .transfer .closed-is n in
+      let o : x .state .transfer .opened ≡ Nothing = is .transfer .opened-is ∙ n in
+      let k : x .state .transfer .count ≡ 0 = rw g at (is .transfer .count-is) in
+      let b : x .state .transfer .bytes ≡ replicate 9 255 = rw (n, g) at (is .transfer .nine-is) in
+      let w : x .state .transfer .written ≡ false = is .transfer .rewritten-is ∙ rewritten-closed t h n in
+      λ i. record { opened = o i; count = k i; bytes = b i; written = w i }
+
+  -- what a slot start leaves of the transfer
+  pub abandoned-transfer : abandoned t (x .state) .transfer ≡ noTransfer
+  unfolding abandoned failed
+  abandoned-transfer =
+      let o = x .state .transfer .opened in
+      whether (isOpen o) (λ p. rw p) (λ n. rw n (none-open (sym (is .transfer .opened-is) ∙ not-open o n)))
+
+  module _ (y : Scheduled) (m : List ℕ) (c : TickAnswer) (a : act y ≡ ticked m c) (s : isStart (y .slot) ≡ true) where
+    pub start-is : starts y ≡ true
+    start-is = rw (a, s)
+
+    -- the message after it
+    pub start-message : messageAfter t (h ▹ y) ≡ messageFailed (openAfter t h) (messageAfter t h)
+    unfolding messageAfter
+    start-message = rw (starts-closes y start-is, starts-unsent y start-is)
+
+    -- the status after it: what was open counts where it had a response byte
+    pub start-status : abandoned t (x .state) .status ≡ statusOver (countedAfter t (h ▹ y))
+    unfolding abandoned failed statusAfter countedAfter gotBy
+    start-status =
+        let o = x .state .transfer .opened in
+        let p = is .transfer .opened-is in
+        let k = is .transfer .count-is in
+        whether (isOpen o)
+        (λ q. whether (ltb 0 (length (gotAfter h)))
+        (λ l. rw (q, k, l, starts-closes y start-is, a, ← p, q, l, starts-unsent y start-is, is .status-is)
+        (sym (status-counted (countedAfter t h) (record { protected = openProtected t o; success = false }))))
+        (λ l. rw (q, k, l, starts-closes y start-is, a, ← p, q, l) (is .status-is)))
+        (λ q. rw (q, starts-closes y start-is, a, ← p, q) (is .status-is))

@@ -1,0 +1,90 @@
+-- Every sequence of calls after an accepted fresh call: what holds after it, and at each of its events.
+use Prim.Native.Nat.{ℕ, suc, _≤_}
+use mathlib.Core.Path.{_≡_, refl, sym, _∙_}
+use mathlib.Core.Bool.{true}
+use mathlib.Core.List.{List}
+use native.Mathlib.Omega.{arith}
+use lib.ListN.{length, take}
+use Rattle.refusal.specs.declared.Refusal.{Refusal}
+use Rattle.cluster.specs.declared.Verdict.the-variants as verdict
+use Rattle.cluster.specs.Check.{judged, RightTable}
+use Rattle.cluster.specs.Fresh.{freshBytes}
+use Rattle.master.specs.declared.start.FreshAnswer.the-variants as start
+use Rattle.master.specs.declared.start.Started.{Started}
+use Rattle.master.specs.Admit.{Step}
+use Rattle.master.specs.Fresh.{fresh}
+use Rattle.master.specs.Start.{freshVerdict, freshOf}
+use Rattle.master.specs.Transfers.{isOpen, openLength, sends}
+use Rattle.master.specs.Seq.{Seq, ∅, _▹_}
+use Rattle.master.specs.Calls.{Call, Event, _⇒_}
+use Rattle.master.specs.Run.{Held, held, answerOf, leftBy, heldAfter, historyOf}
+use Rattle.master.specs.Schedule.{Scheduled, schedule, scheduled}
+use Rattle.master.specs.History.{openAfter, gotAfter}
+use Rattle.master.specs.Answering.{dueAfter}
+use Rattle.master.specs.Replies.{Replies}
+use Rattle.master.specs.Claim.{recordOf}
+use Rattle.master.proofs.Admitted.{then-first, fits-clauses, open-count}
+use Rattle.master.proofs.Answered.{by-verdict}
+use Rattle.master.proofs.History.Along.{Along}
+use Rattle.master.proofs.History.Agrees.{Agrees, agrees-fresh}
+use Rattle.master.proofs.History.Progress.{Lawful}
+use Rattle.master.proofs.History.Stepped.{Stepped}
+use Rattle.master.proofs.History.Steps.{steps}
+
+-- the answer of an event is the one that the history before it gives
+abbrev pub RepliesTo : List ℕ → Seq Scheduled → Event → Type 0
+RepliesTo t h (c ⇒ a) = Replies t h c a
+
+-- what holds of an event x after h
+pub record Good (t : List ℕ) (h : Seq Scheduled) (x : Scheduled) : Type 0 where
+  -- its slot is the one due
+  pub placed : x .slot ≡ schedule t h (x .event) .slot
+  pub replies : RepliesTo t h (x .event)
+  pub lawful : Lawful t h x
+  -- of the transfer that is open before it: no more bytes came than close it, and of one that the master sends they are the first of those due
+  pub short : isOpen (openAfter t h) ≡ true → length (gotAfter h) ≤ openLength t (openAfter t h)
+  pub due-length : sends t (openAfter t h) ≡ true → length (dueAfter t h) ≡ suc (openLength t (openAfter t h))
+  pub matched : sends t (openAfter t h) ≡ true → gotAfter h ≡ take (length (gotAfter h)) (dueAfter t h)
+
+module _ (t : List ℕ) (h : Seq Scheduled) (x : Held) (is : Agrees t h x) (c : Call) (st : Stepped t h c (answerOf t x c) (leftBy t x c)) where
+  good-step : Good t h (schedule t h (c ⇒ answerOf t x c))
+  unfolding schedule
+  good-step = record {
+    placed = refl;
+    replies = st .replies;
+    lawful = st .lawful;
+    short = λ o.
+        rw (← is .transfer .count-is, ← is .transfer .opened-is)
+        (open-count t (x .state) (fits-clauses t (x .state) (is .fits) .count-fits) (rw (is .transfer .opened-is) o));
+    due-length = is .transfer .due-length;
+    matched = is .transfer .matched;
+  }
+
+module _ (t bs : List ℕ) (accepted : freshOf t bs .given .answer ≡ start.Fresh) where
+  fresh-accepts : freshVerdict t (length bs) ≡ verdict.Accepted
+  unfolding freshOf
+  fresh-accepts =
+      by-verdict (λ (w : Step Started). w .given .answer ≡ start.Fresh → freshVerdict t (length bs) ≡ verdict.Accepted) (freshVerdict t (length bs)) _ _
+      (λ r e k. let z : _≡_ {A = ℕ} 0 1 = cc in absurd (omega arith))
+      (λ a k. a)
+      accepted
+
+  -- an accepted fresh call has an accepted table
+  pub fresh-table : RightTable t
+  unfolding freshVerdict
+  fresh-table = then-first (judged t) _ fresh-accepts
+
+  -- after every sequence of calls the state and the bytes are what its history says
+  pub agrees : (cs : Seq Call) → Agrees t (recordOf t bs cs) (heldAfter t bs cs)
+  unfolding heldAfter historyOf scheduled freshOf
+  agrees ∅ = rw fresh-accepts (agrees-fresh t fresh-table)
+  agrees (cs ▹ c) = steps t fresh-table (recordOf t bs cs) (heldAfter t bs cs) (agrees cs) c .agrees
+
+  -- and every event of its history is good
+  pub goods : (cs : Seq Call) → Along (Good t) (recordOf t bs cs)
+  unfolding heldAfter historyOf scheduled
+  goods ∅ = tt
+  goods (cs ▹ c) = (
+    goods cs,
+    good-step t (recordOf t bs cs) (heldAfter t bs cs) (agrees cs) c (steps t fresh-table (recordOf t bs cs) (heldAfter t bs cs) (agrees cs) c),
+  )

@@ -1,0 +1,229 @@
+-- Every call: accepted or refused, the state and the bytes after it are what the history says, and its answer is the one that the history gives.
+use Prim.Native.Nat.{ℕ}
+use mathlib.Core.Path.{_≡_, refl, sym, ap, _∙_}
+use mathlib.Core.Bool.{Bool, true, false, not}
+use mathlib.Core.List.{List}
+use native.Mathlib.Omega.{arith}
+use lib.Dec.{ltb}
+use lib.ListN.{length}
+use Rattle.refusal.specs.declared.Refusal.{Refusal}
+use Rattle.refusal.specs.Numbers as number
+use Rattle.cluster.specs.declared.Verdict.{Verdict}
+use Rattle.cluster.specs.declared.Verdict.the-variants as verdict
+use Rattle.cluster.specs.Check.{then, RightTable}
+use Rattle.cluster.specs.Table.{scheduleCount}
+use Rattle.cluster.specs.Values.{valueFits, arrayFits, withScalar, withArray}
+use Rattle.transport.specs.Cutting.{isLength}
+use Rattle.transport.proofs.Tests.{whether}
+use Rattle.master.specs.declared.state.State.{State}
+use Rattle.master.specs.declared.write.WriteAnswer.{WriteAnswer}
+use Rattle.master.specs.declared.write.WriteAnswer.the-variants as write
+use Rattle.master.specs.declared.write.Wrote.{Wrote}
+use Rattle.master.specs.declared.select.SelectAnswer.the-variants as select
+use Rattle.master.specs.declared.select.Chosen.{Chosen}
+use Rattle.master.specs.declared.tick.TickAnswer.the-variants as tick
+use Rattle.master.specs.declared.tick.Ticked.{Ticked}
+use Rattle.master.specs.declared.byte.ByteAnswer.the-variants as byte
+use Rattle.master.specs.declared.byte.Took.{Took}
+use Rattle.master.specs.declared.status.StatusAnswer.the-variants as status
+use Rattle.master.specs.declared.status.StatusRead.{StatusRead}
+use Rattle.master.specs.declared.message.SendAnswer.the-variants as send
+use Rattle.master.specs.declared.message.Sent.{Sent}
+use Rattle.master.specs.Admit.{unless, bufferSize, admitted, Step}
+use Rattle.master.specs.Fits.{stateFits, isSending, lentFits}
+use Rattle.master.specs.Transfers.{isOpen}
+use Rattle.master.specs.Write.{marked, writable, wrote, writeOf, writeArrayOf}
+use Rattle.master.specs.Read.{readVerdict, readOf, readArrayOf}
+use Rattle.master.specs.Select.{selectVerdict, selectOf}
+use Rattle.master.specs.Status.{statusWord, statusOf}
+use Rattle.master.specs.Message.{sendVerdict, sendOf, messageOf, told}
+use Rattle.master.specs.Tick.{tickVerdict, ticked, tickOf}
+use Rattle.master.specs.Byte.{byteVerdict, byteOf, taken}
+use Rattle.master.specs.Seq.{Seq, _▹_}
+use Rattle.master.specs.Calls as call
+use Rattle.master.specs.Calls.{Call, Answer, _⇒_}
+use Rattle.master.specs.Run.{Held, held, answerOf, leftBy}
+use Rattle.master.specs.Acts.{Value, scalar, array, nothing, writeAct, actOf, withValue}
+use Rattle.master.specs.Schedule.{Scheduled, act, schedule, starts}
+use Rattle.master.specs.History.{openAfter}
+use Rattle.master.specs.Answering.{messageAfter, dueAfter, bytesAfter}
+use Rattle.master.specs.Replies.{Replies, writeReply, readable, readReply, readArrayReply, selectReply, sendReply, byteReply, plain, TickReply}
+use Rattle.master.proofs.Tests.{never}
+use Rattle.master.proofs.Admitted.{admits, fits-clauses, fits-all, unless-test}
+use Rattle.master.proofs.Answered.{by-verdict, writable-signal}
+use Rattle.master.proofs.FitsKept.{marked-fits}
+use Rattle.master.proofs.Keeps.{select-keeps, status-keeps, send-keeps, taken-fits}
+use Rattle.master.proofs.Verdicts.{tick-refusal}
+use Rattle.master.proofs.History.Agrees.{Agrees, agrees-nothing, agrees-selected, agrees-status, agrees-sending}
+use Rattle.master.proofs.History.Writing.{agrees-wrote}
+use Rattle.master.proofs.History.Ticking.{tick-goes}
+use Rattle.master.proofs.History.Taking.{byte-goes}
+use Rattle.master.proofs.History.Ahead.{ahead-replies}
+use Rattle.master.proofs.History.Progress.{Lawful}
+use Rattle.master.proofs.History.Stepped.{Stepped}
+
+-- an accepted call is not refused
+refused-never : {A : Type 0} (q : Refusal) → verdict.Accepted ≡ verdict.Refused q → A
+refused-never q e = let z : _≡_ {A = ℕ} 0 1 = cc in absurd (omega arith)
+
+module _ (t : List ℕ) (ok : RightTable t) (h : Seq Scheduled) (x : Held) (is : Agrees t h x) where
+  abbrev s : State
+  s = x .state
+
+  -- the call is admitted, with the frame bytes and without them
+  lent-admitted : admitted t (length (x .bytes)) s ≡ verdict.Accepted
+  lent-admitted = admits t (length (x .bytes)) s ok (is .frames .size) (is .fits)
+
+  own-admitted : admitted t (bufferSize t) s ≡ verdict.Accepted
+  own-admitted = admits t (bufferSize t) s ok refl (is .fits)
+
+  -- a call that counts for nothing
+  step-nothing : (c : Call) (a : Answer c) → actOf (c ⇒ a) ≡ nothing → Replies t h c a → Stepped t h c a x
+  unfolding schedule
+  step-nothing c a n r = record {
+    agrees = agrees-nothing t h x is (schedule t h (c ⇒ a)) n;
+    replies = r;
+    lawful = λ e q p k. never (rw n at q);
+  }
+
+  -- ---- writes
+
+  written : (r : ℕ) (kind fits : Bool) (v : Value) → writable t r kind fits ≡ verdict.Accepted → (y : Scheduled) → act y ≡ writeAct r v write.Written
+      → Agrees t (h ▹ y) (held (marked t r s) (withValue t (x .bytes) r v))
+  written r kind fits v a y e =
+      let w = writable-signal t r kind fits a in
+      agrees-wrote t ok h x is y r v e (w .below)
+      (fits-all t (marked t r s) (marked-fits t s (fits-clauses t s (is .fits)) ok r (w .below) (w .is-published)))
+
+  step-write : (r v : ℕ) → Stepped t h (call.write r v) (answerOf t x (call.write r v)) (leftBy t x (call.write r v))
+  unfolding answerOf leftBy writeOf wrote schedule
+  step-write r v =
+      let w = writable t r false (valueFits t r v) in
+      let inner : then (admitted t (length (x .bytes)) s) w ≡ w = rw lent-admitted in
+      by-verdict (λ (z : Step Wrote). Stepped t h (call.write r v) (z .given .answer) (held (z .given .state) (z .left)))
+      (then (admitted t (length (x .bytes)) s) w) _ _
+      (λ q e. step-nothing (call.write r v) (write.Refused q) refl (sym (ap writeReply (sym inner ∙ e))))
+      (λ a. record {
+        agrees = written r false (valueFits t r v) (scalar v) (sym inner ∙ a) (schedule t h (call.write r v ⇒ write.Written)) refl;
+        replies = sym (ap writeReply (sym inner ∙ a));
+        lawful = λ e q p k. never q;
+      })
+
+  step-array : (r : ℕ) (vs : List ℕ) → Stepped t h (call.writeArray r vs) (answerOf t x (call.writeArray r vs)) (leftBy t x (call.writeArray r vs))
+  unfolding answerOf leftBy writeArrayOf wrote schedule
+  step-array r vs =
+      let w = writable t r true (arrayFits t r vs) in
+      let inner : then (admitted t (length (x .bytes)) s) w ≡ w = rw lent-admitted in
+      by-verdict (λ (z : Step Wrote). Stepped t h (call.writeArray r vs) (z .given .answer) (held (z .given .state) (z .left)))
+      (then (admitted t (length (x .bytes)) s) w) _ _
+      (λ q e. step-nothing (call.writeArray r vs) (write.Refused q) refl (sym (ap writeReply (sym inner ∙ e))))
+      (λ a. record {
+        agrees = written r true (arrayFits t r vs) (array vs) (sym inner ∙ a) (schedule t h (call.writeArray r vs ⇒ write.Written)) refl;
+        replies = sym (ap writeReply (sym inner ∙ a));
+        lawful = λ e q p k. never q;
+      })
+
+  -- ---- the calls that only ask
+
+  step-read : (r : ℕ) → Stepped t h (call.read r) (answerOf t x (call.read r)) (leftBy t x (call.read r))
+  unfolding answerOf leftBy readOf readVerdict readReply readable
+  step-read r = step-nothing (call.read r) _ refl (rw (lent-admitted, is .frames .bytes-are))
+
+  step-read-array : (r : ℕ) → Stepped t h (call.readArray r) (answerOf t x (call.readArray r)) (leftBy t x (call.readArray r))
+  unfolding answerOf leftBy readArrayOf readVerdict readArrayReply readable
+  step-read-array r = step-nothing (call.readArray r) _ refl (rw (lent-admitted, is .frames .bytes-are))
+
+  step-message : Stepped t h call.messageState (answerOf t x call.messageState) (leftBy t x call.messageState)
+  unfolding answerOf leftBy messageOf
+  step-message = step-nothing call.messageState _ refl (rw (own-admitted, is .message-is))
+
+  step-ahead : (f : ℕ) → Stepped t h (call.numberAhead f) (answerOf t x (call.numberAhead f)) (leftBy t x (call.numberAhead f))
+  unfolding answerOf leftBy
+  step-ahead f = step-nothing (call.numberAhead f) _ refl (ahead-replies t ok h x is f)
+
+  -- ---- select, status, send
+
+  step-select : (n : ℕ) → Stepped t h (call.select n) (answerOf t x (call.select n)) (leftBy t x (call.select n))
+  unfolding answerOf leftBy selectOf selectVerdict selectReply schedule
+  step-select n =
+      let keeps = select-keeps t s n ok (is .fits) in
+      let inner : selectVerdict t s n ≡ unless (ltb n (scheduleCount t)) number.unknown verdict.Accepted = rw own-admitted in
+      by-verdict (λ (z : Chosen). Stepped t h (call.select n) (z .answer) (held (z .state) (x .bytes))) (selectVerdict t s n) _ _
+      (λ q e. step-nothing (call.select n) (select.Refused q) refl (rw (sym inner ∙ e)))
+      (λ a. record {
+        agrees = agrees-selected t h x is (schedule t h (call.select n ⇒ select.Selected)) n refl (rw a at keeps);
+        replies = rw (sym inner ∙ a);
+        lawful = λ e q p k. never q;
+      })
+
+  step-status : Stepped t h call.readStatus (answerOf t x call.readStatus) (leftBy t x call.readStatus)
+  unfolding answerOf leftBy statusOf schedule
+  step-status =
+      let keeps = status-keeps t s ok (is .fits) in
+      by-verdict (λ (z : StatusRead). Stepped t h call.readStatus (z .answer) (held (z .state) (x .bytes))) (admitted t (bufferSize t) s) _ _
+      (λ q e. refused-never q (sym own-admitted ∙ e))
+      (λ a. record {
+        agrees = agrees-status t h x is (schedule t h (call.readStatus ⇒ status.Word (statusWord (s .status)))) refl (rw a at keeps);
+        replies = rw (is .status-is);
+        lawful = λ e q p k. never q;
+      })
+
+  step-send : (nad n : ℕ) → Stepped t h (call.send nad n) (answerOf t x (call.send nad n)) (leftBy t x (call.send nad n))
+  unfolding answerOf leftBy sendOf sendVerdict sendReply schedule
+  step-send nad n =
+      let keeps = send-keeps t s nad n ok (is .fits) in
+      let inner : sendVerdict t s n ≡ unless (isLength n) number.messageLength (unless (not (isSending (messageAfter t h))) number.sending verdict.Accepted) =
+      rw (own-admitted, is .message-is) in
+      by-verdict (λ (z : Sent). Stepped t h (call.send nad n) (z .answer) (held (z .state) (x .bytes))) (sendVerdict t s n) _ _
+      (λ q e. step-nothing (call.send nad n) (send.Refused q) refl (rw (sym inner ∙ e)))
+      (λ a. record {
+        agrees = agrees-sending t h x is (schedule t h (call.send nad n ⇒ send.Sending)) nad n refl (rw a at keeps);
+        replies = rw (sym inner ∙ a);
+        lawful = λ e q p k. never q;
+      })
+
+  -- ---- tick and byte in
+
+  step-tick : (m : List ℕ) → Stepped t h (call.tick m) (answerOf t x (call.tick m)) (leftBy t x (call.tick m))
+  unfolding answerOf leftBy tickOf
+  step-tick m =
+      let n = length (x .bytes) in
+      let fits = lentFits (messageAfter t h) (length m) in
+      let inner : tickVerdict t n (length m) s ≡ unless fits number.state verdict.Accepted =
+      tick-refusal t n (length m) s ok (is .frames .size) (is .fits) ∙ rw (is .message-is) in
+      by-verdict (λ (z : Ticked). Stepped t h (call.tick m) (z .answer) (held (z .state) (x .bytes))) (tickVerdict t n (length m) s) _ _
+      (λ q e. step-nothing (call.tick m) (tick.Refused q) refl (record {
+        refuses = λ l. let z : verdict.Refused (number.refused number.state) ≡ verdict.Refused q = rw l at (sym inner ∙ e) in cc;
+        goes-on = λ l. refused-never q (rw l at (sym inner ∙ e));
+      }))
+      (λ a. tick-goes t ok h x is m (unless-test fits number.state verdict.Accepted (sym inner ∙ a)))
+
+  step-byte : (b : ℕ) → Stepped t h (call.byteIn b) (answerOf t x (call.byteIn b)) (leftBy t x (call.byteIn b))
+  unfolding answerOf leftBy byteOf byteVerdict byteReply
+  step-byte b =
+      let o = isOpen (s .transfer .opened) in
+      let inner : byteVerdict t (length (x .bytes)) s ≡ unless o number.noTransfer verdict.Accepted = rw lent-admitted in
+      by-verdict (λ (z : Step Took). Stepped t h (call.byteIn b) (record { answer = z .given .answer; response = z .given .response }) (held (z .given .state) (z .left)))
+      (byteVerdict t (length (x .bytes)) s) _ _
+      (λ q e. step-nothing (call.byteIn b) (plain (byte.Refused q)) refl
+      (whether o
+      (λ l. refused-never q (rw l at (sym inner ∙ e)))
+      (λ l. let z : verdict.Refused (number.refused number.noTransfer) ≡ verdict.Refused q = rw l at (sym inner ∙ e) in
+      let i : q ≡ number.refused number.noTransfer = cc in
+      rw (← is .transfer .opened-is, l, i))))
+      (λ a. byte-goes t ok h x is b (unless-test o number.noTransfer verdict.Accepted (sym inner ∙ a))
+      (fits-all t (taken t s (x .bytes) b .given .state) (taken-fits t s (fits-clauses t s (is .fits)) (x .bytes) b)))
+
+  -- every call
+  pub steps : (c : Call) → Stepped t h c (answerOf t x c) (leftBy t x c)
+  steps (call.write r v) = step-write r v
+  steps (call.writeArray r vs) = step-array r vs
+  steps (call.read r) = step-read r
+  steps (call.readArray r) = step-read-array r
+  steps (call.select n) = step-select n
+  steps (call.tick m) = step-tick m
+  steps (call.byteIn b) = step-byte b
+  steps call.readStatus = step-status
+  steps (call.send nad n) = step-send nad n
+  steps call.messageState = step-message
+  steps (call.numberAhead f) = step-ahead f

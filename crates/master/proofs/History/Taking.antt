@@ -1,0 +1,275 @@
+-- An accepted byte: the state and the bytes after it are what the history says, and its answer is the one that the history gives.
+use Prim.Native.Nat.{ℕ, suc, _+_, _-_, _*_, _≤_, _<_}
+use mathlib.Core.Path.{_≡_, refl, sym, ap, _∙_}
+use mathlib.Core.Bool.{Bool, true, false, cond}
+use mathlib.Core.List.{List, [], _∷_, _++_}
+use native.Mathlib.Omega.{arith}
+use lib.Dec.{ltb, eqb}
+use lib.ListN.{length, getD, take, replicate}
+use lib.Seq.{take-at, getD-at}
+use borrow.Author.Tests.{ltb-true, ltb-false, eqb-true, eq-eqb}
+use Rattle.cluster.specs.Check.{RightTable}
+use Rattle.cluster.specs.Table.{published}
+use Rattle.transport.specs.Reassembly as lent
+use Rattle.transport.proofs.Tests.{whether}
+use Rattle.transport.proofs.WrittenLaws.{written-length}
+use Rattle.master.specs.declared.state.Opened.{Opened}
+use Rattle.master.specs.declared.state.Opened.the-variants.{Nothing, Frame, Request, Response}
+use Rattle.master.specs.declared.state.Transfer.{Transfer}
+use Rattle.master.specs.declared.state.State.{State}
+use Rattle.master.specs.declared.byte.ByteAnswer.{ByteAnswer}
+use Rattle.master.specs.declared.byte.ByteAnswer.the-variants as byte
+use Rattle.master.specs.declared.byte.Took.{Took}
+use Rattle.master.specs.Admit.{bufferSize, Step}
+use Rattle.master.specs.Answers.{successful}
+use Rattle.master.specs.Fits.{stateFits, frameThere}
+use Rattle.master.specs.Fresh.{noTransfer}
+use Rattle.master.specs.Transfers.{isOpen, openLength, openProtected, openChecksum, sends}
+use Rattle.master.specs.Status.{counted, statusAfter}
+use Rattle.master.specs.Closing.{failed, pendingSent, succeeded}
+use Rattle.master.specs.Byte.{passed, early, withByte, sentByte, checksumRight, accepted, lastByte, receivedByte, taken}
+use Rattle.master.specs.Seq.{Seq, _▹_}
+use Rattle.master.specs.Calls as call
+use Rattle.master.specs.Calls.{Reply, _⇒_}
+use Rattle.master.specs.Run.{Held, held}
+use Rattle.master.specs.Acts.{took, byteAct}
+use Rattle.master.specs.Schedule.{Scheduled, act, starts, planBy, planAfter, schedule}
+use Rattle.master.specs.History.{opens, isEnd, closes, openAfter, gotAfter}
+use Rattle.master.specs.Answering.{messageAfter, dueAfter, storedBy, countedAfter, statusOver}
+use Rattle.master.specs.Replies.{plain, sentReply, successReply, receivedReply, byteReply}
+use Rattle.master.proofs.Tests.{never}
+use Rattle.master.proofs.Admitted.{fits-clauses, fits-all, open-count, open-length-high}
+use Rattle.master.proofs.Keeps.{taken-fits}
+use Rattle.master.proofs.Lengths.{data-inside}
+use Rattle.master.proofs.ByteLaws.{stored-other}
+use Rattle.master.proofs.History.FramesAre.{FramesAre, frames-byte, frames-sent}
+use Rattle.master.proofs.History.TransferIs.{TransferIs, due-byte, received-nine, transfer-closed, transfer-more-sent, transfer-more-received}
+use Rattle.master.proofs.History.Closing.{end-closes, end-message, end-status}
+use Rattle.master.proofs.History.Agrees.{Agrees}
+use Rattle.master.proofs.History.Stepped.{Stepped}
+
+-- what the master sends is stored nowhere
+stored-sent : (t : List ℕ) (o : Opened) (ds bs : List ℕ) → sends t o ≡ true → storedBy t o ds bs ≡ bs
+unfolding storedBy sends
+stored-sent t Nothing ds bs s = refl
+stored-sent t (Frame f) ds bs s = rw s
+stored-sent t Request ds bs s = refl
+stored-sent t Response ds bs s = refl
+
+module _ (t : List ℕ) (ok : RightTable t) (h : Seq Scheduled) (x : Held) (is : Agrees t h x) (b : ℕ)
+    (open-now : isOpen (x .state .transfer .opened) ≡ true) where
+  abbrev s : State
+  s = x .state
+
+  abbrev o : Opened
+  o = x .state .transfer .opened
+
+  -- ---- the state after a byte
+
+  abbrev event : Reply → Scheduled
+  event r = schedule t h (call.byteIn b ⇒ r)
+
+  module _ (y : Scheduled) where
+    agrees-more : act y ≡ took b byte.More → (nine : List ℕ) → stateFits t (passed s nine) ≡ true → TransferIs t (h ▹ y) (passed s nine .transfer)
+        → Agrees t (h ▹ y) (held (passed s nine) (x .bytes))
+    unfolding passed planAfter planBy messageAfter countedAfter closes
+    agrees-more a nine f r = record {
+      fits = f;
+      frames = frames-byte t h (s .pending) (x .bytes) (is .frames) y b byte.More a refl;
+      transfer = r;
+      plan-is = rw a (is .plan-is);
+      message-is = rw a (is .message-is);
+      status-is = rw a (is .status-is);
+    }
+
+    agrees-failed : act y ≡ took b byte.Failure → stateFits t (failed t s true) ≡ true → Agrees t (h ▹ y) (held (failed t s true) (x .bytes))
+    unfolding failed statusAfter planAfter planBy opens
+    agrees-failed a f = record {
+      fits = f;
+      frames = frames-byte t h (s .pending) (x .bytes) (is .frames) y b byte.Failure a refl;
+      transfer = transfer-closed t h y (end-closes t h x is y b byte.Failure a refl) (rw a);
+      plan-is = rw a (is .plan-is);
+      message-is = sym (end-message t h x is y b byte.Failure a refl);
+      status-is = end-status t h x is y b byte.Failure a refl open-now;
+    }
+
+    -- success: the frame bytes are those handed over
+    agrees-succeeded : (c : ByteAnswer) → act y ≡ took b c → isEnd c ≡ true → successful c ≡ true → stateFits t (succeeded t s) ≡ true → (after : List ℕ)
+        → FramesAre t (h ▹ y) (pendingSent o (s .transfer .written) (s .pending)) after → Agrees t (h ▹ y) (held (succeeded t s) after)
+    unfolding succeeded statusAfter planAfter planBy opens
+    agrees-succeeded c a e g f after fr = record {
+      fits = f;
+      frames = fr;
+      transfer = transfer-closed t h y (end-closes t h x is y b c a e) (rw a);
+      plan-is = rw a (is .plan-is);
+      message-is = sym (rw g at (end-message t h x is y b c a e));
+      status-is = rw g at (end-status t h x is y b c a e open-now);
+    }
+
+  -- ---- its answer, by the tests that the state makes
+
+  is-open : isOpen (openAfter t h) ≡ true
+  is-open = rw (is .transfer .opened-is) at open-now
+
+  not-above : s .transfer .count ≤ openLength t (openAfter t h)
+  not-above = rw (is .transfer .opened-is) at (open-count t s (fits-clauses t s (is .fits) .count-fits) open-now)
+
+  at-most-eight : s .transfer .count ≤ 8
+  at-most-eight =
+      omega (arith, open-count t s (fits-clauses t s (is .fits) .count-fits) open-now, open-length-high t ok o (fits-clauses t s (is .fits) .frame-there))
+
+  early-is : early t (s .transfer) ≡ ltb (length (gotAfter h)) (openLength t (openAfter t h))
+  unfolding early
+  early-is = rw (is .transfer .count-is, is .transfer .opened-is)
+
+  module _ (sent : sends t o ≡ true) where
+    sent-now : sends t (openAfter t h) ≡ true
+    sent-now = rw (is .transfer .opened-is) at sent
+
+    sent-replies : byteReply t (openAfter t h) (dueAfter t h) (gotAfter h) b
+        ≡ plain (cond (eqb (getD (s .transfer .bytes) (s .transfer .count) 0) b) (cond (early t (s .transfer)) byte.More byte.Success) byte.Failure)
+    unfolding byteReply sentReply
+    sent-replies = rw (is-open, sent-now, due-byte t h (s .transfer) (is .transfer) sent-now not-above, early-is)
+
+  -- the nine bytes with one more that was received
+  module _ (received : sends t o ≡ false) where
+    received-now : sends t (openAfter t h) ≡ false
+    received-now = rw (is .transfer .opened-is) at received
+
+    abbrev nine : List ℕ
+    nine = withByte (s .transfer) b
+
+    nine-are : nine ≡ gotAfter h ++ (b ∷ replicate (8 - length (gotAfter h)) 255)
+    nine-are = received-nine t h (s .transfer) (is .transfer) b received-now at-most-eight
+
+    module _ (last : early t (s .transfer) ≡ false) where
+      -- as many came before it as the transfer has data bytes
+      all-came : length (gotAfter h) ≡ openLength t o
+      all-came =
+          rw (is .transfer .opened-is)
+          (omega (arith, not-above, is .transfer .count-is, ltb-false (length (gotAfter h)) (openLength t (openAfter t h)) (sym early-is ∙ last)))
+
+      data-are : take (openLength t o) nine ≡ gotAfter h
+      data-are = rw (nine-are, ← all-came) (take-at (gotAfter h) (b ∷ replicate (8 - length (gotAfter h)) 255) (length (gotAfter h)) refl)
+
+      last-is : getD nine (openLength t o) 0 ≡ b
+      last-is = rw (nine-are, ← all-came) (getD-at (gotAfter h) b (replicate (8 - length (gotAfter h)) 255) 0 (length (gotAfter h)) refl)
+
+      right-is : checksumRight t o nine ≡ eqb b (openChecksum t o (gotAfter h))
+      unfolding checksumRight
+      right-is = rw (last-is, data-are)
+
+      last-replies : byteReply t (openAfter t h) (dueAfter t h) (gotAfter h) b
+          ≡ cond (checksumRight t o nine) (successReply o (gotAfter h)) (plain byte.Failure)
+      unfolding byteReply receivedReply
+      last-replies = rw (is-open, received-now, ← early-is, last, right-is, is .transfer .opened-is)
+
+    more-replies : early t (s .transfer) ≡ true → byteReply t (openAfter t h) (dueAfter t h) (gotAfter h) b ≡ plain byte.More
+    unfolding byteReply receivedReply
+    more-replies e = rw (is-open, received-now, ← early-is, e)
+
+  -- ---- every accepted byte
+
+  abbrev Goes : Step Took → Type 0
+  Goes w =
+      stateFits t (w .given .state) ≡ true
+      → Stepped t h (call.byteIn b) (record { answer = w .given .answer; response = w .given .response }) (held (w .given .state) (w .left))
+
+  -- what counts of a byte
+  event-act : (r : Reply) → act (event r) ≡ byteAct b (r .answer)
+  unfolding schedule
+  event-act r = refl
+
+  -- an answer that leaves the frame bytes
+  abbrev leaving : State → ByteAnswer → Step Took
+  leaving s′ a = record { given = record { state = s′; answer = a; response = replicate 8 255 }; left = x .bytes }
+
+  goes-more : (nine : List ℕ) → byteReply t (openAfter t h) (dueAfter t h) (gotAfter h) b ≡ plain byte.More
+      → TransferIs t (h ▹ event (plain byte.More)) (passed s nine .transfer) → Goes (leaving (passed s nine) byte.More)
+  unfolding schedule
+  goes-more nine r tr f = record {
+    agrees = agrees-more (event (plain byte.More)) refl nine f tr;
+    replies = sym r;
+    lawful = λ e q p k. never q;
+  }
+
+  goes-failed : byteReply t (openAfter t h) (dueAfter t h) (gotAfter h) b ≡ plain byte.Failure → Goes (leaving (failed t s true) byte.Failure)
+  unfolding schedule
+  goes-failed r f = record {
+    agrees = agrees-failed (event (plain byte.Failure)) refl f;
+    replies = sym r;
+    lawful = λ e q p k. never q;
+  }
+
+  goes-succeeded : (c : ByteAnswer) (r : List ℕ) (after : List ℕ) → byteReply t (openAfter t h) (dueAfter t h) (gotAfter h) b ≡ record { answer = c; response = r }
+      → act (event (record { answer = c; response = r })) ≡ took b c → isEnd c ≡ true → successful c ≡ true
+      → length after ≡ length (x .bytes) → after ≡ storedBy t o (gotAfter h) (x .bytes)
+      → ((f : ℕ) → published t f ≡ true → (k : ℕ) → k < 8 → getD after (8 * f + k) 0 ≡ getD (x .bytes) (8 * f + k) 0)
+      → Goes (record { given = record { state = succeeded t s; answer = c; response = r }; left = after })
+  unfolding schedule
+  goes-succeeded c r after p a e g l st same f = record {
+    agrees = agrees-succeeded (event (record { answer = c; response = r })) c a e g f after
+        (frames-sent t h (s .pending) (x .bytes) (is .frames) (event (record { answer = c; response = r })) b c a g o (is .transfer .opened-is)
+        (s .transfer .written) (is .transfer .rewritten-is) after l st same);
+    replies = sym p;
+    lawful = λ i q u k. never (rw a at q);
+  }
+
+  -- of a transfer that the master sends
+  goes-sent : sends t o ≡ true → Goes (record { given = sentByte t s b; left = x .bytes })
+  unfolding sentByte passed
+  goes-sent sent =
+      let r = sent-replies sent in
+      let n = sent-now sent in
+      whether (eqb (getD (s .transfer .bytes) (s .transfer .count) 0) b)
+      (λ e. whether (early t (s .transfer))
+      (λ z. rw (e, z) (goes-more (s .transfer .bytes) (rw (e, z) at r)
+      (transfer-more-sent t h (s .transfer) (is .transfer) (event (plain byte.More)) b more-act n not-above e)))
+      (λ z. rw (e, z) (goes-succeeded byte.Success (replicate 8 255) (x .bytes) (rw (e, z) at r) success-act refl refl refl
+      (sym (stored-sent t o (gotAfter h) (x .bytes) sent)) (λ f p k l. refl))))
+      (λ e. rw e (goes-failed (rw e at r)))
+    where
+      more-act : act (event (plain byte.More)) ≡ took b byte.More
+      more-act = event-act (plain byte.More)
+
+      success-act : act (event (plain byte.Success)) ≡ took b byte.Success
+      success-act = event-act (plain byte.Success)
+
+  -- of one that it receives, at its end
+  goes-accepted : (o′ : Opened) → o ≡ o′ → sends t o ≡ false → early t (s .transfer) ≡ false
+      → byteReply t (openAfter t h) (dueAfter t h) (gotAfter h) b ≡ successReply o (gotAfter h)
+      → Goes (accepted t s o′ (withByte (s .transfer) b) (x .bytes))
+  unfolding accepted storedBy sends openLength isOpen withByte
+  goes-accepted Nothing p n z r = never (rw p at open-now)
+  goes-accepted (Frame g) p n z r =
+      let there : frameThere t (Frame g) ≡ true = rw p at (fits-clauses t s (is .fits) .frame-there) in
+      let ds : take (openLength t (Frame g)) (withByte (s .transfer) b) ≡ gotAfter h = rw p at (data-are n z) in
+      let unpublished : published t g ≡ false = rw p at n in
+      goes-succeeded byte.Success (replicate 8 255) (lent.written (x .bytes) (8 * g) (take (openLength t (Frame g)) (withByte (s .transfer) b)))
+      (rw p at r) (event-act (plain byte.Success)) refl refl
+      (written-length (x .bytes) (8 * g) (take (openLength t (Frame g)) (withByte (s .transfer) b))
+      (data-inside t ok s (x .bytes) (is .frames .size) g (withByte (s .transfer) b) there))
+      (rw (p, unpublished, ds))
+      (λ f q k l. stored-other t ok s (x .bytes) (is .frames .size) g f (withByte (s .transfer) b) there
+      (λ e. never (sym unpublished ∙ rw e q)) k l)
+  goes-accepted Request p n z r = let y : true ≡ false = rw p at n in never (sym y)
+  goes-accepted Response p n z r =
+      let ds : take 8 (withByte (s .transfer) b) ≡ gotAfter h = rw p at (data-are n z) in
+      rw ds
+      (goes-succeeded byte.Response (gotAfter h) (x .bytes) (rw p at r) (event-act (record { answer = byte.Response; response = gotAfter h })) refl refl refl
+      (rw p) (λ f q k l. refl))
+
+  goes-received : sends t o ≡ false → Goes (receivedByte t s (x .bytes) b)
+  unfolding receivedByte lastByte passed
+  goes-received n =
+      whether (early t (s .transfer))
+      (λ z. rw z (goes-more (withByte (s .transfer) b) (more-replies n z)
+      (transfer-more-received t h (s .transfer) (is .transfer) (event (plain byte.More)) b (event-act (plain byte.More)) (received-now n) is-open at-most-eight)))
+      (λ z. whether (checksumRight t o (withByte (s .transfer) b))
+      (λ c. rw (z, c) (goes-accepted o refl n z (rw c at (last-replies n z))))
+      (λ c. rw (z, c) (goes-failed (rw c at (last-replies n z)))))
+
+  -- an accepted byte
+  pub byte-goes : Goes (taken t s (x .bytes) b)
+  unfolding taken
+  byte-goes = whether (sends t o) (λ y. rw y (goes-sent y)) (λ n. rw n (goes-received n))

@@ -1,0 +1,138 @@
+-- What a history says, as functions of the table and the events alone: openings, closings and successful transfers, which frames are
+-- pending, and the bytes of a published frame. Document 01, demand 3 and "Histories".
+use Prim.Native.Nat.{ℕ, suc, _*_}
+use mathlib.Core.Path.{_≡_}
+use mathlib.Core.Bool.{Bool, true, false, cond, _&&_, _||_}
+use mathlib.Core.List.{List, [], _∷_, _++_}
+use lib.Dec.{ltb, eqb}
+use lib.ListN.{take, drop}
+use Rattle.wire.specs.Identifier.{protectedByte}
+use Rattle.cluster.specs.Table.{frameCount, identifier}
+use Rattle.cluster.specs.Lists.{firstFrom}
+use Rattle.cluster.specs.Values.{touches}
+use Rattle.cluster.specs.Fresh.{freshBytes}
+use Rattle.master.specs.declared.state.Opened.{Opened}
+use Rattle.master.specs.declared.state.Opened.the-variants.{Nothing, Frame, Request, Response}
+use Rattle.master.specs.declared.tick.TickAnswer.{TickAnswer}
+use Rattle.master.specs.declared.tick.TickAnswer.the-variants as tick
+use Rattle.master.specs.declared.byte.ByteAnswer.{ByteAnswer}
+use Rattle.master.specs.declared.byte.ByteAnswer.the-variants as byte
+use Rattle.master.specs.Answers.{successful}
+use Rattle.master.specs.Transfers.{isOpen, openChecksum, frameData}
+use Rattle.master.specs.Seq.{Seq, ∅, _▹_, _⋈_, Each}
+use Rattle.master.specs.Acts.{onWrite, onTick, onByte, withValue}
+use Rattle.master.specs.Schedule.{Scheduled, act, isStart, starts, slotAfter, ofList}
+
+-- ---- writes
+
+-- an accepted write to frame f: one of a signal that touches it
+unfoldable pub writes : List ℕ → Scheduled → ℕ → Bool
+writes t x f = onWrite (λ s v. touches t s f) false (act x)
+
+-- ---- openings and closings
+
+-- the frame with a protected identifier; the number of frames where there is none
+unfoldable pub frameNamed : List ℕ → ℕ → ℕ
+frameNamed t p = firstFrom (λ f. eqb (protectedByte (identifier t f)) p) 0 (frameCount t)
+
+-- what has a protected identifier: a frame, "identifier 60", the request, or "identifier 61", the response
+unfoldable pub transferNamed : List ℕ → ℕ → Opened
+transferNamed t p =
+    cond (ltb (frameNamed t p) (frameCount t)) (Frame (frameNamed t p))
+    (cond (eqb p (protectedByte 60)) Request
+    (cond (eqb p (protectedByte 61)) Response
+    Nothing))
+
+abbrev pub answered : List ℕ → TickAnswer → Opened
+answered t tick.Waiting = Nothing
+answered t tick.Idle = Nothing
+answered t tick.Silent = Nothing
+answered t (tick.Opened p) = transferNamed t p
+answered t (tick.Refused r) = Nothing
+
+-- "A slot opens the frame whose protected identifier its tick answers."
+unfoldable pub opens : List ℕ → Scheduled → Opened
+opens t x = onTick (λ m a. cond (isStart (x .slot)) (answered t a) Nothing) Nothing (act x)
+
+abbrev pub isEnd : ByteAnswer → Bool
+isEnd byte.More = false
+isEnd byte.Success = true
+isEnd byte.Failure = true
+isEnd byte.Response = true
+isEnd (byte.Refused r) = false
+
+-- "The transfer is open until a byte in answers success or failure, or the next slot starts"
+unfoldable pub closes : Scheduled → Bool
+closes x = starts x || onByte (λ b a. isEnd a) false (act x)
+
+-- "it is successful, and its frame sent, exactly when success was answered"
+unfoldable pub succeeds : Scheduled → Bool
+succeeds x = onByte (λ b a. successful a) false (act x)
+
+-- the transfer that is open after a history: what the last closing event opened
+unfoldable pub openAfter : List ℕ → Seq Scheduled → Opened
+openAfter t ∅ = Nothing
+openAfter t (h ▹ x) = cond (closes x) (opens t x) (openAfter t h)
+
+-- a transfer is one of frame f
+abbrev pub carries : Opened → ℕ → Bool
+carries Nothing f = false
+carries (Frame g) f = eqb g f
+carries Request f = false
+carries Response f = false
+
+-- ---- sent, and pending
+
+-- a transfer of frame f that was opened in h has succeeded in h: the first closing event after its opening is a byte answered with success
+pub record Succeeded (t : List ℕ) (h : Seq Scheduled) (f : ℕ) : Type 0 where
+  pub before : Seq Scheduled
+  pub start : Scheduled
+  pub during : Seq Scheduled
+  pub end : Scheduled
+  pub after : Seq Scheduled
+  pub split : h ≡ before ▹ start ⋈ during ▹ end ⋈ after
+  pub opened : carries (opens t start) f ≡ true
+  pub open-on : Each (λ x. closes x ≡ false) during
+  pub well : succeeds end ≡ true
+
+-- "an accepted write to it came after the opening of its last successful transfer, or .. it was written and never yet sent with success": there
+-- was an accepted write, and no transfer that was opened after it has succeeded
+pub record Pending (t : List ℕ) (h : Seq Scheduled) (f : ℕ) : Type 0 where
+  pub before : Seq Scheduled
+  pub write : Scheduled
+  pub after : Seq Scheduled
+  pub split : h ≡ before ▹ write ⋈ after
+  pub accepted : writes t write f ≡ true
+  pub unsent : ¬ Succeeded t after f
+
+-- how many transfers that slots of list l opened in h have succeeded in h
+unfoldable pub successes : List ℕ → ℕ → Seq Scheduled → ℕ
+successes t l ∅ = 0
+successes t l (h ▹ x) =
+    cond (succeeds x && (isOpen (openAfter t h) && ofList t (slotAfter h) l))
+    (suc (successes t l h))
+    (successes t l h)
+
+-- ---- the bytes of a published frame
+
+-- the frame bytes as fresh and the accepted writes left them, put in in order
+unfoldable pub writtenBytes : List ℕ → Seq Scheduled → List ℕ
+writtenBytes t ∅ = freshBytes t
+writtenBytes t (h ▹ x) = onWrite (λ s v. withValue t (writtenBytes t h) s v) (writtenBytes t h) (act x)
+
+-- "eight a frame"
+abbrev pub eightOf : List ℕ → ℕ → List ℕ
+eightOf bs f = take 8 (drop (8 * f) bs)
+
+-- "its data .., then the frame's checksum"
+unfoldable pub responseOf : List ℕ → List ℕ → ℕ → List ℕ
+responseOf t bs f = frameData t bs f ++ (openChecksum t (Frame f) (frameData t bs f) ∷ [])
+
+-- some response bytes, and that of one more event
+unfoldable pub gotBy : List ℕ → Scheduled → List ℕ
+gotBy got x = onByte (λ b a. got ++ (b ∷ [])) got (act x)
+
+-- the response bytes that came since a transfer was opened or closed last
+unfoldable pub gotAfter : Seq Scheduled → List ℕ
+gotAfter ∅ = []
+gotAfter (h ▹ x) = cond (closes x) [] (gotBy (gotAfter h) x)

@@ -1,0 +1,91 @@
+-- Document 01, "Histories": "Accepted selects and ticks alone give each slot and its entry, by the rules above."
+use Prim.Native.Nat.{ℕ}
+use mathlib.Core.Bool.{Bool, true, false, cond, _&&_}
+use mathlib.Core.List.{List}
+use lib.Dec.{eqb}
+use Rattle.cluster.specs.Table.{entryKind, entryTarget}
+use Rattle.master.specs.declared.state.Plan.{Plan}
+use Rattle.master.specs.declared.state.Current.{Current}
+use Rattle.master.specs.declared.state.Current.the-variants as current
+use Rattle.master.specs.Fresh.{noPlan}
+use Rattle.master.specs.Plan.{asking, waits, waited, entryDue, begun}
+use Rattle.master.specs.Seq.{Seq, ∅, _▹_}
+use Rattle.master.specs.Calls.{Event}
+use Rattle.master.specs.Acts.{Act, nothing, wrote, selected, ticked, took, statusRead, sending, actOf, onTick}
+
+-- the slot that an event starts
+pub data Slot : Type 0 where
+  -- none
+  none : Slot
+  -- one "with no schedule"
+  unscheduled : Slot
+  -- one with its entry
+  entry : ℕ → Slot
+
+-- an event with the slot that it starts
+pub record Scheduled : Type 0 where
+  pub event : Event
+  pub slot : Slot
+
+-- what counts of it
+abbrev pub act : Scheduled → Act
+act x = actOf (x .event)
+
+abbrev pub slotWith : Current → Slot
+slotWith current.None = unscheduled
+slotWith (current.Entry e) = entry e
+
+-- the slot that an accepted tick starts: none "If the wait is above 1"; "Otherwise a slot starts: .. the requested schedule begins or the
+-- next entry follows, cyclically"
+unfoldable pub slotDue : List ℕ → Plan → Slot
+slotDue t p = cond (waits p) none (slotWith (entryDue t (p .requested) (p .current)))
+
+-- the plan after an accepted tick: the wait "falls by one", "with no schedule .. the wait stays 0", or "The wait becomes the entry's delay"
+unfoldable pub planWith : List ℕ → Plan → Slot → Plan
+planWith t p none = waited p
+planWith t p unscheduled = p
+planWith t p (entry e) = begun t e
+
+-- the plan after an event: an accepted select asks for its schedule, an accepted tick goes on, and nothing else changes it
+unfoldable pub planBy : List ℕ → Plan → Act → Plan
+planBy t p nothing = p
+planBy t p (wrote s v) = p
+planBy t p (selected n) = asking p n
+planBy t p (ticked m a) = planWith t p (slotDue t p)
+planBy t p (took b a) = p
+planBy t p statusRead = p
+planBy t p (sending nad n) = p
+
+-- the wait, the current entry and the requested schedule after a history
+unfoldable pub planAfter : List ℕ → Seq Scheduled → Plan
+planAfter t ∅ = noPlan
+planAfter t (h ▹ x) = planBy t (planAfter t h) (act x)
+
+-- an event after a history, with the slot that it starts: only accepted ticks start one
+unfoldable pub schedule : List ℕ → Seq Scheduled → Event → Scheduled
+schedule t h e = record { event = e; slot = onTick (λ m a. slotDue t (planAfter t h)) none (actOf e) }
+
+-- a history, each event with the slot that it starts
+unfoldable pub scheduled : List ℕ → Seq Event → Seq Scheduled
+scheduled t ∅ = ∅
+scheduled t (h ▹ e) = scheduled t h ▹ schedule t (scheduled t h) e
+
+-- the event starts a slot
+abbrev pub isStart : Slot → Bool
+isStart none = false
+isStart unscheduled = true
+isStart (entry e) = true
+
+abbrev pub starts : Scheduled → Bool
+starts x = onTick (λ m a. isStart (x .slot)) false (act x)
+
+-- the slot that was started last
+unfoldable pub slotAfter : Seq Scheduled → Slot
+slotAfter ∅ = none
+slotAfter (h ▹ x) = cond (starts x) (x .slot) (slotAfter h)
+
+-- "A list's slots are those with kind 1 and that target."
+abbrev pub ofList : List ℕ → Slot → ℕ → Bool
+ofList t none l = false
+ofList t unscheduled l = false
+ofList t (entry e) l = eqb (entryKind t e) 1 && eqb (entryTarget t e) l
