@@ -9,6 +9,7 @@ pub mod PendingLaw
 pub mod Counting
 pub mod First
 pub mod Progress
+pub mod Words
 pub mod Named
 pub mod Quiet
 pub mod StatusOver
@@ -20,6 +21,7 @@ pub mod FramesAre
 pub mod Agrees
 pub mod Writing
 pub mod Closing
+pub mod Numbers
 pub mod Stepped
 pub mod Ticking
 pub mod Taking
@@ -29,3 +31,5 @@ pub mod Runs
 pub mod Unchanged
 pub mod Sent
 pub mod Claimed
+pub mod InWords
+pub mod Example

@@ -14,7 +14,7 @@ use Rattle.master.specs.declared.state.Opened.{Opened}
 use Rattle.master.specs.declared.state.Opened.the-variants.{Nothing, Frame, Request, Response}
 use Rattle.master.specs.Fits.{bitFits, pendingFits}
 use Rattle.master.specs.Write.{markedFrom}
-use Rattle.master.specs.Closing.{pendingSent}
+use Rattle.master.specs.Closing.{clearedBit, pendingSent}
 use Rattle.master.proofs.Tests.{and-true, or-true, or-false}
 
 module _ (t : List ℕ) where
@@ -36,7 +36,7 @@ module _ (t : List ℕ) where
 
   -- the bits fit after a successful transfer
   pub sent-fits : (o : Opened) (written : Bool) (bits : List Bool) → pendingFits t 0 bits ≡ true → pendingFits t 0 (pendingSent o written bits) ≡ true
-  unfolding pendingSent
+  unfolding pendingSent clearedBit
   sent-fits Nothing written bits h = h
   sent-fits (Frame f) true bits h = h
   sent-fits (Frame f) false bits h = cleared-fits 0 f bits h

@@ -11,7 +11,7 @@ use Rattle.transport.proofs.Tests.{whether, order}
 use Rattle.master.specs.declared.state.Opened.{Opened}
 use Rattle.master.specs.declared.state.Opened.the-variants.{Nothing, Frame, Request, Response}
 use Rattle.master.specs.Write.{markedFrom}
-use Rattle.master.specs.Closing.{pendingSent}
+use Rattle.master.specs.Closing.{clearedBit, pendingSent}
 use Rattle.master.specs.Tick.{firstPending}
 use Rattle.master.proofs.PendingLength.{marked-length}
 use Rattle.master.proofs.Tests.{or-false}
@@ -42,7 +42,7 @@ module _ (t : List ℕ) (s : ℕ) where
 
 -- a successful transfer of a frame ends its pending, unless the frame was written since its opening
 pub sent-bit-same : (f : ℕ) (written : Bool) (bits : List Bool) → getD (pendingSent (Frame f) written bits) f false ≡ (written && getD bits f false)
-unfolding pendingSent
+unfolding pendingSent clearedBit
 sent-bit-same f true bits = refl
 sent-bit-same f false bits =
     order (length bits) f
@@ -52,7 +52,7 @@ sent-bit-same f false bits =
 -- a successful transfer leaves the bit of every other frame
 pub sent-bit-other : (o : Opened) (written : Bool) (bits : List Bool) (f : ℕ) → (o ≡ Frame f → ⊥)
     → getD (pendingSent o written bits) f false ≡ getD bits f false
-unfolding pendingSent
+unfolding pendingSent clearedBit
 sent-bit-other Nothing written bits f n = refl
 sent-bit-other (Frame g) true bits f n = refl
 sent-bit-other (Frame g) false bits f n = getD-set-other bits g f false false (λ e. n (ap Frame (sym e)))

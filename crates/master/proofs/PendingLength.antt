@@ -23,7 +23,7 @@ use Rattle.master.specs.Write.{markedFrom, marked, writable, wrote, writ
 use Rattle.master.specs.Select.{withPlan, selectVerdict, selectOf}
 use Rattle.master.specs.Status.{withoutStatus, statusOf}
 use Rattle.master.specs.Message.{withMessage, sendVerdict, sendOf}
-use Rattle.master.specs.Closing.{failed, pendingSent, succeeded}
+use Rattle.master.specs.Closing.{failed, clearedBit, pendingSent, succeeded}
 use Rattle.master.specs.Tick.{abandoned, ticked, tickVerdict, tickOf}
 use Rattle.master.specs.Byte.{passed, withByte, taken, byteVerdict, byteOf}
 use Rattle.master.proofs.Cases.{taken-by, accepted-state, ticked-by}
@@ -110,7 +110,7 @@ write-array-pending-length t x bs s vs =
 
 -- a successful transfer keeps the number of bits
 pub sent-length : (o : Opened) (written : Bool) (bits : List Bool) → length (pendingSent o written bits) ≡ length bits
-unfolding pendingSent
+unfolding pendingSent clearedBit
 sent-length Nothing written bits = refl
 sent-length (Frame f) true bits = refl
 sent-length (Frame f) false bits = length-set bits f false

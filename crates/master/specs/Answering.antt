@@ -1,44 +1,71 @@
 -- What a history says beside specs/History.antt, as functions of the table and the events alone: the diagnostic message, the bytes that the master
--- sends in the open transfer, all frame bytes, and the transfers counted for status. Demand 3 speaks of them through the answers of the calls.
-use Prim.Native.Nat.{ℕ, _*_}
+-- sends in the open transfer, all frame bytes, and the status word. Demand 3 speaks of them through the answers of the calls (specs/Replies.antt).
+use Prim.Native.Nat.{ℕ, _+_, _*_}
 use mathlib.Core.Bool.{Bool, true, false, cond, not, _&&_, _||_}
 use mathlib.Core.List.{List, [], _∷_, _++_}
 use lib.Dec.{ltb}
 use lib.ListN.{length}
-use Rattle.cluster.specs.Table.{published}
+use Rattle.wire.specs.Bits.{digit}
+use Rattle.wire.specs.Identifier.{protectedByte}
+use Rattle.wire.specs.Checksum.{checksumByte}
+use Rattle.wire.specs.declared.checksum.Model.the-variants.{Classic}
+use Rattle.cluster.specs.Table.{identifier, published}
 use Rattle.cluster.specs.Fresh.{freshBytes}
+use Rattle.transport.specs.Cutting.{messageFrames, messageFrame}
 use Rattle.transport.specs.Reassembly as lent
 use Rattle.master.specs.declared.state.Opened.{Opened}
 use Rattle.master.specs.declared.state.Opened.the-variants.{Nothing, Frame, Request, Response}
 use Rattle.master.specs.declared.state.Message.{Message}
 use Rattle.master.specs.declared.state.Message.the-variants as message
-use Rattle.master.specs.declared.state.Status.{Status}
-use Rattle.master.specs.Transfers.{isOpen, openProtected, openChecksum, sentData}
-use Rattle.master.specs.Message.{messageSent, messageFailed}
 use Rattle.master.specs.Seq.{Seq, ∅, _▹_}
 use Rattle.master.specs.Acts.{onWrite, onTick, onSend, isStatusRead, withValue}
 use Rattle.master.specs.Schedule.{Scheduled, act}
-use Rattle.master.specs.History.{opens, closes, succeeds, openAfter, gotBy, gotAfter, writtenBytes}
+use Rattle.master.specs.History.{opens, closes, succeeds, openAfter, isTransfer, writtenBytes, responseOf, gotBy, gotAfter}
 
 -- ---- the message
 
--- "A successful request transfer moves to the next frame or completes; a failed one ends the message as failed", also one that a slot start
--- closes; an accepted send begins one
+-- "A successful request transfer moves to the next frame or completes"
+unfoldable pub sentOn : Message → Message
+sentOn message.None = message.None
+sentOn (message.Sending x) =
+    cond (ltb (x .next + 1) (messageFrames (x .length)))
+    (message.Sending (record { nad = x .nad; length = x .length; next = x .next + 1 }))
+    message.Completed
+sentOn message.Completed = message.Completed
+sentOn message.Failed = message.Failed
+
+-- "a failed one ends the message as failed", also one that a slot start closes; no other transfer touches the message
+unfoldable pub messageClosed : Opened → Bool → Message → Message
+messageClosed Nothing success x = x
+messageClosed (Frame f) success x = x
+messageClosed Request success x = cond success (sentOn x) message.Failed
+messageClosed Response success x = x
+
+-- the message after a history; "Send takes any NAD and the length"
 unfoldable pub messageAfter : List ℕ → Seq Scheduled → Message
 messageAfter t ∅ = message.None
 messageAfter t (h ▹ x) =
     cond (closes x)
-    (cond (succeeds x) (messageSent (openAfter t h) (messageAfter t h)) (messageFailed (openAfter t h) (messageAfter t h)))
+    (messageClosed (openAfter t h) (succeeds x) (messageAfter t h))
     (onSend (λ nad n. message.Sending (record { nad = nad; length = n; next = 0 })) (messageAfter t h) (act x))
 
 -- ---- the bytes that the master sends
 
--- data and checksum of what is opened, from the frame bytes, the message and the bytes that the tick is lent
-unfoldable pub dueOf : List ℕ → List ℕ → Message → List ℕ → Opened → List ℕ
-dueOf t bs x m o = sentData t bs x m o ++ (openChecksum t o (sentData t bs x m o) ∷ [])
+-- the request: "a frame is cut from the bytes lent when it opens", and its checksum
+unfoldable pub requestOf : Message → List ℕ → List ℕ
+requestOf message.None m = []
+requestOf (message.Sending x) m = messageFrame (x .nad) m (x .next) ++ (checksumByte 60 Classic (messageFrame (x .nad) m (x .next)) ∷ [])
+requestOf message.Completed m = []
+requestOf message.Failed m = []
 
--- those of the open transfer: the frame bytes as fresh and the accepted writes before its opening tick left them, the request "cut from the bytes
--- lent when it opens"
+-- what is sent in a transfer, from the frame bytes, the message and what the tick is lent
+unfoldable pub dueOf : List ℕ → List ℕ → Message → List ℕ → Opened → List ℕ
+dueOf t bs x m Nothing = []
+dueOf t bs x m (Frame f) = responseOf t bs f
+dueOf t bs x m Request = requestOf x m
+dueOf t bs x m Response = []
+
+-- what is sent in the open transfer: it was fixed at its opening tick
 unfoldable pub dueAfter : List ℕ → Seq Scheduled → List ℕ
 dueAfter t ∅ = []
 dueAfter t (h ▹ x) =
@@ -70,13 +97,20 @@ pub record Closed : Type 0 where
   pub protected : ℕ
   pub success : Bool
 
+-- the protected identifier of a transfer
+unfoldable pub protectedOf : List ℕ → Opened → ℕ
+protectedOf t Nothing = 0
+protectedOf t (Frame f) = protectedByte (identifier t f)
+protectedOf t Request = protectedByte 60
+protectedOf t Response = protectedByte 61
+
 -- "Only closed transfers with at least one response byte count", since the last accepted reading
 unfoldable pub countedAfter : List ℕ → Seq Scheduled → Seq Closed
 countedAfter t ∅ = ∅
 countedAfter t (h ▹ x) =
     cond (isStatusRead (act x)) ∅
-    (cond (closes x && (isOpen (openAfter t h) && ltb 0 (length (gotBy (gotAfter h) x))))
-    (countedAfter t h ▹ record { protected = openProtected t (openAfter t h); success = succeeds x })
+    (cond (closes x && (isTransfer (openAfter t h) && ltb 0 (length (gotBy (gotAfter h) x))))
+    (countedAfter t h ▹ record { protected = protectedOf t (openAfter t h); success = succeeds x })
     (countedAfter t h))
 
 -- one of them succeeded, or failed
@@ -95,7 +129,7 @@ unfoldable pub lastClosed : Seq Closed → ℕ
 lastClosed ∅ = 0
 lastClosed (cs ▹ c) = c .protected
 
--- "a failed one sets bit 0, a successful one bit 1, and either stays set until read; overrun means two or more since the last reading"
-unfoldable pub statusOver : Seq Closed → Status
-statusOver cs =
-    record { error = anyClosed false cs; success = anyClosed true cs; overrun = twoClosed cs; last = lastClosed cs }
+-- "bit 0 error in response, bit 1 successful transfer, bit 2 overrun, bits 8 to 15 the protected identifier of the last transfer counted, other
+-- bits 0"
+unfoldable pub wordOver : Seq Closed → ℕ
+wordOver cs = digit (anyClosed false cs) + 2 * digit (anyClosed true cs) + 4 * digit (twoClosed cs) + 256 * lastClosed cs

@@ -23,9 +23,13 @@ failed t s counts =
     }
 
 -- "only a successful transfer begun after that write ends it": a frame written since its opening stays pending
+unfoldable pub clearedBit : ℕ → Bool → List Bool → List Bool
+clearedBit f written bits = cond written bits (set bits f false)
+
+-- the pending bits after a success
 unfoldable pub pendingSent : Opened → Bool → List Bool → List Bool
 pendingSent Nothing written bits = bits
-pendingSent (Frame f) written bits = cond written bits (set bits f false)
+pendingSent (Frame f) written bits = clearedBit f written bits
 pendingSent Request written bits = bits
 pendingSent Response written bits = bits
 

@@ -1,5 +1,5 @@
 -- What a history says, as functions of the table and the events alone: openings, closings and successful transfers, which frames are
--- pending, and the bytes of a published frame. Document 01, demand 3 and "Histories".
+-- pending, and the bytes of a published frame. Document 01, demand 3 and "Histories". Nothing here is taken from the definitions of the calls.
 use Prim.Native.Nat.{ℕ, suc, _*_}
 use mathlib.Core.Path.{_≡_}
 use mathlib.Core.Bool.{Bool, true, false, cond, _&&_, _||_}
@@ -7,7 +7,9 @@ use mathlib.Core.List.{List, [], _∷_, _++_}
 use lib.Dec.{ltb, eqb}
 use lib.ListN.{take, drop}
 use Rattle.wire.specs.Identifier.{protectedByte}
-use Rattle.cluster.specs.Table.{frameCount, identifier}
+use Rattle.wire.specs.Checksum.{checksumByte}
+use Rattle.wire.specs.declared.checksum.Model.the-variants.{Classic, Enhanced}
+use Rattle.cluster.specs.Table.{frameCount, identifier, frameLength, classic}
 use Rattle.cluster.specs.Lists.{firstFrom}
 use Rattle.cluster.specs.Values.{touches}
 use Rattle.cluster.specs.Fresh.{freshBytes}
@@ -17,8 +19,6 @@ use Rattle.master.specs.declared.tick.TickAnswer.{TickAnswer}
 use Rattle.master.specs.declared.tick.TickAnswer.the-variants as tick
 use Rattle.master.specs.declared.byte.ByteAnswer.{ByteAnswer}
 use Rattle.master.specs.declared.byte.ByteAnswer.the-variants as byte
-use Rattle.master.specs.Answers.{successful}
-use Rattle.master.specs.Transfers.{isOpen, openChecksum, frameData}
 use Rattle.master.specs.Seq.{Seq, ∅, _▹_, _⋈_, Each}
 use Rattle.master.specs.Acts.{onWrite, onTick, onByte, withValue}
 use Rattle.master.specs.Schedule.{Scheduled, act, isStart, starts, slotAfter, ofList}
@@ -43,16 +43,24 @@ transferNamed t p =
     (cond (eqb p (protectedByte 61)) Response
     Nothing))
 
-abbrev pub answered : List ℕ → TickAnswer → Opened
-answered t tick.Waiting = Nothing
-answered t tick.Idle = Nothing
-answered t tick.Silent = Nothing
-answered t (tick.Opened p) = transferNamed t p
-answered t (tick.Refused r) = Nothing
+-- what the answer of a tick names
+abbrev pub openedAs : List ℕ → TickAnswer → Opened
+openedAs t tick.Waiting = Nothing
+openedAs t tick.Idle = Nothing
+openedAs t tick.Silent = Nothing
+openedAs t (tick.Opened p) = transferNamed t p
+openedAs t (tick.Refused r) = Nothing
 
 -- "A slot opens the frame whose protected identifier its tick answers."
 unfoldable pub opens : List ℕ → Scheduled → Opened
-opens t x = onTick (λ m a. cond (isStart (x .slot)) (answered t a) Nothing) Nothing (act x)
+opens t x = onTick (λ m a. cond (isStart (x .slot)) (openedAs t a) Nothing) Nothing (act x)
+
+abbrev pub isSuccess : ByteAnswer → Bool
+isSuccess byte.More = false
+isSuccess byte.Success = true
+isSuccess byte.Failure = false
+isSuccess byte.Response = true
+isSuccess (byte.Refused r) = false
 
 abbrev pub isEnd : ByteAnswer → Bool
 isEnd byte.More = false
@@ -67,12 +75,19 @@ closes x = starts x || onByte (λ b a. isEnd a) false (act x)
 
 -- "it is successful, and its frame sent, exactly when success was answered"
 unfoldable pub succeeds : Scheduled → Bool
-succeeds x = onByte (λ b a. successful a) false (act x)
+succeeds x = onByte (λ b a. isSuccess a) false (act x)
 
 -- the transfer that is open after a history: what the last closing event opened
 unfoldable pub openAfter : List ℕ → Seq Scheduled → Opened
 openAfter t ∅ = Nothing
 openAfter t (h ▹ x) = cond (closes x) (opens t x) (openAfter t h)
+
+-- a transfer, and not nothing
+abbrev pub isTransfer : Opened → Bool
+isTransfer Nothing = false
+isTransfer (Frame f) = true
+isTransfer Request = true
+isTransfer Response = true
 
 -- a transfer is one of frame f
 abbrev pub carries : Opened → ℕ → Bool
@@ -109,7 +124,7 @@ pub record Pending (t : List ℕ) (h : Seq Scheduled) (f : ℕ) : Type 0 where
 unfoldable pub successes : List ℕ → ℕ → Seq Scheduled → ℕ
 successes t l ∅ = 0
 successes t l (h ▹ x) =
-    cond (succeeds x && (isOpen (openAfter t h) && ofList t (slotAfter h) l))
+    cond (succeeds x && (isTransfer (openAfter t h) && ofList t (slotAfter h) l))
     (suc (successes t l h))
     (successes t l h)
 
@@ -124,9 +139,17 @@ writtenBytes t (h ▹ x) = onWrite (λ s v. withValue t (writtenBytes t h) s v) 
 abbrev pub eightOf : List ℕ → ℕ → List ℕ
 eightOf bs f = take 8 (drop (8 * f) bs)
 
+-- the data of a frame: as many of its bytes as its length says
+unfoldable pub dataOf : List ℕ → List ℕ → ℕ → List ℕ
+dataOf t bs f = take (frameLength t f) (eightOf bs f)
+
+-- "the frame's checksum", classic or enhanced "as the table says"
+unfoldable pub checksumOver : List ℕ → ℕ → List ℕ → ℕ
+checksumOver t f ds = checksumByte (identifier t f) (cond (classic t f) Classic Enhanced) ds
+
 -- "its data .., then the frame's checksum"
 unfoldable pub responseOf : List ℕ → List ℕ → ℕ → List ℕ
-responseOf t bs f = frameData t bs f ++ (openChecksum t (Frame f) (frameData t bs f) ∷ [])
+responseOf t bs f = dataOf t bs f ++ (checksumOver t f (dataOf t bs f) ∷ [])
 
 -- some response bytes, and that of one more event
 unfoldable pub gotBy : List ℕ → Scheduled → List ℕ

@@ -23,3 +23,4 @@ pub mod History
 pub mod Answering
 pub mod Replies
 pub mod Claim
+pub mod InWords

@@ -1,14 +1,15 @@
 -- Document 01, "Histories": "Accepted selects and ticks alone give each slot and its entry, by the rules above."
-use Prim.Native.Nat.{ℕ}
+use Prim.Native.Nat.{ℕ, _-_}
 use mathlib.Core.Bool.{Bool, true, false, cond, _&&_}
 use mathlib.Core.List.{List}
-use lib.Dec.{eqb}
-use Rattle.cluster.specs.Table.{entryKind, entryTarget}
+use lib.Dec.{ltb, eqb}
+use Rattle.cluster.specs.Table.{entryKind, entryTarget, entryDelay}
+use Rattle.cluster.specs.Lists.{firstEntry, nextEntry}
 use Rattle.master.specs.declared.state.Plan.{Plan}
 use Rattle.master.specs.declared.state.Current.{Current}
 use Rattle.master.specs.declared.state.Current.the-variants as current
-use Rattle.master.specs.Fresh.{noPlan}
-use Rattle.master.specs.Plan.{asking, waits, waited, entryDue, begun}
+use Rattle.master.specs.declared.state.Requested.{Requested}
+use Rattle.master.specs.declared.state.Requested.the-variants as requested
 use Rattle.master.specs.Seq.{Seq, ∅, _▹_}
 use Rattle.master.specs.Calls.{Event}
 use Rattle.master.specs.Acts.{Act, nothing, wrote, selected, ticked, took, statusRead, sending, actOf, onTick}
@@ -31,35 +32,40 @@ pub record Scheduled : Type 0 where
 abbrev pub act : Scheduled → Act
 act x = actOf (x .event)
 
-abbrev pub slotWith : Current → Slot
-slotWith current.None = unscheduled
-slotWith (current.Entry e) = entry e
+-- ---- the plan: the wait, the current entry and the requested schedule
 
--- the slot that an accepted tick starts: none "If the wait is above 1"; "Otherwise a slot starts: .. the requested schedule begins or the
--- next entry follows, cyclically"
+-- "the requested schedule begins", "at its entry 0", "or the next entry follows, cyclically"
+unfoldable pub slotOf : List ℕ → Requested → Current → Slot
+slotOf t (requested.Schedule n) c = entry (firstEntry t n)
+slotOf t requested.None current.None = unscheduled
+slotOf t requested.None (current.Entry e) = entry (nextEntry t e)
+
+-- the slot that an accepted tick starts: none "If the wait is above 1"; "Otherwise a slot starts"
 unfoldable pub slotDue : List ℕ → Plan → Slot
-slotDue t p = cond (waits p) none (slotWith (entryDue t (p .requested) (p .current)))
+slotDue t p = cond (ltb 1 (p .wait)) none (slotOf t (p .requested) (p .current))
 
--- the plan after an accepted tick: the wait "falls by one", "with no schedule .. the wait stays 0", or "The wait becomes the entry's delay"
+-- the plan after an accepted tick: the wait "falls by one"; "with no schedule .. the wait stays 0"; "The wait becomes the entry's delay"
 unfoldable pub planWith : List ℕ → Plan → Slot → Plan
-planWith t p none = waited p
+planWith t p none = record { wait = p .wait - 1; current = p .current; requested = p .requested }
 planWith t p unscheduled = p
-planWith t p (entry e) = begun t e
+planWith t p (entry e) = record { wait = entryDelay t e; current = current.Entry e; requested = requested.None }
 
--- the plan after an event: an accepted select asks for its schedule, an accepted tick goes on, and nothing else changes it
+-- the plan after an event: "Select asks for a schedule", an accepted tick goes on, and nothing else changes it
 unfoldable pub planBy : List ℕ → Plan → Act → Plan
 planBy t p nothing = p
 planBy t p (wrote s v) = p
-planBy t p (selected n) = asking p n
+planBy t p (selected n) = record { wait = p .wait; current = p .current; requested = requested.Schedule n }
 planBy t p (ticked m a) = planWith t p (slotDue t p)
 planBy t p (took b a) = p
 planBy t p statusRead = p
 planBy t p (sending nad n) = p
 
--- the wait, the current entry and the requested schedule after a history
+-- the plan after a history: at first "no schedule"
 unfoldable pub planAfter : List ℕ → Seq Scheduled → Plan
-planAfter t ∅ = noPlan
+planAfter t ∅ = record { wait = 0; current = current.None; requested = requested.None }
 planAfter t (h ▹ x) = planBy t (planAfter t h) (act x)
+
+-- ---- the slots
 
 -- an event after a history, with the slot that it starts: only accepted ticks start one
 unfoldable pub schedule : List ℕ → Seq Scheduled → Event → Scheduled

@@ -11,8 +11,7 @@ ghost use Rattle.master.specs.Fits.{messageFits, frameThere};
 ghost use Rattle.cluster.specs.Check.{RightTable};
 ghost use Rattle.master.specs.Transfers.{openIdentifier, openProtected};
 ghost use Rattle.master.specs.Status.{statusAfter};
-ghost use Rattle.master.specs.declared.state.Opened.the-variants.{Frame};
-ghost use Rattle.master.specs.Closing.{failed as failedOf, pendingSent, succeeded as succeededOf};
+ghost use Rattle.master.specs.Closing.{failed as failedOf, clearedBit, pendingSent, succeeded as succeededOf};
 
 impl State {
     // Closes the transfer as failed; it counts for status where it had a response byte.
@@ -87,7 +86,7 @@ impl Status {
 // The pending bits without that of a frame, unless it was written since.
 fn cleared(f: u16, written: bool, pending: [bool; 60]) -> [bool; 60]
     requires { ⌜ f < 60 ⌝ }
-    ensures { λ r. ⌜ r ≡ pendingSent (Frame f) written pending ⌝ }
+    ensures { λ r. ⌜ r ≡ clearedBit f written pending ⌝ }
 {
     if written {
         return pending;

@@ -1,7 +1,7 @@
 -- The state and the frame bytes are what the history says; the events that change neither bits, nor bytes, nor the transfer.
 use Prim.Native.Nat.{ℕ}
 use mathlib.Core.Path.{_≡_, refl, sym, _∙_}
-use mathlib.Core.Bool.{Bool, true, false, cond}
+use mathlib.Core.Bool.{true, false}
 use mathlib.Core.List.{List}
 use Rattle.cluster.specs.Check.{RightTable}
 use Rattle.cluster.specs.Fresh.{freshBytes}
@@ -9,19 +9,20 @@ use Rattle.master.specs.declared.state.Message.the-variants as message
 use Rattle.master.specs.declared.state.State.{State}
 use Rattle.master.specs.Fits.{stateFits}
 use Rattle.master.specs.Fresh.{fresh}
-use Rattle.master.specs.Plan.{asking, waits, waited}
+use Rattle.master.specs.Plan.{asking, waited}
 use Rattle.master.specs.Select.{withPlan}
 use Rattle.master.specs.Status.{withoutStatus}
 use Rattle.master.specs.Message.{withMessage}
 use Rattle.master.specs.Seq.{Seq, ∅, _▹_}
 use Rattle.master.specs.Run.{Held, held}
 use Rattle.master.specs.declared.tick.TickAnswer.{TickAnswer}
-use Rattle.master.specs.Acts.{Act, nothing, selected, ticked, statusRead, sending, onSend, isStatusRead}
+use Rattle.master.specs.Acts.{nothing, selected, ticked, statusRead, sending, onSend, isStatusRead}
 use Rattle.master.specs.Schedule.{none, Scheduled, act, slotDue, planWith, planBy, planAfter}
 use Rattle.master.specs.History.{closes}
-use Rattle.master.specs.Answering.{messageAfter, countedAfter, anyClosed, twoClosed, lastClosed, statusOver}
+use Rattle.master.specs.Answering.{messageAfter, countedAfter, anyClosed, twoClosed, lastClosed}
 use Rattle.master.proofs.FitsKept.{fresh-fits}
 use Rattle.master.proofs.History.Quiet.{isQuiet}
+use Rattle.master.proofs.History.StatusOver.{statusOver}
 use Rattle.master.proofs.History.FramesAre.{FramesAre, frames-fresh, frames-quiet}
 use Rattle.master.proofs.History.TransferIs.{TransferIs, transfer-fresh, transfer-quiet}
 
@@ -82,7 +83,7 @@ module _ (t : List ℕ) (h : Seq Scheduled) (x : Held) (is : Agrees t h x) (y : 
   -- a select
   pub agrees-selected : (n : ℕ) → act y ≡ selected n → stateFits t (withPlan (x .state) (asking (x .state .plan) n)) ≡ true
       → Agrees t (h ▹ y) (held (withPlan (x .state) (asking (x .state .plan) n)) (x .bytes))
-  unfolding closes planAfter planBy withPlan
+  unfolding closes planAfter planBy withPlan asking
   agrees-selected n a f =
       let c : closes y ≡ false = rw a in
       aside (withPlan (x .state) (asking (x .state .plan) n)) f refl refl (rw a) c
@@ -94,7 +95,7 @@ module _ (t : List ℕ) (h : Seq Scheduled) (x : Held) (is : Agrees t h x) (y : 
   pub agrees-waited : (m : List ℕ) (b : TickAnswer) → act y ≡ ticked m b → y .slot ≡ none → slotDue t (planAfter t h) ≡ none
       → stateFits t (withPlan (x .state) (waited (x .state .plan))) ≡ true
       → Agrees t (h ▹ y) (held (withPlan (x .state) (waited (x .state .plan))) (x .bytes))
-  unfolding closes planAfter planBy planWith withPlan
+  unfolding closes planAfter planBy planWith withPlan waited
   agrees-waited m b a n d f =
       let c : closes y ≡ false = rw (a, n) in
       aside (withPlan (x .state) (waited (x .state .plan))) f refl refl (rw a) c

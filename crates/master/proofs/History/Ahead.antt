@@ -1,17 +1,14 @@
 -- Number ahead answers the count by the history.
-use Prim.Native.Nat.{ℕ, suc, _<_}
-use mathlib.Core.Path.{_≡_, refl, sym, ap, subst, _∙_}
-use mathlib.Core.Bool.{Bool, true, false, cond}
-use mathlib.Core.List.{List, [], _∷_, _++_, List·Memᴰ, List·Memᴰ·head, Memᴰ·append-right}
+use Prim.Native.Nat.{ℕ, _<_}
+use mathlib.Core.Path.{_≡_, refl, ap, _∙_}
+use mathlib.Core.Bool.{Bool, false}
+use mathlib.Core.List.{List, [], _∷_, List·Memᴰ·head, Memᴰ·append-right}
 use lib.Dec.{ltb}
 use lib.ListN.{getD}
 use borrow.Author.Tests.{ltb-true, lt-ltb}
-use Rattle.refusal.specs.Numbers as number
 use Rattle.cluster.specs.Check.{RightTable}
 use Rattle.cluster.specs.Table.{memberCount, memberList}
-use Rattle.cluster.specs.Lists.{members}
 use Rattle.transport.proofs.Tests.{whether}
-use Rattle.master.specs.declared.ahead.AheadAnswer.{AheadAnswer}
 use Rattle.master.specs.declared.ahead.AheadAnswer.the-variants as answer
 use Rattle.master.specs.Admit.{bufferSize}
 use Rattle.master.specs.Ahead.{memberOf, framesAhead, pendingCount, aheadVerdict, aheadOf}

@@ -1,37 +1,34 @@
 -- Demand 3: the claim holds of every history.
-use Prim.Native.Nat.{ℕ, _<_}
-use mathlib.Core.Path.{_≡_, refl, sym, _∙_}
-use mathlib.Core.Logic.{_↔_}
-use mathlib.Core.Bool.{true, false}
+use Prim.Native.Nat.{ℕ}
+use mathlib.Core.Path.{_≡_, sym}
 use mathlib.Core.List.{List}
 use native.Mathlib.Omega.{arith}
-use Rattle.cluster.specs.Check.{RightTable}
+use lib.ListN.{length}
 use Rattle.cluster.specs.Table.{entryKind, entryTarget}
 use Rattle.cluster.specs.Lists.{members}
 use Rattle.transport.proofs.Tests.{whether}
 use Rattle.master.specs.declared.start.FreshAnswer.the-variants.{Fresh}
 use Rattle.master.specs.declared.tick.TickAnswer.{TickAnswer}
 use Rattle.master.specs.declared.tick.TickAnswer.the-variants as answer
-use Rattle.master.specs.Fits.{lentFits}
 use Rattle.master.specs.Start.{freshOf}
 use Rattle.master.specs.Seq.{Seq, _▹_, _⋈_}
-use Rattle.master.specs.Calls.{Call, tick, Answer, _⇒_}
+use Rattle.master.specs.Calls.{Call, tick}
 use Rattle.master.specs.Run.{heldAfter}
 use Rattle.master.specs.Acts.{tickAct, onTick}
 use Rattle.master.specs.Schedule.{Slot, none, entry, Scheduled, slotDue, planAfter, schedule}
 use Rattle.master.specs.History.{Pending}
 use Rattle.master.specs.Answering.{messageAfter}
-use Rattle.master.specs.Replies.{Takes, Replies, TickReply}
+use Rattle.master.specs.Replies.{Takes, lentRight}
 use Rattle.master.specs.Claim.{recordOf, event, Claim}
-use Rattle.master.proofs.History.Along.{Along, along-at, along-each}
+use Rattle.master.proofs.History.Along.{along-at, along-each}
 use Rattle.master.proofs.History.Computed.{pendingAfter}
 use Rattle.master.proofs.History.PendingLaw.{pending-iff}
 use Rattle.master.proofs.History.Counting.{count-is}
-use Rattle.master.proofs.History.Progress.{Lawful, sent-in-time}
+use Rattle.master.proofs.History.Progress.{sent-in-time}
 use Rattle.master.proofs.History.SameBytes.{same-eight}
 use Rattle.master.proofs.History.Sent.{sent-exactly}
 use Rattle.master.proofs.History.Unchanged.{unchanged}
-use Rattle.master.proofs.History.Runs.{Good, fresh-table, agrees, goods}
+use Rattle.master.proofs.History.Runs.{Good, agrees, goods}
 
 -- a tick that starts a slot with an entry is accepted, and that slot is due
 slot-due : (m : List ℕ) (a : TickAnswer) (s : Slot) (e : ℕ) → entry e ≡ onTick (λ n b. s) none (tickAct m a) → s ≡ entry e
@@ -54,7 +51,7 @@ list-slot : (t : List ℕ) (h : Seq Scheduled) (m : List ℕ) (a : TickAnswer) (
 unfolding schedule
 list-slot t h m a e good k =
     let due = slot-due m a (slotDue t (planAfter t h)) e (good .placed) in
-    whether (lentFits (messageAfter t h) (lib.ListN.length m))
+    whether (lentRight (messageAfter t h) (length m))
     (λ l. (rw due at (good .replies .goes-on l)) .list k)
     (λ l. absurd (slot-accepted m a (slotDue t (planAfter t h)) e (good .placed) _ (good .replies .refuses l)))
 

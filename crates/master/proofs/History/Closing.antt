@@ -1,37 +1,33 @@
 -- Closing a transfer: the message and the status after it, and the transfer record that a slot start leaves.
-use Prim.Native.Nat.{ℕ, _<_}
-use mathlib.Core.Path.{_≡_, refl, sym, ap, _∙_}
-use mathlib.Core.Bool.{Bool, true, false, cond, _&&_}
+use Prim.Native.Nat.{ℕ}
+use mathlib.Core.Path.{_≡_, sym, _∙_}
+use mathlib.Core.Bool.{true, false}
 use mathlib.Core.List.{List, [], _∷_, _++_}
 use native.Mathlib.Omega.{arith}
 use lib.Dec.{ltb}
 use lib.ListN.{length, length-append, replicate}
 use borrow.Author.Tests.{lt-ltb}
 use Rattle.transport.proofs.Tests.{whether}
-use Rattle.master.specs.declared.state.Opened.{Opened}
-use Rattle.master.specs.declared.state.Opened.the-variants.{Nothing, Frame, Request, Response}
-use Rattle.master.specs.declared.state.Message.{Message}
-use Rattle.master.specs.declared.state.Transfer.{Transfer}
+use Rattle.master.specs.declared.state.Opened.the-variants.{Nothing}
 use Rattle.master.specs.declared.state.State.{State}
 use Rattle.master.specs.declared.byte.ByteAnswer.{ByteAnswer}
-use Rattle.master.specs.Answers.{successful}
 use Rattle.master.specs.Fresh.{noTransfer}
 use Rattle.master.specs.Transfers.{isOpen, sends, openProtected}
 use Rattle.master.specs.Status.{counted, statusAfter}
-use Rattle.master.specs.Message.{messageSent, messageFailed}
+use Rattle.master.specs.Message.{messageFailed}
 use Rattle.master.specs.Closing.{failed}
 use Rattle.master.specs.Tick.{abandoned}
 use Rattle.master.specs.Seq.{Seq, _▹_}
 use Rattle.master.specs.Acts.{ticked, took}
 use Rattle.master.specs.declared.tick.TickAnswer.{TickAnswer}
 use Rattle.master.specs.Schedule.{Scheduled, act, isStart, starts}
-use Rattle.master.specs.History.{isEnd, closes, succeeds, openAfter, gotBy, gotAfter}
-use Rattle.master.specs.Answering.{messageAfter, countedAfter, statusOver}
+use Rattle.master.specs.History.{isSuccess, isEnd, closes, succeeds, openAfter, isTransfer, gotBy, gotAfter}
+use Rattle.master.specs.Answering.{messageClosed, messageAfter, protectedOf, countedAfter}
 use Rattle.master.proofs.SlotFits.{not-open}
-use Rattle.master.proofs.History.Computed.{rewrittenAfter, rewritten-closed}
+use Rattle.master.proofs.History.Computed.{rewritten-closed}
 use Rattle.master.proofs.History.Events.{starts-closes, starts-unsent}
-use Rattle.master.proofs.History.StatusOver.{status-counted}
-use Rattle.master.proofs.History.TransferIs.{TransferIs}
+use Rattle.master.proofs.History.Words.{is-transfer, protected-of}
+use Rattle.master.proofs.History.StatusOver.{statusOver, status-counted}
 use Rattle.master.proofs.History.Agrees.{Agrees}
 use Rattle.master.specs.Run.{Held}
 
@@ -42,20 +38,20 @@ module _ (t : List ℕ) (h : Seq Scheduled) (x : Held) (is : Agrees t h x) (y : 
   unfolding closes
   end-closes = rw (a, e)
 
-  pub end-message : messageAfter t (h ▹ y)
-      ≡ cond (successful c) (messageSent (x .state .transfer .opened) (x .state .message)) (messageFailed (x .state .transfer .opened) (x .state .message))
+  pub end-message : messageAfter t (h ▹ y) ≡ messageClosed (x .state .transfer .opened) (isSuccess c) (x .state .message)
   unfolding messageAfter succeeds
   end-message = rw (end-closes, a, is .message-is, is .transfer .opened-is)
 
   -- it counts: the byte is one of the response
   pub end-status : isOpen (x .state .transfer .opened) ≡ true
-      → counted (x .state .status) (successful c) (openProtected t (x .state .transfer .opened)) ≡ statusOver (countedAfter t (h ▹ y))
+      → counted (x .state .status) (isSuccess c) (openProtected t (x .state .transfer .opened)) ≡ statusOver (countedAfter t (h ▹ y))
   unfolding countedAfter gotBy succeeds
   end-status o =
-      let p : isOpen (openAfter t h) ≡ true = rw (is .transfer .opened-is) at o in
+      let p : isTransfer (openAfter t h) ≡ true = rw (is .transfer .opened-is, is-transfer (openAfter t h)) at o in
+      let q : isOpen (openAfter t h) ≡ true = rw (is .transfer .opened-is) at o in
       let l : ltb 0 (length (gotAfter h ++ (b ∷ []))) ≡ true = lt-ltb 0 (length (gotAfter h ++ (b ∷ []))) (omega (arith, length-append (gotAfter h) (b ∷ []))) in
-      rw (end-closes, a, p, l, is .status-is, is .transfer .opened-is)
-      (sym (status-counted (countedAfter t h) (record { protected = openProtected t (openAfter t h); success = successful c })))
+      rw (end-closes, a, p, l, is .status-is, is .transfer .opened-is, protected-of t (openAfter t h) q)
+      (sym (status-counted (countedAfter t h) (record { protected = protectedOf t (openAfter t h); success = isSuccess c })))
 
 -- ---- a slot start
 
@@ -88,7 +84,7 @@ module _ (t : List ℕ) (h : Seq Scheduled) (x : Held) (is : Agrees t h x) where
     start-is = rw (a, s)
 
     -- the message after it
-    pub start-message : messageAfter t (h ▹ y) ≡ messageFailed (openAfter t h) (messageAfter t h)
+    pub start-message : messageAfter t (h ▹ y) ≡ messageClosed (openAfter t h) false (messageAfter t h)
     unfolding messageAfter
     start-message = rw (starts-closes y start-is, starts-unsent y start-is)
 
@@ -99,9 +95,10 @@ module _ (t : List ℕ) (h : Seq Scheduled) (x : Held) (is : Agrees t h x) where
         let o = x .state .transfer .opened in
         let p = is .transfer .opened-is in
         let k = is .transfer .count-is in
+        let same = sym (is-transfer o) in
         whether (isOpen o)
         (λ q. whether (ltb 0 (length (gotAfter h)))
-        (λ l. rw (q, k, l, starts-closes y start-is, a, ← p, q, l, starts-unsent y start-is, is .status-is)
-        (sym (status-counted (countedAfter t h) (record { protected = openProtected t o; success = false }))))
-        (λ l. rw (q, k, l, starts-closes y start-is, a, ← p, q, l) (is .status-is)))
-        (λ q. rw (q, starts-closes y start-is, a, ← p, q) (is .status-is))
+        (λ l. rw (q, k, l, starts-closes y start-is, a, ← p, same ∙ q, l, starts-unsent y start-is, is .status-is, protected-of t o q)
+        (sym (status-counted (countedAfter t h) (record { protected = protectedOf t o; success = false }))))
+        (λ l. rw (q, k, l, starts-closes y start-is, a, ← p, same ∙ q, l) (is .status-is)))
+        (λ q. rw (q, starts-closes y start-is, a, ← p, same ∙ q) (is .status-is))

@@ -5,12 +5,13 @@ use mathlib.Core.Logic.{_⊎_, inl, inr, ⊎-elim, _↔_}
 use mathlib.Core.Bool.{Bool, true, false, cond}
 use mathlib.Core.List.{List, [], _∷_, _++_, List·Memᴰ, List·Memᴰ·head, List·Memᴰ·tail, List·Memᴰ·not-nil, List·Memᴰ·cases-cons}
 use lib.ListN.{getD}
+use Rattle.wire.specs.Identifier.{protectedByte}
+use Rattle.cluster.specs.Table.{identifier}
 use Rattle.transport.proofs.Tests.{whether}
 use Rattle.master.specs.declared.state.Opened.{Opened}
 use Rattle.master.specs.declared.state.Opened.the-variants.{Nothing, Frame, Request, Response}
 use Rattle.master.specs.declared.tick.TickAnswer.{TickAnswer}
 use Rattle.master.specs.declared.tick.TickAnswer.the-variants.{Silent, Opened as opens}
-use Rattle.master.specs.Transfers.{openProtected}
 use Rattle.master.specs.Tick.{firstPending}
 use Rattle.master.specs.Replies.{Takes, takes, leaves}
 use Rattle.master.proofs.Tests.{never}
@@ -22,9 +23,9 @@ firstWith p (f ∷ fs) = cond (p f) (Frame f) (firstWith p fs)
 -- what a tick answers where its slot opens something or nothing
 abbrev pub answerFor : List ℕ → Opened → TickAnswer
 answerFor t Nothing = Silent
-answerFor t (Frame f) = opens (openProtected t (Frame f))
-answerFor t Request = opens (openProtected t Request)
-answerFor t Response = opens (openProtected t Response)
+answerFor t (Frame f) = opens (protectedByte (identifier t f))
+answerFor t Request = opens (protectedByte 60)
+answerFor t Response = opens (protectedByte 61)
 
 -- the first pending member of a list, by bits that say what p says
 pub first-pending : (bits : List Bool) (p : ℕ → Bool) → ((f : ℕ) → getD bits f false ≡ p f) → (fs : List ℕ) → firstPending bits fs ≡ firstWith p fs

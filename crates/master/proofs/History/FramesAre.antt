@@ -1,14 +1,14 @@
 -- The pending bits and the frame bytes are what the history says of them.
-use Prim.Native.Nat.{ℕ, _+_, _*_, _<_, _≤_}
-use mathlib.Core.Path.{_≡_, refl, sym, ap, _∙_}
-use mathlib.Core.Bool.{Bool, true, false, cond, _&&_, _||_}
+use Prim.Native.Nat.{ℕ, _+_, _*_, _<_}
+use mathlib.Core.Path.{_≡_, refl, sym, _∙_}
+use mathlib.Core.Bool.{Bool, true, false, _&&_}
 use mathlib.Core.List.{List}
 use native.Mathlib.Omega.{arith}
 use lib.Dec.{eqb}
 use lib.ListN.{length, getD, replicate, getD-replicate, List·getD-eq-default}
-use borrow.Author.Tests.{eqb-true, eqb-false, eq-eqb}
+use borrow.Author.Tests.{eqb-true, eq-eqb}
 use Rattle.cluster.specs.Check.{RightTable}
-use Rattle.cluster.specs.Table.{frameCount, signalCount, published}
+use Rattle.cluster.specs.Table.{signalCount, published}
 use Rattle.cluster.specs.Values.{touches}
 use Rattle.cluster.specs.Fresh.{freshBytes}
 use Rattle.cluster.proofs.HeaderLaws.{frame-count}
@@ -17,19 +17,16 @@ use Rattle.cluster.proofs.Starts.{fresh-length}
 use Rattle.transport.proofs.Tests.{whether, order}
 use Rattle.master.specs.declared.state.Opened.{Opened}
 use Rattle.master.specs.declared.state.Opened.the-variants.{Nothing, Frame, Request, Response}
-use Rattle.master.specs.declared.state.State.{State}
 use Rattle.master.specs.declared.byte.ByteAnswer.{ByteAnswer}
 use Rattle.master.specs.Admit.{bufferSize}
-use Rattle.master.specs.Answers.{successful}
 use Rattle.master.specs.Closing.{pendingSent}
 use Rattle.master.specs.Write.{markedFrom}
 use Rattle.master.specs.Seq.{Seq, ∅, _▹_}
-use Rattle.master.specs.Run.{Held}
-use Rattle.master.specs.Acts.{wrote, took, Value, onWrite, withValue}
+use Rattle.master.specs.Acts.{wrote, took, Value, withValue}
 use Rattle.master.specs.Schedule.{Scheduled, act}
-use Rattle.master.specs.History.{writes, succeeds, openAfter, carries, writtenBytes, gotAfter}
+use Rattle.master.specs.History.{writes, isSuccess, succeeds, openAfter, carries, writtenBytes, gotAfter}
 use Rattle.master.specs.Answering.{storedBy, bytesAfter}
-use Rattle.master.proofs.Tests.{never, or-true, false-unless}
+use Rattle.master.proofs.Tests.{never, or-true}
 use Rattle.master.proofs.PendingLaws.{marked-bit, marked-only, sent-bit-same, sent-bit-other}
 use Rattle.master.proofs.PendingLength.{marked-length, sent-length}
 use Rattle.master.proofs.History.Computed.{rewrittenAfter, pendingAfter, pending-wrote, pending-wiped, pending-kept, unwiped-unsent, unwiped-elsewhere, unwiped-rewritten, wipes-when}
@@ -73,13 +70,13 @@ module _ (t : List ℕ) (h : Seq Scheduled) (bits : List Bool) (bs : List ℕ) (
   pub frames-quiet : isQuiet (act y) ≡ true → FramesAre t (h ▹ y) bits bs
   unfolding succeeds bytesAfter
   frames-quiet q =
-      let u = quiet-byte (λ b a. successful a) false (act y) q in
+      let u = quiet-byte (λ b a. isSuccess a) false (act y) q in
       kept (quiet-writes t h y q) u
       (rw (u, quiet-write (λ s v. withValue t (bytesAfter t h) s v) (bytesAfter t h) (act y) q))
       (written-quiet t h y q)
 
   -- a byte that is not answered with success
-  pub frames-byte : (b : ℕ) (c : ByteAnswer) → act y ≡ took b c → successful c ≡ false → FramesAre t (h ▹ y) bits bs
+  pub frames-byte : (b : ℕ) (c : ByteAnswer) → act y ≡ took b c → isSuccess c ≡ false → FramesAre t (h ▹ y) bits bs
   unfolding succeeds writes bytesAfter writtenBytes
   frames-byte b c a n = kept (λ f. rw a) (rw a n) (rw (a, n)) (rw a)
 
@@ -100,7 +97,7 @@ module _ (t : List ℕ) (h : Seq Scheduled) (bits : List Bool) (bs : List ℕ) (
       touched-bit f w = omega (arith, touched-below t ok s hs f w, frame-count t ok, is .bit-count)
 
   -- a byte that is answered with success: the bit of the frame that was sent
-  module _ (b : ℕ) (c : ByteAnswer) (a : act y ≡ took b c) (good : successful c ≡ true) where
+  module _ (b : ℕ) (c : ByteAnswer) (a : act y ≡ took b c) (good : isSuccess c ≡ true) where
     sent-succeeds : succeeds y ≡ true
     unfolding succeeds
     sent-succeeds = rw a good

@@ -4,7 +4,7 @@ use mathlib.Core.Path.{_≡_, refl, sym, ap, _∙_}
 use mathlib.Core.Bool.{true, false}
 use mathlib.Core.List.{List}
 use native.Mathlib.Omega.{arith}
-use lib.Dec.{ltb, eqb}
+use lib.Dec.{eqb}
 use borrow.Author.Tests.{eqb-true, eq-eqb, lt-ltb, le-ltb}
 use Rattle.wire.specs.Identifier.{protectedByte}
 use Rattle.wire.proofs.IdentifierLaws.{protected-identifier}
@@ -12,7 +12,7 @@ use Rattle.cluster.specs.Check.{RightTable}
 use Rattle.cluster.specs.Table.{frameCount, identifier}
 use Rattle.cluster.proofs.FrameLaws.{identifier-below, identifiers-distinct}
 use Rattle.cluster.proofs.Searching.{first-holds, first-least}
-use Rattle.transport.proofs.Tests.{whether, order}
+use Rattle.transport.proofs.Tests.{order}
 use Rattle.master.specs.declared.state.Opened.{Opened}
 use Rattle.master.specs.declared.state.Opened.the-variants.{Nothing, Frame, Request, Response}
 use Rattle.master.specs.Transfers.{isOpen, openIdentifier, openProtected}

@@ -1,10 +1,10 @@
 -- The nine bytes of a transfer record: some bytes, and 255 behind them.
-use Prim.Native.Nat.{ℕ, suc, _+_, _-_, _≤_, _<_}
-use mathlib.Core.Path.{_≡_, refl, sym, ap, _∙_}
+use Prim.Native.Nat.{ℕ, suc, _-_, _≤_, _<_}
+use mathlib.Core.Path.{_≡_, refl}
 use mathlib.Core.List.{List, [], _∷_, _++_, append-assoc}
 use native.Mathlib.Omega.{arith}
-use lib.ListN.{length, getD, set, take, replicate, length-append, List·getD-append}
-use lib.Seq.{set-at, take-at, getD-at}
+use lib.ListN.{length, getD, set, replicate, length-append, List·getD-append}
+use lib.Seq.{set-at}
 
 abbrev pub nineOf : List ℕ → List ℕ
 nineOf xs = xs ++ replicate (9 - length xs) 255

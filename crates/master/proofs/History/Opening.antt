@@ -1,17 +1,15 @@
 -- Which transfer is open: what the last closing event opened. And the slot that was started last.
 use Prim.Native.Nat.{ℕ}
 use mathlib.Core.Path.{_≡_, refl, ap, _∙_}
-use mathlib.Core.Bool.{Bool, true, false, cond}
+use mathlib.Core.Bool.{true, false, cond}
 use mathlib.Core.List.{List}
 use Rattle.transport.proofs.Tests.{whether}
-use Rattle.master.specs.declared.state.Opened.{Opened}
 use Rattle.master.specs.declared.state.Opened.the-variants.{Nothing}
-use Rattle.master.specs.Transfers.{isOpen}
 use Rattle.master.specs.Seq.{Seq, ∅, _▹_, _⋈_, Each}
-use Rattle.master.specs.Schedule.{Scheduled, starts, slotAfter}
-use Rattle.master.specs.History.{opens, closes, openAfter, carries}
+use Rattle.master.specs.Schedule.{Scheduled, slotAfter}
+use Rattle.master.specs.History.{opens, closes, openAfter, isTransfer, carries}
 use Rattle.master.proofs.Tests.{never}
-use Rattle.master.proofs.History.Events.{keeps-slot, opens-starts, starts-closes}
+use Rattle.master.proofs.History.Events.{keeps-slot, opens-starts}
 
 module _ (t : List ℕ) where
   -- one more event
@@ -49,8 +47,8 @@ module _ (t : List ℕ) where
   open-since before start (during ▹ x) c q = open-kept _ x (q .1) ∙ open-since before start during c (q .0)
 
   -- what is open in the later part was opened by the slot that was started last there
-  pub slot-part : (g h : Seq Scheduled) → isOpen (openAfter t h) ≡ true → slotAfter (g ⋈ h) ≡ slotAfter h
-  unfolding openAfter slotAfter isOpen
+  pub slot-part : (g h : Seq Scheduled) → isTransfer (openAfter t h) ≡ true → slotAfter (g ⋈ h) ≡ slotAfter h
+  unfolding openAfter slotAfter
   slot-part g ∅ o = never o
   slot-part g (h ▹ x) o =
       whether (closes x)

@@ -1,8 +1,8 @@
 -- Progress: while f waits, each success in a slot of its list is that of a frame ahead of it, which then waits no more.
-use Prim.Native.Nat.{ℕ, suc, _+_, _≤_, _<_}
-use mathlib.Core.Path.{_≡_, refl, sym, ap, _∙_}
+use Prim.Native.Nat.{ℕ, _+_, _≤_, _<_}
+use mathlib.Core.Path.{_≡_, refl, sym, _∙_}
 use mathlib.Core.Logic.{_⊎_, inl, inr, ⊎-elim}
-use mathlib.Core.Bool.{Bool, true, false, cond, _&&_}
+use mathlib.Core.Bool.{true, false, _&&_}
 use mathlib.Core.List.{List, _∷_, _++_, List·Memᴰ}
 use native.Mathlib.Omega.{arith}
 use lib.Dec.{eqb}
@@ -10,12 +10,10 @@ use borrow.Author.Tests.{eqb-true, eq-eqb}
 use Rattle.cluster.specs.Table.{entryKind, entryTarget}
 use Rattle.cluster.specs.Lists.{members}
 use Rattle.transport.proofs.Tests.{whether, and-left, and-right}
-use Rattle.master.specs.declared.state.Opened.{Opened}
-use Rattle.master.specs.declared.state.Opened.the-variants.{Nothing, Frame, Request, Response}
-use Rattle.master.specs.Transfers.{isOpen}
+use Rattle.master.specs.declared.state.Opened.the-variants.{Nothing, Frame}
 use Rattle.master.specs.Seq.{Seq, ∅, _▹_, _⋈_, Each}
 use Rattle.master.specs.Schedule.{Slot, none, unscheduled, entry, Scheduled, starts, slotAfter, ofList}
-use Rattle.master.specs.History.{writes, opens, closes, succeeds, openAfter, carries, Succeeded, successes}
+use Rattle.master.specs.History.{opens, closes, succeeds, openAfter, isTransfer, carries, Succeeded, successes}
 use Rattle.master.specs.Claim.{Spares}
 use Rattle.master.proofs.Tests.{never}
 use Rattle.master.proofs.History.Along.{Along}
@@ -49,7 +47,7 @@ record Waits (t : List ℕ) (h : Seq Scheduled) (l f : ℕ) (ahead : List ℕ) (
   waits : pendingAfter t (h ⋈ k) f ≡ true
   fewer : countIf (pendingAfter t (h ⋈ k)) ahead + successes t l k ≤ countIf (pendingAfter t h) ahead
   due :
-      isOpen (openAfter t (h ⋈ k)) ≡ true →
+      isTransfer (openAfter t (h ⋈ k)) ≡ true →
       ofList t (slotAfter (h ⋈ k)) l ≡ true →
       (g : ℕ) × (openAfter t (h ⋈ k) ≡ Frame g) × Due t f ahead (h ⋈ k) g
 
@@ -74,11 +72,11 @@ module _ (t : List ℕ) (h : Seq Scheduled) (l f : ℕ) (ahead behind : List ℕ
       (q .1))
       d
 
-  one-less : succeeds x ≡ true → (isOpen (openAfter t k) && ofList t (slotAfter k) l) ≡ true
+  one-less : succeeds x ≡ true → (isTransfer (openAfter t k) && ofList t (slotAfter k) l) ≡ true
       → countIf (pendingAfter t (h ⋈ k ▹ x)) ahead < countIf (pendingAfter t (h ⋈ k)) ahead
   one-less s o =
-      let a = and-left (isOpen (openAfter t k)) (ofList t (slotAfter k) l) o in
-      let b = and-right (isOpen (openAfter t k)) (ofList t (slotAfter k) l) o in
+      let a = and-left (isTransfer (openAfter t k)) (ofList t (slotAfter k) l) o in
+      let b = and-right (isTransfer (openAfter t k)) (ofList t (slotAfter k) l) o in
       let d = w .due (rw same-open a) (rw (slot-part t h k a) b) in
       one-less-at (d .0) (d .1) (d .2) s
 
@@ -87,13 +85,13 @@ module _ (t : List ℕ) (h : Seq Scheduled) (l f : ℕ) (ahead behind : List ℕ
   fewer-next =
       let as-many = count-le (pendingAfter t (h ⋈ k ▹ x)) (pendingAfter t (h ⋈ k)) ahead no-more in
       whether (succeeds x)
-      (λ s. whether (isOpen (openAfter t k) && ofList t (slotAfter k) l)
+      (λ s. whether (isTransfer (openAfter t k) && ofList t (slotAfter k) l)
       (λ o. rw (s, o) (omega (arith, one-less s o, w .fewer)))
       (λ o. rw (s, o) (omega (arith, as-many, w .fewer))))
       (λ s. rw s (omega (arith, as-many, w .fewer)))
 
   -- a slot of l that starts takes the first that waits, and f waits
-  due-new : closes x ≡ true → isOpen (opens t x) ≡ true → ofList t (slotAfter (h ⋈ k ▹ x)) l ≡ true
+  due-new : closes x ≡ true → isTransfer (opens t x) ≡ true → ofList t (slotAfter (h ⋈ k ▹ x)) l ≡ true
       → (g : ℕ) × (opens t x ≡ Frame g) × Due t f ahead (h ⋈ k ▹ x) g
   unfolding slotAfter
   due-new c o s =
@@ -112,7 +110,7 @@ module _ (t : List ℕ) (h : Seq Scheduled) (l f : ℕ) (ahead behind : List ℕ
       ⊎-elim (λ q. inl q)
       (λ q. inr (q .0, pending-stays t (h ⋈ k) x g (unwiped-open-on t (h ⋈ k) x g c) (q .1), rw (rewritten-on t (h ⋈ k) x c, o, spares g (q .0), q .2)))
 
-  due-next : isOpen (openAfter t (h ⋈ k ▹ x)) ≡ true → ofList t (slotAfter (h ⋈ k ▹ x)) l ≡ true
+  due-next : isTransfer (openAfter t (h ⋈ k ▹ x)) ≡ true → ofList t (slotAfter (h ⋈ k ▹ x)) l ≡ true
       → (g : ℕ) × (openAfter t (h ⋈ k ▹ x) ≡ Frame g) × Due t f ahead (h ⋈ k ▹ x) g
   unfolding slotAfter
   due-next o s =
@@ -133,7 +131,7 @@ module _ (t : List ℕ) (h : Seq Scheduled) (l f : ℕ) (ahead behind : List ℕ
 module _ (t : List ℕ) (h : Seq Scheduled) (l f : ℕ) (ahead behind : List ℕ) (idle : openAfter t h ≡ Nothing)
     (place : members t l ≡ ahead ++ (f ∷ behind)) (p : pendingAfter t h f ≡ true) where
   waits-first : Waits t h l f ahead ∅
-  unfolding successes isOpen
+  unfolding successes
   waits-first = record {
     waits = p;
     fewer = omega arith;

@@ -1,7 +1,7 @@
 -- Events that neither write, nor bring a byte, nor close: what they leave of what a history says.
 use Prim.Native.Nat.{ℕ}
 use mathlib.Core.Path.{_≡_, refl}
-use mathlib.Core.Bool.{Bool, true, false, cond}
+use mathlib.Core.Bool.{Bool, true, false}
 use mathlib.Core.List.{List, _∷_, [], _++_}
 use Rattle.cluster.specs.Values.{touches}
 use Rattle.master.specs.declared.state.Opened.{Opened}
@@ -10,11 +10,10 @@ use Rattle.master.specs.declared.byte.ByteAnswer.{ByteAnswer}
 use Rattle.master.specs.Seq.{Seq, _▹_}
 use Rattle.master.specs.Schedule.{Scheduled, act}
 use Rattle.master.specs.Acts.{Act, nothing, wrote, selected, ticked, took, statusRead, sending, Value, onWrite, onByte, withValue}
-use Rattle.master.specs.History.{writes, closes, succeeds, openAfter, writtenBytes, gotBy, gotAfter}
+use Rattle.master.specs.History.{writes, closes, openAfter, writtenBytes, gotBy, gotAfter}
 use Rattle.master.specs.Answering.{dueAfter, bytesAfter}
 use Rattle.master.proofs.Tests.{never, or-false}
 use Rattle.master.proofs.History.Events.{keeps-unsent}
-use Rattle.master.proofs.History.Opening.{open-kept}
 use Rattle.master.proofs.History.Computed.{hits, rewrittenAfter, pendingAfter, rewritten-on, pending-kept, unwiped-open-on}
 
 -- neither a write nor a byte

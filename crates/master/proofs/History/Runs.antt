@@ -1,23 +1,21 @@
 -- Every sequence of calls after an accepted fresh call: what holds after it, and at each of its events.
 use Prim.Native.Nat.{ℕ, suc, _≤_}
-use mathlib.Core.Path.{_≡_, refl, sym, _∙_}
+use mathlib.Core.Path.{_≡_, refl}
 use mathlib.Core.Bool.{true}
 use mathlib.Core.List.{List}
 use native.Mathlib.Omega.{arith}
+use borrow.Author.Tests.{eq-eqb}
 use lib.ListN.{length, take}
-use Rattle.refusal.specs.declared.Refusal.{Refusal}
 use Rattle.cluster.specs.declared.Verdict.the-variants as verdict
 use Rattle.cluster.specs.Check.{judged, RightTable}
-use Rattle.cluster.specs.Fresh.{freshBytes}
 use Rattle.master.specs.declared.start.FreshAnswer.the-variants as start
 use Rattle.master.specs.declared.start.Started.{Started}
-use Rattle.master.specs.Admit.{Step}
-use Rattle.master.specs.Fresh.{fresh}
+use Rattle.master.specs.Admit.{bufferSize, Step}
 use Rattle.master.specs.Start.{freshVerdict, freshOf}
 use Rattle.master.specs.Transfers.{isOpen, openLength, sends}
 use Rattle.master.specs.Seq.{Seq, ∅, _▹_}
 use Rattle.master.specs.Calls.{Call, Event, _⇒_}
-use Rattle.master.specs.Run.{Held, held, answerOf, leftBy, heldAfter, historyOf}
+use Rattle.master.specs.Run.{Held, answerOf, leftBy, heldAfter, historyOf}
 use Rattle.master.specs.Schedule.{Scheduled, schedule, scheduled}
 use Rattle.master.specs.History.{openAfter, gotAfter}
 use Rattle.master.specs.Answering.{dueAfter}
@@ -59,6 +57,11 @@ module _ (t : List ℕ) (h : Seq Scheduled) (x : Held) (is : Agrees t h x) (c : 
     due-length = is .transfer .due-length;
     matched = is .transfer .matched;
   }
+
+-- a fresh call is accepted for every accepted table and every buffer of its size
+pub fresh-taken : (t bs : List ℕ) → RightTable t → length bs ≡ bufferSize t → freshOf t bs .given .answer ≡ start.Fresh
+unfolding freshOf freshVerdict
+fresh-taken t bs ok size = rw (ok, eq-eqb (length bs) (bufferSize t) size)
 
 module _ (t bs : List ℕ) (accepted : freshOf t bs .given .answer ≡ start.Fresh) where
   fresh-accepts : freshVerdict t (length bs) ≡ verdict.Accepted

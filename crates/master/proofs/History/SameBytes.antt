@@ -1,13 +1,13 @@
 -- The bytes of the published frames: what receptions store beside them does not touch them, and a write goes by them alone.
-use Prim.Native.Nat.{ℕ, _+_, _*_, _<_, _≤_}
+use Prim.Native.Nat.{ℕ, _+_, _*_, _<_}
 use mathlib.Core.Path.{_≡_, refl, sym, _∙_}
-use mathlib.Core.Bool.{Bool, true, false}
+use mathlib.Core.Bool.{true}
 use mathlib.Core.List.{List}
 use native.Mathlib.Omega.{arith}
-use lib.ListN.{length, getD, take, drop, length-take, length-drop}
+use lib.ListN.{length, getD, drop, length-take, length-drop}
 use lib.Seq.{getD-take, getD-drop, ext-getD}
 use Rattle.cluster.specs.Check.{RightTable}
-use Rattle.cluster.specs.Table.{frameCount, published}
+use Rattle.cluster.specs.Table.{published}
 use Rattle.cluster.proofs.ValueLaws.{scalar-length, array-length-stays, scalar-alike, array-alike}
 use Rattle.master.specs.Admit.{bufferSize}
 use Rattle.master.specs.Transfers.{frameData}

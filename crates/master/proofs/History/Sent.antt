@@ -1,8 +1,8 @@
 -- Part (c): in a transfer of a published frame success is answered exactly at byte length + 1, when the bytes were those at its opening tick.
-use Prim.Native.Nat.{ℕ, suc, _+_, _≤_, _<_}
+use Prim.Native.Nat.{ℕ, suc, _≤_, _<_}
 use mathlib.Core.Path.{_≡_, refl, sym, ap, _∙_}
 use mathlib.Core.Logic.{_↔_}
-use mathlib.Core.Bool.{Bool, true, false, cond}
+use mathlib.Core.Bool.{Bool, true, false}
 use mathlib.Core.List.{List, [], _∷_, _++_}
 use native.Mathlib.Omega.{arith}
 use lib.Dec.{ltb, eqb}
@@ -11,16 +11,15 @@ use lib.Seq.{take-suc, take-all, getD-at}
 use borrow.Author.Tests.{ltb-false, le-ltb, eqb-true, eq-eqb}
 use Rattle.cluster.specs.Table.{published}
 use Rattle.transport.proofs.Tests.{whether}
-use Rattle.master.specs.declared.state.Opened.the-variants.{Nothing, Frame}
-use Rattle.master.specs.declared.byte.ByteAnswer.{ByteAnswer}
+use Rattle.master.specs.declared.state.Opened.the-variants.{Frame}
 use Rattle.master.specs.declared.byte.ByteAnswer.the-variants as byte
 use Rattle.master.specs.Transfers.{isOpen, openLength, sends, sentData}
 use Rattle.master.specs.Seq.{Seq, ∅, _▹_, _⋈_, Each}
 use Rattle.master.specs.Calls.{byteIn, Reply}
 use Rattle.master.specs.Acts.{Act, nothing, wrote, selected, ticked, took, statusRead, sending, onTick}
 use Rattle.master.specs.Schedule.{Slot, Scheduled, act, isStart, starts}
-use Rattle.master.specs.History.{opens, closes, openAfter, writtenBytes, responseOf, gotBy, gotAfter}
-use Rattle.master.specs.Answering.{messageAfter, dueOf, dueAfter}
+use Rattle.master.specs.History.{opens, closes, openAfter, writtenBytes, responseOf, gotAfter}
+use Rattle.master.specs.Answering.{dueOf, dueAfter}
 use Rattle.master.specs.Replies.{sentReply, byteReply}
 use Rattle.master.specs.Claim.{event}
 use Rattle.master.proofs.Tests.{never}
@@ -92,7 +91,7 @@ module _ (n : ℕ) (due got : List ℕ) (b : ℕ) (long : length due ≡ suc n) 
 pub sent-exactly : (t : List ℕ) (before : Seq Scheduled) (start : Scheduled) (during : Seq Scheduled) (b : ℕ) (r : Reply) (s : Slot) (f : ℕ)
     → Good t (before ▹ start ⋈ during) (event (byteIn b) r s) → opens t start ≡ Frame f → published t f ≡ true → Each (λ x. closes x ≡ false) during
     → (r .answer ≡ byte.Success) ↔ (gotAfter during ++ (b ∷ []) ≡ responseOf t (writtenBytes t before) f)
-unfolding isOpen sends byteReply
+unfolding isOpen sends openLength byteReply
 sent-exactly t before start during b r s f good o p q =
     let h = before ▹ start ⋈ during in
     let st = opens-starts t start (rw o) in

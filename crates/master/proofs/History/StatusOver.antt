@@ -1,12 +1,20 @@
--- The status word over the transfers counted since the last reading is what the master's status holds.
-use Prim.Native.Nat.{ℕ}
+-- The status over the transfers counted since the last reading: a device of the proofs, between the state and the word.
 use mathlib.Core.Path.{_≡_, refl}
-use mathlib.Core.Bool.{Bool, true, false, not, cond, _||_}
+use mathlib.Core.Bool.{Bool, true, false, not, _||_}
 use Rattle.master.specs.declared.state.Status.{Status}
-use Rattle.master.specs.Status.{counted}
+use Rattle.master.specs.Status.{counted, statusWord}
 use Rattle.master.specs.Seq.{Seq, ∅, _▹_}
-use Rattle.master.specs.Answering.{Closed, anyClosed, twoClosed, lastClosed, statusOver}
+use Rattle.master.specs.Answering.{Closed, anyClosed, twoClosed, lastClosed, wordOver}
 use Rattle.master.proofs.Tests.{or-true}
+
+-- "a failed one sets bit 0, a successful one bit 1, and either stays set until read; overrun means two or more since the last reading"
+unfoldable pub statusOver : Seq Closed → Status
+statusOver cs = record { error = anyClosed false cs; success = anyClosed true cs; overrun = twoClosed cs; last = lastClosed cs }
+
+-- its word
+pub word-over : (cs : Seq Closed) → statusWord (statusOver cs) ≡ wordOver cs
+unfolding statusWord statusOver wordOver
+word-over cs = refl
 
 -- of two or more transfers, one failed or succeeded
 some-closed : (a b s : Bool) → ((a || not s) || (b || s)) ≡ true

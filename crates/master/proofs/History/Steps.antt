@@ -1,24 +1,21 @@
 -- Every call: accepted or refused, the state and the bytes after it are what the history says, and its answer is the one that the history gives.
 use Prim.Native.Nat.{ℕ}
-use mathlib.Core.Path.{_≡_, refl, sym, ap, _∙_}
-use mathlib.Core.Bool.{Bool, true, false, not}
+use mathlib.Core.Path.{_≡_, refl, sym, _∙_}
+use mathlib.Core.Bool.{Bool, true, false}
 use mathlib.Core.List.{List}
 use native.Mathlib.Omega.{arith}
-use lib.Dec.{ltb}
-use lib.ListN.{length}
+use lib.ListN.{length, replicate}
 use Rattle.refusal.specs.declared.Refusal.{Refusal}
 use Rattle.refusal.specs.Numbers as number
-use Rattle.cluster.specs.declared.Verdict.{Verdict}
 use Rattle.cluster.specs.declared.Verdict.the-variants as verdict
 use Rattle.cluster.specs.Check.{then, RightTable}
-use Rattle.cluster.specs.Table.{scheduleCount}
-use Rattle.cluster.specs.Values.{valueFits, arrayFits, withScalar, withArray}
-use Rattle.transport.specs.Cutting.{isLength}
+use Rattle.cluster.specs.Values.{valueFits, arrayFits, scalarValue, arrayRead}
 use Rattle.transport.proofs.Tests.{whether}
 use Rattle.master.specs.declared.state.State.{State}
-use Rattle.master.specs.declared.write.WriteAnswer.{WriteAnswer}
 use Rattle.master.specs.declared.write.WriteAnswer.the-variants as write
 use Rattle.master.specs.declared.write.Wrote.{Wrote}
+use Rattle.master.specs.declared.read.ReadAnswer.the-variants as read
+use Rattle.master.specs.declared.read.ArrayAnswer.the-variants as bytes
 use Rattle.master.specs.declared.select.SelectAnswer.the-variants as select
 use Rattle.master.specs.declared.select.Chosen.{Chosen}
 use Rattle.master.specs.declared.tick.TickAnswer.the-variants as tick
@@ -30,36 +27,38 @@ use Rattle.master.specs.declared.status.StatusRead.{StatusRead}
 use Rattle.master.specs.declared.message.SendAnswer.the-variants as send
 use Rattle.master.specs.declared.message.Sent.{Sent}
 use Rattle.master.specs.Admit.{unless, bufferSize, admitted, Step}
-use Rattle.master.specs.Fits.{stateFits, isSending, lentFits}
+use Rattle.master.specs.Fits.{lentFits}
 use Rattle.master.specs.Transfers.{isOpen}
 use Rattle.master.specs.Write.{marked, writable, wrote, writeOf, writeArrayOf}
 use Rattle.master.specs.Read.{readVerdict, readOf, readArrayOf}
 use Rattle.master.specs.Select.{selectVerdict, selectOf}
 use Rattle.master.specs.Status.{statusWord, statusOf}
-use Rattle.master.specs.Message.{sendVerdict, sendOf, messageOf, told}
-use Rattle.master.specs.Tick.{tickVerdict, ticked, tickOf}
+use Rattle.master.specs.Message.{sendVerdict, sendOf, messageOf}
+use Rattle.master.specs.Tick.{tickVerdict, tickOf}
 use Rattle.master.specs.Byte.{byteVerdict, byteOf, taken}
 use Rattle.master.specs.Seq.{Seq, _▹_}
 use Rattle.master.specs.Calls as call
 use Rattle.master.specs.Calls.{Call, Answer, _⇒_}
 use Rattle.master.specs.Run.{Held, held, answerOf, leftBy}
 use Rattle.master.specs.Acts.{Value, scalar, array, nothing, writeAct, actOf, withValue}
-use Rattle.master.specs.Schedule.{Scheduled, act, schedule, starts}
-use Rattle.master.specs.History.{openAfter}
-use Rattle.master.specs.Answering.{messageAfter, dueAfter, bytesAfter}
-use Rattle.master.specs.Replies.{Replies, writeReply, readable, readReply, readArrayReply, selectReply, sendReply, byteReply, plain, TickReply}
+use Rattle.master.specs.Schedule.{Scheduled, act, schedule}
+use Rattle.master.specs.Answering.{messageAfter, countedAfter}
+use Rattle.master.specs.Replies.{Replies, writeNumber, readNumber, selectNumber, sendNumber, writeReply, readReply, readArrayReply, selectReply, sendReply, byteReply, plain, lentRight}
 use Rattle.master.proofs.Tests.{never}
 use Rattle.master.proofs.Admitted.{admits, fits-clauses, fits-all, unless-test}
 use Rattle.master.proofs.Answered.{by-verdict, writable-signal}
 use Rattle.master.proofs.FitsKept.{marked-fits}
 use Rattle.master.proofs.Keeps.{select-keeps, status-keeps, send-keeps, taken-fits}
 use Rattle.master.proofs.Verdicts.{tick-refusal}
+use Rattle.master.proofs.SlotFits.{not-open}
+use Rattle.master.proofs.History.Words.{lent-right, message-told}
+use Rattle.master.proofs.History.Numbers.{verdictOf, reply-is, write-verdict, read-verdict, select-verdict, send-verdict}
+use Rattle.master.proofs.History.StatusOver.{word-over}
 use Rattle.master.proofs.History.Agrees.{Agrees, agrees-nothing, agrees-selected, agrees-status, agrees-sending}
 use Rattle.master.proofs.History.Writing.{agrees-wrote}
 use Rattle.master.proofs.History.Ticking.{tick-goes}
 use Rattle.master.proofs.History.Taking.{byte-goes}
 use Rattle.master.proofs.History.Ahead.{ahead-replies}
-use Rattle.master.proofs.History.Progress.{Lawful}
 use Rattle.master.proofs.History.Stepped.{Stepped}
 
 -- an accepted call is not refused
@@ -96,46 +95,62 @@ module _ (t : List ℕ) (ok : RightTable t) (h : Seq Scheduled) (x : Held) (is :
       (fits-all t (marked t r s) (marked-fits t s (fits-clauses t s (is .fits)) ok r (w .below) (w .is-published)))
 
   step-write : (r v : ℕ) → Stepped t h (call.write r v) (answerOf t x (call.write r v)) (leftBy t x (call.write r v))
-  unfolding answerOf leftBy writeOf wrote schedule
+  unfolding answerOf leftBy writeOf wrote schedule writeReply
   step-write r v =
       let w = writable t r false (valueFits t r v) in
+      let n = writeNumber t r false (valueFits t r v) in
       let inner : then (admitted t (length (x .bytes)) s) w ≡ w = rw lent-admitted in
+      let number-is = sym (write-verdict t r false (valueFits t r v)) ∙ sym inner in
       by-verdict (λ (z : Step Wrote). Stepped t h (call.write r v) (z .given .answer) (held (z .given .state) (z .left)))
       (then (admitted t (length (x .bytes)) s) w) _ _
-      (λ q e. step-nothing (call.write r v) (write.Refused q) refl (sym (ap writeReply (sym inner ∙ e))))
+      (λ q e. step-nothing (call.write r v) (write.Refused q) refl (reply-is n (λ i. write.Refused i) write.Written (verdict.Refused q) (number-is ∙ e)))
       (λ a. record {
         agrees = written r false (valueFits t r v) (scalar v) (sym inner ∙ a) (schedule t h (call.write r v ⇒ write.Written)) refl;
-        replies = sym (ap writeReply (sym inner ∙ a));
+        replies = reply-is n (λ i. write.Refused i) write.Written verdict.Accepted (number-is ∙ a);
         lawful = λ e q p k. never q;
       })
 
   step-array : (r : ℕ) (vs : List ℕ) → Stepped t h (call.writeArray r vs) (answerOf t x (call.writeArray r vs)) (leftBy t x (call.writeArray r vs))
-  unfolding answerOf leftBy writeArrayOf wrote schedule
+  unfolding answerOf leftBy writeArrayOf wrote schedule writeReply
   step-array r vs =
       let w = writable t r true (arrayFits t r vs) in
+      let n = writeNumber t r true (arrayFits t r vs) in
       let inner : then (admitted t (length (x .bytes)) s) w ≡ w = rw lent-admitted in
+      let number-is = sym (write-verdict t r true (arrayFits t r vs)) ∙ sym inner in
       by-verdict (λ (z : Step Wrote). Stepped t h (call.writeArray r vs) (z .given .answer) (held (z .given .state) (z .left)))
       (then (admitted t (length (x .bytes)) s) w) _ _
-      (λ q e. step-nothing (call.writeArray r vs) (write.Refused q) refl (sym (ap writeReply (sym inner ∙ e))))
+      (λ q e. step-nothing (call.writeArray r vs) (write.Refused q) refl (reply-is n (λ i. write.Refused i) write.Written (verdict.Refused q) (number-is ∙ e)))
       (λ a. record {
         agrees = written r true (arrayFits t r vs) (array vs) (sym inner ∙ a) (schedule t h (call.writeArray r vs ⇒ write.Written)) refl;
-        replies = sym (ap writeReply (sym inner ∙ a));
+        replies = reply-is n (λ i. write.Refused i) write.Written verdict.Accepted (number-is ∙ a);
         lawful = λ e q p k. never q;
       })
 
   -- ---- the calls that only ask
 
+  read-inner : (r : ℕ) (kind : Bool) → verdictOf (readNumber t r kind) ≡ readVerdict t (length (x .bytes)) s r kind
+  unfolding readVerdict
+  read-inner r kind = sym (read-verdict t r kind) ∙ rw lent-admitted
+
   step-read : (r : ℕ) → Stepped t h (call.read r) (answerOf t x (call.read r)) (leftBy t x (call.read r))
-  unfolding answerOf leftBy readOf readVerdict readReply readable
-  step-read r = step-nothing (call.read r) _ refl (rw (lent-admitted, is .frames .bytes-are))
+  unfolding answerOf leftBy readOf readReply
+  step-read r =
+      step-nothing (call.read r) (readOf t s (x .bytes) r) refl
+      (reply-is (readNumber t r false) (λ q. read.Refused q) (read.Value (scalarValue t (x .bytes) r)) (readVerdict t (length (x .bytes)) s r false) (read-inner r false)
+      ∙ rw (is .frames .bytes-are))
 
   step-read-array : (r : ℕ) → Stepped t h (call.readArray r) (answerOf t x (call.readArray r)) (leftBy t x (call.readArray r))
-  unfolding answerOf leftBy readArrayOf readVerdict readArrayReply readable
-  step-read-array r = step-nothing (call.readArray r) _ refl (rw (lent-admitted, is .frames .bytes-are))
+  unfolding answerOf leftBy readArrayOf readArrayReply
+  step-read-array r =
+      step-nothing (call.readArray r) (readArrayOf t s (x .bytes) r) refl
+      (reply-is (readNumber t r true) (λ q. record { answer = bytes.Refused q; bytes = replicate 8 255 })
+      (record { answer = bytes.Bytes (arrayRead t (x .bytes) r .count); bytes = arrayRead t (x .bytes) r .bytes })
+      (readVerdict t (length (x .bytes)) s r true) (read-inner r true)
+      ∙ rw (is .frames .bytes-are))
 
   step-message : Stepped t h call.messageState (answerOf t x call.messageState) (leftBy t x call.messageState)
   unfolding answerOf leftBy messageOf
-  step-message = step-nothing call.messageState _ refl (rw (own-admitted, is .message-is))
+  step-message = step-nothing call.messageState _ refl (rw (own-admitted, is .message-is) (message-told (messageAfter t h)))
 
   step-ahead : (f : ℕ) → Stepped t h (call.numberAhead f) (answerOf t x (call.numberAhead f)) (leftBy t x (call.numberAhead f))
   unfolding answerOf leftBy
@@ -147,12 +162,13 @@ module _ (t : List ℕ) (ok : RightTable t) (h : Seq Scheduled) (x : Held) (is :
   unfolding answerOf leftBy selectOf selectVerdict selectReply schedule
   step-select n =
       let keeps = select-keeps t s n ok (is .fits) in
-      let inner : selectVerdict t s n ≡ unless (ltb n (scheduleCount t)) number.unknown verdict.Accepted = rw own-admitted in
+      let number-is : verdictOf (selectNumber t n) ≡ selectVerdict t s n = sym (select-verdict t n) ∙ rw own-admitted in
       by-verdict (λ (z : Chosen). Stepped t h (call.select n) (z .answer) (held (z .state) (x .bytes))) (selectVerdict t s n) _ _
-      (λ q e. step-nothing (call.select n) (select.Refused q) refl (rw (sym inner ∙ e)))
+      (λ q e. step-nothing (call.select n) (select.Refused q) refl
+      (reply-is (selectNumber t n) (λ i. select.Refused i) select.Selected (verdict.Refused q) (number-is ∙ e)))
       (λ a. record {
         agrees = agrees-selected t h x is (schedule t h (call.select n ⇒ select.Selected)) n refl (rw a at keeps);
-        replies = rw (sym inner ∙ a);
+        replies = reply-is (selectNumber t n) (λ i. select.Refused i) select.Selected verdict.Accepted (number-is ∙ a);
         lawful = λ e q p k. never q;
       })
 
@@ -164,7 +180,7 @@ module _ (t : List ℕ) (ok : RightTable t) (h : Seq Scheduled) (x : Held) (is :
       (λ q e. refused-never q (sym own-admitted ∙ e))
       (λ a. record {
         agrees = agrees-status t h x is (schedule t h (call.readStatus ⇒ status.Word (statusWord (s .status)))) refl (rw a at keeps);
-        replies = rw (is .status-is);
+        replies = rw (is .status-is, word-over (countedAfter t h));
         lawful = λ e q p k. never q;
       })
 
@@ -172,13 +188,13 @@ module _ (t : List ℕ) (ok : RightTable t) (h : Seq Scheduled) (x : Held) (is :
   unfolding answerOf leftBy sendOf sendVerdict sendReply schedule
   step-send nad n =
       let keeps = send-keeps t s nad n ok (is .fits) in
-      let inner : sendVerdict t s n ≡ unless (isLength n) number.messageLength (unless (not (isSending (messageAfter t h))) number.sending verdict.Accepted) =
-      rw (own-admitted, is .message-is) in
+      let number-is : verdictOf (sendNumber (messageAfter t h) n) ≡ sendVerdict t s n = sym (send-verdict (messageAfter t h) n) ∙ rw (own-admitted, is .message-is) in
       by-verdict (λ (z : Sent). Stepped t h (call.send nad n) (z .answer) (held (z .state) (x .bytes))) (sendVerdict t s n) _ _
-      (λ q e. step-nothing (call.send nad n) (send.Refused q) refl (rw (sym inner ∙ e)))
+      (λ q e. step-nothing (call.send nad n) (send.Refused q) refl
+      (reply-is (sendNumber (messageAfter t h) n) (λ i. send.Refused i) send.Sending (verdict.Refused q) (number-is ∙ e)))
       (λ a. record {
         agrees = agrees-sending t h x is (schedule t h (call.send nad n ⇒ send.Sending)) nad n refl (rw a at keeps);
-        replies = rw (sym inner ∙ a);
+        replies = reply-is (sendNumber (messageAfter t h) n) (λ i. send.Refused i) send.Sending verdict.Accepted (number-is ∙ a);
         lawful = λ e q p k. never q;
       })
 
@@ -188,13 +204,13 @@ module _ (t : List ℕ) (ok : RightTable t) (h : Seq Scheduled) (x : Held) (is :
   unfolding answerOf leftBy tickOf
   step-tick m =
       let n = length (x .bytes) in
-      let fits = lentFits (messageAfter t h) (length m) in
-      let inner : tickVerdict t n (length m) s ≡ unless fits number.state verdict.Accepted =
-      tick-refusal t n (length m) s ok (is .frames .size) (is .fits) ∙ rw (is .message-is) in
+      let fits = lentFits (s .message) (length m) in
+      let same : fits ≡ lentRight (messageAfter t h) (length m) = lent-right (s .message) (length m) ∙ rw (is .message-is) in
+      let inner = tick-refusal t n (length m) s ok (is .frames .size) (is .fits) in
       by-verdict (λ (z : Ticked). Stepped t h (call.tick m) (z .answer) (held (z .state) (x .bytes))) (tickVerdict t n (length m) s) _ _
       (λ q e. step-nothing (call.tick m) (tick.Refused q) refl (record {
-        refuses = λ l. let z : verdict.Refused (number.refused number.state) ≡ verdict.Refused q = rw l at (sym inner ∙ e) in cc;
-        goes-on = λ l. refused-never q (rw l at (sym inner ∙ e));
+        refuses = λ l. let z : verdict.Refused (number.refused number.state) ≡ verdict.Refused q = rw (same ∙ l) at (sym inner ∙ e) in cc;
+        goes-on = λ l. refused-never q (rw (same ∙ l) at (sym inner ∙ e));
       }))
       (λ a. tick-goes t ok h x is m (unless-test fits number.state verdict.Accepted (sym inner ∙ a)))
 
@@ -210,7 +226,7 @@ module _ (t : List ℕ) (ok : RightTable t) (h : Seq Scheduled) (x : Held) (is :
       (λ l. refused-never q (rw l at (sym inner ∙ e)))
       (λ l. let z : verdict.Refused (number.refused number.noTransfer) ≡ verdict.Refused q = rw l at (sym inner ∙ e) in
       let i : q ≡ number.refused number.noTransfer = cc in
-      rw (← is .transfer .opened-is, l, i))))
+      rw (← is .transfer .opened-is, not-open (s .transfer .opened) l, i))))
       (λ a. byte-goes t ok h x is b (unless-test o number.noTransfer verdict.Accepted (sym inner ∙ a))
       (fits-all t (taken t s (x .bytes) b .given .state) (taken-fits t s (fits-clauses t s (is .fits)) (x .bytes) b)))
 

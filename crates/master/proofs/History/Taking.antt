@@ -1,13 +1,13 @@
 -- An accepted byte: the state and the bytes after it are what the history says, and its answer is the one that the history gives.
-use Prim.Native.Nat.{ℕ, suc, _+_, _-_, _*_, _≤_, _<_}
-use mathlib.Core.Path.{_≡_, refl, sym, ap, _∙_}
-use mathlib.Core.Bool.{Bool, true, false, cond}
-use mathlib.Core.List.{List, [], _∷_, _++_}
+use Prim.Native.Nat.{ℕ, _+_, _-_, _*_, _≤_, _<_}
+use mathlib.Core.Path.{_≡_, refl, sym, _∙_}
+use mathlib.Core.Bool.{true, false, cond}
+use mathlib.Core.List.{List, _∷_, _++_}
 use native.Mathlib.Omega.{arith}
 use lib.Dec.{ltb, eqb}
 use lib.ListN.{length, getD, take, replicate}
 use lib.Seq.{take-at, getD-at}
-use borrow.Author.Tests.{ltb-true, ltb-false, eqb-true, eq-eqb}
+use borrow.Author.Tests.{ltb-false}
 use Rattle.cluster.specs.Check.{RightTable}
 use Rattle.cluster.specs.Table.{published}
 use Rattle.transport.specs.Reassembly as lent
@@ -15,17 +15,14 @@ use Rattle.transport.proofs.Tests.{whether}
 use Rattle.transport.proofs.WrittenLaws.{written-length}
 use Rattle.master.specs.declared.state.Opened.{Opened}
 use Rattle.master.specs.declared.state.Opened.the-variants.{Nothing, Frame, Request, Response}
-use Rattle.master.specs.declared.state.Transfer.{Transfer}
 use Rattle.master.specs.declared.state.State.{State}
 use Rattle.master.specs.declared.byte.ByteAnswer.{ByteAnswer}
 use Rattle.master.specs.declared.byte.ByteAnswer.the-variants as byte
 use Rattle.master.specs.declared.byte.Took.{Took}
-use Rattle.master.specs.Admit.{bufferSize, Step}
-use Rattle.master.specs.Answers.{successful}
+use Rattle.master.specs.Admit.{Step}
 use Rattle.master.specs.Fits.{stateFits, frameThere}
-use Rattle.master.specs.Fresh.{noTransfer}
-use Rattle.master.specs.Transfers.{isOpen, openLength, openProtected, openChecksum, sends}
-use Rattle.master.specs.Status.{counted, statusAfter}
+use Rattle.master.specs.Transfers.{isOpen, openLength, openIdentifier, openModel, openChecksum, sends}
+use Rattle.master.specs.Status.{statusAfter}
 use Rattle.master.specs.Closing.{failed, pendingSent, succeeded}
 use Rattle.master.specs.Byte.{passed, early, withByte, sentByte, checksumRight, accepted, lastByte, receivedByte, taken}
 use Rattle.master.specs.Seq.{Seq, _▹_}
@@ -33,15 +30,15 @@ use Rattle.master.specs.Calls as call
 use Rattle.master.specs.Calls.{Reply, _⇒_}
 use Rattle.master.specs.Run.{Held, held}
 use Rattle.master.specs.Acts.{took, byteAct}
-use Rattle.master.specs.Schedule.{Scheduled, act, starts, planBy, planAfter, schedule}
-use Rattle.master.specs.History.{opens, isEnd, closes, openAfter, gotAfter}
-use Rattle.master.specs.Answering.{messageAfter, dueAfter, storedBy, countedAfter, statusOver}
-use Rattle.master.specs.Replies.{plain, sentReply, successReply, receivedReply, byteReply}
+use Rattle.master.specs.Schedule.{Scheduled, act, planBy, planAfter, schedule}
+use Rattle.master.specs.History.{opens, isSuccess, isEnd, closes, openAfter, checksumOver, gotAfter}
+use Rattle.master.specs.Answering.{messageAfter, dueAfter, storedBy, countedAfter}
+use Rattle.master.specs.Replies.{plain, sentReply, receivedReply, byteReply}
 use Rattle.master.proofs.Tests.{never}
-use Rattle.master.proofs.Admitted.{fits-clauses, fits-all, open-count, open-length-high}
-use Rattle.master.proofs.Keeps.{taken-fits}
+use Rattle.master.proofs.Admitted.{fits-clauses, open-count, open-length-high}
 use Rattle.master.proofs.Lengths.{data-inside}
 use Rattle.master.proofs.ByteLaws.{stored-other}
+use Rattle.master.proofs.History.Words.{message-sent, message-failed}
 use Rattle.master.proofs.History.FramesAre.{FramesAre, frames-byte, frames-sent}
 use Rattle.master.proofs.History.TransferIs.{TransferIs, due-byte, received-nine, transfer-closed, transfer-more-sent, transfer-more-received}
 use Rattle.master.proofs.History.Closing.{end-closes, end-message, end-status}
@@ -55,6 +52,36 @@ stored-sent t Nothing ds bs s = refl
 stored-sent t (Frame f) ds bs s = rw s
 stored-sent t Request ds bs s = refl
 stored-sent t Response ds bs s = refl
+
+-- "A successful response frame .. answers its eight bytes."
+abbrev successReply : Opened → List ℕ → Reply
+successReply Nothing got = plain byte.Success
+successReply (Frame f) got = plain byte.Success
+successReply Request got = plain byte.Success
+successReply Response got = record { answer = byte.Response; response = got }
+
+-- what is answered in a transfer that the master sends, and in one that it receives
+module _ (t : List ℕ) (o : Opened) (due got : List ℕ) (b : ℕ) where
+  reply-sent : sends t o ≡ true → byteReply t o due got b ≡ plain (sentReply (openLength t o) due got b)
+  unfolding byteReply sends openLength
+  reply-sent s = by o s
+    where
+      by : (o : Opened) → sends t o ≡ true → byteReply t o due got b ≡ plain (sentReply (openLength t o) due got b)
+      by Nothing s = never s
+      by (Frame f) s = rw s
+      by Request s = refl
+      by Response s = never s
+
+  reply-received : isOpen o ≡ true → sends t o ≡ false → byteReply t o due got b ≡ receivedReply (openLength t o) (openChecksum t o got) got b (successReply o got)
+  unfolding byteReply isOpen sends openLength openChecksum openIdentifier openModel checksumOver
+  reply-received p s = by o p s
+    where
+      by : (o : Opened) → isOpen o ≡ true → sends t o ≡ false
+          → byteReply t o due got b ≡ receivedReply (openLength t o) (openChecksum t o got) got b (successReply o got)
+      by Nothing p s = never p
+      by (Frame f) p s = rw s
+      by Request p s = never (sym s)
+      by Response p s = refl
 
 module _ (t : List ℕ) (ok : RightTable t) (h : Seq Scheduled) (x : Held) (is : Agrees t h x) (b : ℕ)
     (open-now : isOpen (x .state .transfer .opened) ≡ true) where
@@ -89,12 +116,12 @@ module _ (t : List ℕ) (ok : RightTable t) (h : Seq Scheduled) (x : Held) (is :
       frames = frames-byte t h (s .pending) (x .bytes) (is .frames) y b byte.Failure a refl;
       transfer = transfer-closed t h y (end-closes t h x is y b byte.Failure a refl) (rw a);
       plan-is = rw a (is .plan-is);
-      message-is = sym (end-message t h x is y b byte.Failure a refl);
+      message-is = message-failed o (s .message) ∙ sym (end-message t h x is y b byte.Failure a refl);
       status-is = end-status t h x is y b byte.Failure a refl open-now;
     }
 
     -- success: the frame bytes are those handed over
-    agrees-succeeded : (c : ByteAnswer) → act y ≡ took b c → isEnd c ≡ true → successful c ≡ true → stateFits t (succeeded t s) ≡ true → (after : List ℕ)
+    agrees-succeeded : (c : ByteAnswer) → act y ≡ took b c → isEnd c ≡ true → isSuccess c ≡ true → stateFits t (succeeded t s) ≡ true → (after : List ℕ)
         → FramesAre t (h ▹ y) (pendingSent o (s .transfer .written) (s .pending)) after → Agrees t (h ▹ y) (held (succeeded t s) after)
     unfolding succeeded statusAfter planAfter planBy opens
     agrees-succeeded c a e g f after fr = record {
@@ -102,7 +129,7 @@ module _ (t : List ℕ) (ok : RightTable t) (h : Seq Scheduled) (x : Held) (is :
       frames = fr;
       transfer = transfer-closed t h y (end-closes t h x is y b c a e) (rw a);
       plan-is = rw a (is .plan-is);
-      message-is = sym (rw g at (end-message t h x is y b c a e));
+      message-is = message-sent o (s .message) ∙ sym (rw g at (end-message t h x is y b c a e));
       status-is = rw g at (end-status t h x is y b c a e open-now);
     }
 
@@ -128,8 +155,10 @@ module _ (t : List ℕ) (ok : RightTable t) (h : Seq Scheduled) (x : Held) (is :
 
     sent-replies : byteReply t (openAfter t h) (dueAfter t h) (gotAfter h) b
         ≡ plain (cond (eqb (getD (s .transfer .bytes) (s .transfer .count) 0) b) (cond (early t (s .transfer)) byte.More byte.Success) byte.Failure)
-    unfolding byteReply sentReply
-    sent-replies = rw (is-open, sent-now, due-byte t h (s .transfer) (is .transfer) sent-now not-above, early-is)
+    unfolding sentReply
+    sent-replies =
+        reply-sent t (openAfter t h) (dueAfter t h) (gotAfter h) b sent-now
+        ∙ rw (due-byte t h (s .transfer) (is .transfer) sent-now not-above, early-is)
 
   -- the nine bytes with one more that was received
   module _ (received : sends t o ≡ false) where
@@ -161,12 +190,14 @@ module _ (t : List ℕ) (ok : RightTable t) (h : Seq Scheduled) (x : Held) (is :
 
       last-replies : byteReply t (openAfter t h) (dueAfter t h) (gotAfter h) b
           ≡ cond (checksumRight t o nine) (successReply o (gotAfter h)) (plain byte.Failure)
-      unfolding byteReply receivedReply
-      last-replies = rw (is-open, received-now, ← early-is, last, right-is, is .transfer .opened-is)
+      unfolding receivedReply
+      last-replies =
+          reply-received t (openAfter t h) (dueAfter t h) (gotAfter h) b is-open received-now
+          ∙ rw (← early-is, last, right-is, is .transfer .opened-is)
 
     more-replies : early t (s .transfer) ≡ true → byteReply t (openAfter t h) (dueAfter t h) (gotAfter h) b ≡ plain byte.More
-    unfolding byteReply receivedReply
-    more-replies e = rw (is-open, received-now, ← early-is, e)
+    unfolding receivedReply
+    more-replies e = reply-received t (openAfter t h) (dueAfter t h) (gotAfter h) b is-open received-now ∙ rw (← early-is, e)
 
   -- ---- every accepted byte
 
@@ -202,7 +233,7 @@ module _ (t : List ℕ) (ok : RightTable t) (h : Seq Scheduled) (x : Held) (is :
   }
 
   goes-succeeded : (c : ByteAnswer) (r : List ℕ) (after : List ℕ) → byteReply t (openAfter t h) (dueAfter t h) (gotAfter h) b ≡ record { answer = c; response = r }
-      → act (event (record { answer = c; response = r })) ≡ took b c → isEnd c ≡ true → successful c ≡ true
+      → act (event (record { answer = c; response = r })) ≡ took b c → isEnd c ≡ true → isSuccess c ≡ true
       → length after ≡ length (x .bytes) → after ≡ storedBy t o (gotAfter h) (x .bytes)
       → ((f : ℕ) → published t f ≡ true → (k : ℕ) → k < 8 → getD after (8 * f + k) 0 ≡ getD (x .bytes) (8 * f + k) 0)
       → Goes (record { given = record { state = succeeded t s; answer = c; response = r }; left = after })

@@ -1,26 +1,24 @@
 -- An accepted tick: the state after it is what the history says, its answer is the one that the history gives, and a list's slot opens the first pending member.
 use Prim.Native.Nat.{ℕ}
 use mathlib.Core.Path.{_≡_, refl, sym, ap, _∙_}
-use mathlib.Core.Bool.{Bool, true, false, cond}
-use mathlib.Core.List.{List, [], _∷_}
-use native.Mathlib.Omega.{arith}
+use mathlib.Core.Bool.{Bool, true, false}
+use mathlib.Core.List.{List}
 use lib.Dec.{eqb}
 use lib.ListN.{length}
-use borrow.Author.Tests.{eq-eqb, eqb-true, ltb-true}
 use Rattle.cluster.specs.Check.{RightTable}
-use Rattle.cluster.specs.Table.{entryCount, entryKind, entryTarget}
+use Rattle.cluster.specs.Table.{entryKind, entryTarget}
 use Rattle.cluster.specs.Lists.{members}
-use Rattle.transport.proofs.Tests.{whether}
+use Rattle.transport.proofs.Tests.{whether, and-right}
 use Rattle.master.specs.declared.state.Current.the-variants as current
 use Rattle.master.specs.declared.state.Opened.{Opened}
 use Rattle.master.specs.declared.state.Opened.the-variants.{Nothing, Frame, Request, Response}
+use Rattle.master.specs.declared.state.Message.{Message}
 use Rattle.master.specs.declared.state.State.{State}
 use Rattle.master.specs.declared.tick.TickAnswer.{TickAnswer}
 use Rattle.master.specs.declared.tick.TickAnswer.the-variants as tick
 use Rattle.master.specs.declared.tick.Ticked.{Ticked}
-use Rattle.master.specs.Fits.{stateFits, isSending, lentFits, frameThere}
-use Rattle.master.specs.Fresh.{noTransfer}
-use Rattle.master.specs.Transfers.{isOpen, openProtected, opening}
+use Rattle.master.specs.Fits.{stateFits, isSending, lentFits, frameThere, entryOpens}
+use Rattle.master.specs.Transfers.{isOpen, openIdentifier, openProtected, opening}
 use Rattle.master.specs.Plan.{waits, waited, entryDue, begun}
 use Rattle.master.specs.Select.{withPlan}
 use Rattle.master.specs.Message.{messageFailed}
@@ -30,27 +28,25 @@ use Rattle.master.specs.Calls as call
 use Rattle.master.specs.Calls.{_⇒_}
 use Rattle.master.specs.Run.{Held, held}
 use Rattle.master.specs.Acts as acts
-use Rattle.master.specs.Acts.{tickAct}
-use Rattle.master.specs.Schedule.{Slot, none, unscheduled, entry, Scheduled, act, isStart, starts, slotDue, planWith, planBy, planAfter, schedule}
-use Rattle.master.specs.History.{answered, opens, closes, openAfter, Pending}
-use Rattle.master.specs.Answering.{messageAfter, countedAfter, statusOver}
-use Rattle.master.specs.Replies.{EntryReply, SlotReply, TickReply}
+use Rattle.master.specs.Schedule.{Slot, none, unscheduled, entry, Scheduled, act, isStart, slotDue, planWith, planBy, planAfter, schedule}
+use Rattle.master.specs.History.{openedAs, opens, closes, openAfter, Pending}
+use Rattle.master.specs.Answering.{messageClosed, messageAfter}
+use Rattle.master.specs.Replies.{EntryReply, SlotReply, isBeingSent, TickReply}
 use Rattle.master.proofs.Tests.{never}
 use Rattle.master.proofs.Admitted.{fits-clauses, fits-all}
 use Rattle.master.proofs.Cases.{opened, ticked-by}
-use Rattle.master.proofs.SlotFits.{not-open, abandoned-plan, ticked-fits}
+use Rattle.master.proofs.SlotFits.{not-open, abandoned-plan, abandoned-fits, ticked-fits}
 use Rattle.master.proofs.SlotOpens.{slot-opens, due-there, entry-below}
 use Rattle.master.proofs.PendingLength.{abandoned-pending}
 use Rattle.master.proofs.History.Computed.{pendingAfter}
 use Rattle.master.proofs.History.Events.{starts-closes}
 use Rattle.master.proofs.History.PendingLaw.{pending-iff}
 use Rattle.master.proofs.History.First.{firstWith, answerFor, first-pending, first-takes}
-use Rattle.master.proofs.History.Progress.{Lawful}
+use Rattle.master.proofs.History.Words.{slot-due, message-failed, being-sent, lent-right}
 use Rattle.master.proofs.History.Named.{named}
-use Rattle.master.proofs.History.Quiet.{isQuiet}
 use Rattle.master.proofs.History.FramesAre.{frames-quiet}
 use Rattle.master.proofs.History.TransferIs.{TransferIs, transfer-closed}
-use Rattle.master.proofs.History.OpeningIs.{transfer-opened}
+use Rattle.master.proofs.History.OpeningIs.{Requests, transfer-opened}
 use Rattle.master.proofs.History.Closing.{abandoned-message, abandoned-transfer, start-is, start-message, start-status}
 use Rattle.master.proofs.History.Agrees.{Agrees, agrees-waited}
 use Rattle.master.proofs.History.Stepped.{Stepped}
@@ -61,15 +57,23 @@ unfolding isOpen
 answer-silent t o n = rw (not-open o n)
 
 answer-opened : (t : List ℕ) (o : Opened) → isOpen o ≡ true → tick.Opened (openProtected t o) ≡ answerFor t o
-unfolding isOpen
+unfolding isOpen openProtected openIdentifier
 answer-opened t Nothing p = never p
 answer-opened t (Frame f) p = refl
 answer-opened t Request p = refl
 answer-opened t Response p = refl
 
+-- a message that fails is lent whole where it was
+lent-failed : (o : Opened) (x : Message) (n : ℕ) → lentFits x n ≡ true → lentFits (messageFailed o x) n ≡ true
+unfolding messageFailed lentFits
+lent-failed Nothing x n l = l
+lent-failed (Frame f) x n l = l
+lent-failed Request x n l = refl
+lent-failed Response x n l = l
+
 -- what a slot opens by its kind
 module _ (t : List ℕ) (bits : List Bool) (e : ℕ) where
-  kind-list : (x : _) → entryKind t e ≡ 1 → slotOpens t bits x e ≡ firstPending bits (members t (entryTarget t e))
+  kind-list : (x : Message) → entryKind t e ≡ 1 → slotOpens t bits x e ≡ firstPending bits (members t (entryTarget t e))
   unfolding slotOpens
   kind-list x k = rw k
 
@@ -83,21 +87,18 @@ module _ (t : List ℕ) (ok : RightTable t) (h : Seq Scheduled) (x : Held) (is :
   -- ---- the slot due
 
   due-waits : waits (s .plan) ≡ true → due ≡ none
-  unfolding slotDue
-  due-waits w = rw (← is .plan-is, w)
+  due-waits w = rw (← is .plan-is, slot-due t (s .plan), w)
 
   due-none : waits (s .plan) ≡ false → entryDue t (s .plan .requested) (s .plan .current) ≡ current.None → due ≡ unscheduled
-  unfolding slotDue
-  due-none w c = rw (← is .plan-is, w, c)
+  due-none w c = rw (← is .plan-is, slot-due t (s .plan), w, c)
 
   due-entry : (e : ℕ) → waits (s .plan) ≡ false → entryDue t (s .plan .requested) (s .plan .current) ≡ current.Entry e → due ≡ entry e
-  unfolding slotDue
-  due-entry e w c = rw (← is .plan-is, w, c)
+  due-entry e w c = rw (← is .plan-is, slot-due t (s .plan), w, c)
 
   -- ---- the answer of a slot
 
-  slot-message : abandoned t s .message ≡ messageFailed (openAfter t h) (messageAfter t h)
-  slot-message = abandoned-message t s ∙ rw (is .message-is, is .transfer .opened-is)
+  slot-message : abandoned t s .message ≡ messageClosed (openAfter t h) false (messageAfter t h)
+  slot-message = abandoned-message t s ∙ message-failed (s .transfer .opened) (s .message) ∙ rw (is .message-is, is .transfer .opened-is)
 
   abbrev slotBy : ℕ → Opened
   slotBy e = slotOpens t (abandoned t s .pending) (abandoned t s .message) e
@@ -112,7 +113,9 @@ module _ (t : List ℕ) (ok : RightTable t) (h : Seq Scheduled) (x : Held) (is :
   entry-replies e a p = record {
     frame = λ k. p ∙ rw k;
     list = λ k. rw (p, list-first e k) (first-takes t (pendingAfter t h) (Pending t h) (pending-iff t h) (members t (entryTarget t e)));
-    request = λ k. p ∙ rw (k, slot-message) (whether (isSending (messageFailed (openAfter t h) (messageAfter t h))) (λ b. rw b) (λ b. rw b));
+    request = λ k.
+        let x = messageClosed (openAfter t h) false (messageAfter t h) in
+        p ∙ rw (k, slot-message, being-sent x) (whether (isBeingSent x) (λ b. rw b) (λ b. rw b));
     response = λ k. p ∙ rw k;
   }
 
@@ -138,22 +141,37 @@ module _ (t : List ℕ) (ok : RightTable t) (h : Seq Scheduled) (x : Held) (is :
     }
 
     -- where the slot opens nothing
-    closed-transfer : answered t a ≡ Nothing → TransferIs t (h ▹ y) (abandoned t s .transfer)
+    closed-transfer : openedAs t a ≡ Nothing → TransferIs t (h ▹ y) (abandoned t s .transfer)
     unfolding opens
     closed-transfer n = rw (abandoned-transfer t h x is) (transfer-closed t h y y-closes (rw (acts-as, starting, n)))
 
     -- where it opens something
-    opened-transfer : (o : Opened) → answered t a ≡ o → frameThere t o ≡ true → TransferIs t (h ▹ y) (opening t (x .bytes) (abandoned t s .message) m o)
+    opened-transfer : (o : Opened) → openedAs t a ≡ o → frameThere t o ≡ true → Requests (abandoned t s .message) m o
+        → TransferIs t (h ▹ y) (opening t (x .bytes) (abandoned t s .message) m o)
     unfolding opens
-    opened-transfer o n there =
-        rw (slot-message ∙ sym (start-message t h x is y m a acts-as starting))
-        (transfer-opened t ok (x .bytes) (is .frames .size) h (is .frames .written-are) y m a acts-as y-closes o (rw (acts-as, starting, n)) there)
+    opened-transfer o n there can =
+        let e = slot-message ∙ sym (start-message t h x is y m a acts-as starting) in
+        rw e
+        (transfer-opened t ok (x .bytes) (is .frames .size) h (is .frames .written-are) y m a acts-as y-closes o (rw (acts-as, starting, n)) there
+        (rw e at can))
 
   -- ---- every accepted tick
 
-  module _ (lent : lentFits (messageAfter t h) (length m) ≡ true) where
+  module _ (lent : lentFits (s .message) (length m) ≡ true) where
     tick-replies : (a : TickAnswer) → SlotReply t h due a → TickReply t h m a
-    tick-replies a r = record { refuses = λ n. never (sym n ∙ lent); goes-on = λ l. r }
+    tick-replies a r = record { refuses = λ n. never (sym n ∙ rw (is .message-is, lent-right (messageAfter t h) (length m)) at lent); goes-on = λ l. r }
+
+    -- what is opened can be sent
+    can-request : (e : ℕ) (o : Opened) → entryOpens t (abandoned t s .message) e o ≡ true → Requests (abandoned t s .message) m o
+    unfolding entryOpens
+    can-request e Nothing c = tt
+    can-request e (Frame f) c = tt
+    can-request e Request c = record {
+      sending-now = and-right (eqb (entryKind t e) 2) (isSending (abandoned t s .message)) c;
+      frames-left = abandoned-fits t s (fits-clauses t s (is .fits)) .message-fits;
+      lent-whole = rw (abandoned-message t s) (lent-failed (s .transfer .opened) (s .message) (length m) lent);
+    }
+    can-request e Response c = tt
 
     abbrev Goes : Ticked → Type 0
     Goes w = stateFits t (w .state) ≡ true → Stepped t h (call.tick m) (w .answer) (held (w .state) (x .bytes))
@@ -182,7 +200,7 @@ module _ (t : List ℕ) (ok : RightTable t) (h : Seq Scheduled) (x : Held) (is :
 
     goes-silent : (e : ℕ) → waits (s .plan) ≡ false → entryDue t (s .plan .requested) (s .plan .current) ≡ current.Entry e
         → isOpen (slotBy e) ≡ false → Goes (record { state = withPlan (abandoned t s) (begun t e); answer = tick.Silent })
-    unfolding schedule planWith withPlan opens
+    unfolding schedule planWith withPlan opens begun
     goes-silent e w c n f =
         let y = schedule t h (call.tick m ⇒ tick.Silent) in
         let d = due-entry e w c in
@@ -200,19 +218,20 @@ module _ (t : List ℕ) (ok : RightTable t) (h : Seq Scheduled) (x : Held) (is :
     goes-opened : (e : ℕ) (o : Opened) → waits (s .plan) ≡ false → entryDue t (s .plan .requested) (s .plan .current) ≡ current.Entry e
         → o ≡ slotBy e → isOpen o ≡ true
         → Goes (record { state = opened t (x .bytes) m (withPlan (abandoned t s) (begun t e)) o; answer = tick.Opened (openProtected t o) })
-    unfolding schedule planWith withPlan opens
+    unfolding schedule planWith withPlan opens begun
     goes-opened e o w c q p f =
         let a = tick.Opened (openProtected t o) in
         let y = schedule t h (call.tick m ⇒ a) in
         let d = due-entry e w c in
         let b : isStart due ≡ true = rw d in
         let cl = fits-clauses t s (is .fits) in
-        let there : frameThere t o ≡ true =
-        rw q (slot-opens t ok (abandoned t s .pending) (abandoned t s .message) e
-        (entry-below t e (rw c at (due-there t ok (s .plan .requested) (s .plan .current) (cl .schedule-there) (cl .entry-there)))) .frame-there) in
+        let can =
+        slot-opens t ok (abandoned t s .pending) (abandoned t s .message) e
+        (entry-below t e (rw c at (due-there t ok (s .plan .requested) (s .plan .current) (cl .schedule-there) (cl .entry-there)))) in
+        let there : frameThere t o ≡ true = rw q (can .frame-there) in
         record {
           agrees = agrees-start y a refl refl b (opened t (x .bytes) m (withPlan (abandoned t s) (begun t e)) o) f (abandoned-pending t s)
-              (opened-transfer y a refl refl b o (named t ok o there p) there) (rw d) refl refl;
+              (opened-transfer y a refl refl b o (named t ok o there p) there (can-request e o (rw q (can .can-open)))) (rw d) refl refl;
           replies = tick-replies a (rw d (entry-replies e a (answer-opened t o p ∙ ap (answerFor t) q)));
           lawful = λ e′ r u k.
               let z : entry e ≡ entry e′ = sym d ∙ u in

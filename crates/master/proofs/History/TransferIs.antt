@@ -1,43 +1,32 @@
 -- The transfer record is what the history says of the open transfer: what is open, its bytes, and whether its frame was written since.
-use Prim.Native.Nat.{ℕ, suc, _+_, _-_, _≤_, _<_}
+use Prim.Native.Nat.{ℕ, suc, _+_, _-_, _≤_}
 use mathlib.Core.Path.{_≡_, refl, sym, ap, _∙_}
-use mathlib.Core.Bool.{Bool, true, false, cond, _||_, false≢true}
+use mathlib.Core.Bool.{true, false, cond, false≢true}
 use mathlib.Core.List.{List, [], _∷_, _++_}
-use native.Mathlib.Numerals.{add-one}
 use native.Mathlib.Omega.{arith}
 use lib.Dec.{eqb}
 use lib.ListN.{length, getD, take, replicate, length-append}
 use lib.Seq.{take-suc}
 use borrow.Author.Tests.{eqb-true}
-use Rattle.cluster.specs.Check.{RightTable}
-use Rattle.cluster.specs.Table.{frameCount, published}
-use Rattle.cluster.specs.Values.{touches}
-use Rattle.transport.proofs.Tests.{whether}
 use Rattle.master.specs.declared.state.Opened.{Opened}
 use Rattle.master.specs.declared.state.Opened.the-variants.{Nothing, Frame, Request, Response}
-use Rattle.master.specs.declared.state.Message.{Message}
 use Rattle.master.specs.declared.state.Transfer.{Transfer}
 use Rattle.master.specs.declared.byte.ByteAnswer.{ByteAnswer}
 use Rattle.master.specs.declared.byte.ByteAnswer.the-variants.{More}
-use Rattle.master.specs.Admit.{bufferSize}
 use Rattle.master.specs.Fresh.{noTransfer}
-use Rattle.master.specs.Fits.{frameThere}
-use Rattle.master.specs.Transfers.{isOpen, openLength, openChecksum, sends, sentData, copied, opening}
+use Rattle.master.specs.Transfers.{isOpen, openLength, sends}
 use Rattle.master.specs.Write.{touchesOpen, rewritten}
 use Rattle.master.specs.Byte.{withByte}
 use Rattle.master.specs.Seq.{Seq, ∅, _▹_}
-use Rattle.master.specs.Acts.{Act, wrote, ticked, took, Value, onTick}
+use Rattle.master.specs.Acts.{wrote, took, Value}
 use Rattle.master.specs.Schedule.{Scheduled, act}
-use Rattle.master.specs.History.{writes, opens, closes, openAfter, writtenBytes, gotBy, gotAfter}
-use Rattle.master.specs.Answering.{messageAfter, dueOf, dueAfter}
+use Rattle.master.specs.History.{writes, opens, closes, openAfter, gotBy, gotAfter}
+use Rattle.master.specs.Answering.{dueAfter}
 use Rattle.master.proofs.Tests.{never, or-false}
-use Rattle.master.proofs.Admitted.{frame-below}
-use Rattle.master.proofs.OpenLaws.{frame-data-length, request-data-length}
 use Rattle.master.proofs.History.Opening.{open-new, open-kept}
 use Rattle.master.proofs.History.Computed.{hits, rewrittenAfter, rewritten-new, rewritten-on}
 use Rattle.master.proofs.History.Quiet.{isQuiet, got-quiet, due-quiet, rewritten-quiet}
 use Rattle.master.proofs.History.NineBytes.{nineOf, nine-snoc, nine-set, nine-at}
-use Rattle.master.proofs.History.SameBytes.{SameBytes, same-data}
 
 -- the bytes of the open transfer: those due where the master sends, and else those that came
 abbrev pub heldBytes : List ℕ → Seq Scheduled → List ℕ

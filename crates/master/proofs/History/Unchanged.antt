@@ -26,7 +26,7 @@ use Rattle.master.specs.Message.{sendOf}
 use Rattle.master.specs.Calls as call
 use Rattle.master.specs.Calls.{Call, _⇒_}
 use Rattle.master.specs.Run.{Held, held, answerOf, leftBy}
-use Rattle.master.specs.Acts.{Act, nothing, Value, scalar, array, writeAct, selectAct, tickAct, byteAct, statusAct, sendAct, actOf}
+use Rattle.master.specs.Acts.{nothing, Value, scalar, array, writeAct, selectAct, tickAct, byteAct, statusAct, sendAct, actOf}
 use Rattle.master.proofs.RefusedLaws.{write-refused, write-array-refused, select-refused, tick-refused, byte-refused, status-refused, send-refused}
 
 -- only a refused one of these calls counts for nothing

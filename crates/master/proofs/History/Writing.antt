@@ -1,7 +1,7 @@
 -- An accepted write: the state and the bytes after it are what the history says.
 use Prim.Native.Nat.{ℕ, _<_}
-use mathlib.Core.Path.{_≡_, refl}
-use mathlib.Core.Bool.{true, false}
+use mathlib.Core.Path.{_≡_}
+use mathlib.Core.Bool.{true}
 use mathlib.Core.List.{List}
 use Rattle.cluster.specs.Check.{RightTable}
 use Rattle.cluster.specs.Table.{signalCount}

@@ -1,18 +1,18 @@
 -- `closing::cleared` meets its contract.
 use borrow.Author.Needs.{needs}
-use Rattle.master.specs.Closing.{pendingSent}
+use Rattle.master.specs.Closing.{clearedBit}
 use Rattle.master.proofs.closing.cleared.Statement.{statement}
 use Rattle.master.proofs.closing.cleared.Tie as tie
 
 returns : tie.Need-returns
-unfolding pendingSent
+unfolding clearedBit
 returns c = rw (c .if1 .taken)
 
 array-write-next : tie.Need-array-write-next
 array-write-next c = search needs
 
 returns-2 : tie.Need-returns-2
-unfolding pendingSent
+unfolding clearedBit
 returns-2 c = rw (c .if1 .left)
 
 pub cleared-spec : {M : Type 1} → statement M

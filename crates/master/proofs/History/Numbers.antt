@@ -1,0 +1,69 @@
+-- The refusal number of a call by the history is that of its verdict.
+use Prim.Native.Nat.{ℕ}
+use mathlib.Core.Path.{_≡_, refl, sym, ap, _∙_}
+use mathlib.Core.Bool.{Bool, true, false, cond, not, Bool·beq}
+use mathlib.Core.List.{List}
+use lib.Dec.{ltb, eqb}
+use Rattle.refusal.specs.declared.Refusal.{Refusal}
+use Rattle.refusal.specs.Numbers as number
+use Rattle.cluster.specs.declared.Verdict.{Verdict}
+use Rattle.cluster.specs.declared.Verdict.the-variants.{Accepted, Refused}
+use Rattle.cluster.specs.Table.{signalCount, scheduleCount, isArray}
+use Rattle.cluster.specs.Values.{signalPublished}
+use Rattle.transport.specs.Cutting.{isLength}
+use Rattle.transport.proofs.Tests.{whether}
+use Rattle.master.specs.declared.state.Message.{Message}
+use Rattle.master.specs.Admit.{unless, answered}
+use Rattle.master.specs.Fits.{isSending}
+use Rattle.master.specs.Write.{writable}
+use Rattle.master.specs.Replies.{test, writeNumber, readNumber, selectNumber, isBeingSent, sendNumber}
+use Rattle.master.proofs.History.Words.{being-sent}
+
+-- 0 accepts
+abbrev pub verdictOf : ℕ → Verdict
+verdictOf n = cond (eqb n 0) Accepted (Refused (number.refused n))
+
+-- one test in front of others
+tested : (b : Bool) (n later : ℕ) → eqb n 0 ≡ false → unless b n (verdictOf later) ≡ verdictOf (test b n later)
+tested true n later e = refl
+tested false n later e = rw e
+
+-- what is answered by a verdict is what is answered by its number
+pub by-number : {A : Type 0} (n : ℕ) (refuse : Refusal → A) (go : A) → answered (verdictOf n) refuse go ≡ cond (eqb n 0) go (refuse (number.refused n))
+by-number n refuse go = whether (eqb n 0) (λ e. rw e) (λ e. rw e)
+
+-- where the verdict is known
+pub reply-is : {A : Type 0} (n : ℕ) (refuse : Refusal → A) (go : A) (v : Verdict) → verdictOf n ≡ v
+    → answered v refuse go ≡ cond (eqb n 0) go (refuse (number.refused n))
+reply-is n refuse go v e = ap (λ (w : Verdict). answered w refuse go) (sym e) ∙ by-number n refuse go
+
+-- ---- each call
+
+pub write-verdict : (t : List ℕ) (s : ℕ) (array fits : Bool) → writable t s array fits ≡ verdictOf (writeNumber t s array fits)
+unfolding writable writeNumber
+write-verdict t s array fits =
+    let k = Bool·beq (isArray t s) array in
+    ap (λ (v : Verdict). unless (ltb s (signalCount t)) 4 (unless (signalPublished t s) 5 (unless k 6 v))) (tested fits 7 0 refl)
+    ∙ ap (λ (v : Verdict). unless (ltb s (signalCount t)) 4 (unless (signalPublished t s) 5 v)) (tested k 6 (test fits 7 0) refl)
+    ∙ ap (λ (v : Verdict). unless (ltb s (signalCount t)) 4 v) (tested (signalPublished t s) 5 (test k 6 (test fits 7 0)) refl)
+    ∙ tested (ltb s (signalCount t)) 4 (test (signalPublished t s) 5 (test k 6 (test fits 7 0))) refl
+
+pub read-verdict : (t : List ℕ) (s : ℕ) (array : Bool)
+    → unless (ltb s (signalCount t)) number.unknown (unless (Bool·beq (isArray t s) array) number.kind Accepted) ≡ verdictOf (readNumber t s array)
+unfolding readNumber
+read-verdict t s array =
+    let k = Bool·beq (isArray t s) array in
+    ap (λ (v : Verdict). unless (ltb s (signalCount t)) 4 v) (tested k 6 0 refl)
+    ∙ tested (ltb s (signalCount t)) 4 (test k 6 0) refl
+
+pub select-verdict : (t : List ℕ) (n : ℕ) → unless (ltb n (scheduleCount t)) number.unknown Accepted ≡ verdictOf (selectNumber t n)
+unfolding selectNumber
+select-verdict t n = tested (ltb n (scheduleCount t)) 4 0 refl
+
+pub send-verdict : (x : Message) (n : ℕ)
+    → unless (isLength n) number.messageLength (unless (not (isSending x)) number.sending Accepted) ≡ verdictOf (sendNumber x n)
+unfolding sendNumber
+send-verdict x n =
+    rw (being-sent x)
+    (ap (λ (v : Verdict). unless (isLength n) 9 v) (tested (not (isBeingSent x)) 10 0 refl)
+    ∙ tested (isLength n) 9 (test (not (isBeingSent x)) 10 0) refl)
