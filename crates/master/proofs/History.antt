@@ -31,5 +31,6 @@ pub mod Runs
 pub mod Unchanged
 pub mod Sent
 pub mod Claimed
+pub mod Only
 pub mod InWords
 pub mod Example

@@ -34,6 +34,7 @@ pub data Act : Type 0 where
   statusRead : Act
   sending : ℕ → ℕ → Act
 
+-- what counts of each call that can change something, by its answer
 abbrev pub writeAct : ℕ → Value → WriteAnswer → Act
 writeAct s v write.Written = wrote s v
 writeAct s v (write.Refused r) = nothing
@@ -116,6 +117,7 @@ onSend f other (took b a) = other
 onSend f other statusRead = other
 onSend f other (sending nad n) = f nad n
 
+-- an accepted status reading
 abbrev pub isStatusRead : Act → Bool
 isStatusRead nothing = false
 isStatusRead (wrote s v) = false

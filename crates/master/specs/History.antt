@@ -55,6 +55,7 @@ openedAs t (tick.Refused r) = Nothing
 unfoldable pub opens : List ℕ → Scheduled → Opened
 opens t x = onTick (λ m a. cond (isStart (x .slot)) (openedAs t a) Nothing) Nothing (act x)
 
+-- success was answered: "success", or the eight bytes of a response
 abbrev pub isSuccess : ByteAnswer → Bool
 isSuccess byte.More = false
 isSuccess byte.Success = true
@@ -62,6 +63,7 @@ isSuccess byte.Failure = false
 isSuccess byte.Response = true
 isSuccess (byte.Refused r) = false
 
+-- success or failure was answered
 abbrev pub isEnd : ByteAnswer → Bool
 isEnd byte.More = false
 isEnd byte.Success = true

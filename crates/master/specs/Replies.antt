@@ -45,6 +45,7 @@ use Rattle.master.specs.Answering.{messageClosed, messageAfter, dueAfter
 
 -- ---- which refusal a call gets: the number of the first test that fails, and 0 where all hold
 
+-- a number where the test fails, and else what the later tests give
 abbrev pub test : Bool → ℕ → ℕ → ℕ
 test holds number later = cond holds later number
 
@@ -85,6 +86,7 @@ sendNumber x n =
 
 -- ---- writes, reads, select, send and the message state
 
+-- by the number
 unfoldable pub writeReply : ℕ → WriteAnswer
 writeReply n = cond (eqb n 0) write.Written (write.Refused (refused n))
 

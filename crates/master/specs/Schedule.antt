@@ -76,12 +76,13 @@ unfoldable pub scheduled : List ℕ → Seq Event → Seq Scheduled
 scheduled t ∅ = ∅
 scheduled t (h ▹ e) = scheduled t h ▹ schedule t (scheduled t h) e
 
--- the event starts a slot
+-- a slot, and not none
 abbrev pub isStart : Slot → Bool
 isStart none = false
 isStart unscheduled = true
 isStart (entry e) = true
 
+-- the event starts a slot
 abbrev pub starts : Scheduled → Bool
 starts x = onTick (λ m a. isStart (x .slot)) false (act x)
 

@@ -9,7 +9,7 @@ use Rattle.master.specs.declared.state.Opened.the-variants.{Nothing}
 use Rattle.master.specs.Seq.{Seq, ∅, _▹_, _⋈_, Each}
 use Rattle.master.specs.Schedule.{Scheduled}
 use Rattle.master.specs.History.{closes, succeeds, openAfter, carries, Succeeded, Pending}
-use Rattle.master.specs.InWords.{Written, LastSent, PendingInWords}
+use Rattle.master.specs.InWords.{Written, LastSent, sinceOpening, PendingInWords}
 use Rattle.master.proofs.Tests.{never}
 use Rattle.master.proofs.History.Events.{wrote-keeps, opens-closes, success-opens, success-closes}
 use Rattle.master.proofs.History.Opening.{open-new, open-part, open-from-idle, open-quiet, Started, started}
@@ -71,31 +71,38 @@ module _ (t : List ℕ) (f : ℕ) where
     where
       now : Started t h f → succeeds x ≡ true → LastSent t (h ▹ x) f
       now o w = record {
-        before = o .before;
-        start = o .start;
-        during = o .during;
-        end = x;
-        after = ∅;
-        split = ap (λ g. g ▹ x) (o .split);
-        opened = o .opened;
-        open-on = o .open-on;
-        well = w;
+        sent = record {
+          before = o .before;
+          start = o .start;
+          during = o .during;
+          end = x;
+          after = ∅;
+          split = ap (λ g. g ▹ x) (o .split);
+          opened = o .opened;
+          open-on = o .open-on;
+          well = w;
+        };
         last = unsent-empty t f;
       }
 
       still : (l : LastSent t h f) → (carries (openAfter t h) f ≡ true → succeeds x ≡ true → ⊥) → LastSent t (h ▹ x) f
-      still l n = record {
-        before = l .before;
-        start = l .start;
-        during = l .during;
-        end = l .end;
-        after = l .after ▹ x;
-        split = ap (λ g. g ▹ x) (l .split);
-        opened = l .opened;
-        open-on = l .open-on;
-        well = l .well;
-        last = unsent-next t (l .after) x f (l .last) (λ c s. n (rw (l .split, open-part t (l .before ▹ l .start ⋈ l .during ▹ l .end) (l .after) f c) c) s);
-      }
+      still l n =
+          let s = l .sent in
+          record {
+            sent = record {
+              before = s .before;
+              start = s .start;
+              during = s .during;
+              end = s .end;
+              after = s .after ▹ x;
+              split = ap (λ g. g ▹ x) (s .split);
+              opened = s .opened;
+              open-on = s .open-on;
+              well = s .well;
+            };
+            last = unsent-next t (s .after) x f (l .last)
+                (λ c w. n (rw (s .split, open-part t (s .before ▹ s .start ⋈ s .during ▹ s .end) (s .after) f c) c) w);
+          }
 
   -- a success in what follows the opening of a successful transfer is one behind its end
   success-behind : (during : Seq Scheduled) (end : Scheduled) (after : Seq Scheduled) → Each (λ x. closes x ≡ false) during → succeeds end ≡ true
@@ -114,44 +121,53 @@ module _ (t : List ℕ) (f : ℕ) where
   to-words : (h : Seq Scheduled) → Pending t h f → PendingInWords t h f
   to-words h p = ⊎-elim (λ l. inl (l, since l)) (λ u. inr (record { before = p .before; write = p .write; after = p .after; split = p .split; accepted = p .accepted }, u)) (last-sent h)
     where
-      since : (l : LastSent t h f) → Written t (l .during ▹ l .end ⋈ l .after) f
-      since l = go (places (p .before) (p .write) (p .after) (l .before) (l .start) (l .during ▹ l .end ⋈ l .after)
-          (sym (p .split) ∙ l .split ∙ sym (join-assoc (l .before ▹ l .start) (l .during ▹ l .end) (l .after))))
+      since : (l : LastSent t h f) → Written t (sinceOpening l) f
+      since l =
+          go (places (p .before) (p .write) (p .after) (s .before) (s .start) rest
+          (sym (p .split) ∙ s .split ∙ sym (join-assoc (s .before ▹ s .start) (s .during ▹ s .end) (s .after))))
         where
-          inside : (between : Seq Scheduled) → p .after ≡ between ▹ l .start ⋈ (l .during ▹ l .end ⋈ l .after) → Succeeded t (p .after) f
+          s : Succeeded t h f
+          s = l .sent
+
+          rest : Seq Scheduled
+          rest = s .during ▹ s .end ⋈ s .after
+
+          inside : (between : Seq Scheduled) → p .after ≡ between ▹ s .start ⋈ rest → Succeeded t (p .after) f
           inside between e = record {
             before = between;
-            start = l .start;
-            during = l .during;
-            end = l .end;
-            after = l .after;
-            split = e ∙ join-assoc (between ▹ l .start) (l .during ▹ l .end) (l .after);
-            opened = l .opened;
-            open-on = l .open-on;
-            well = l .well;
+            start = s .start;
+            during = s .during;
+            end = s .end;
+            after = s .after;
+            split = e ∙ join-assoc (between ▹ s .start) (s .during ▹ s .end) (s .after);
+            opened = s .opened;
+            open-on = s .open-on;
+            well = s .well;
           }
 
-          go : Places (p .write) (p .after) (l .start) (l .during ▹ l .end ⋈ l .after) → Written t (l .during ▹ l .end ⋈ l .after) f
+          go : Places (p .write) (p .after) (s .start) rest → Written t rest f
           go (earlier between e) = absurd (p .unsent (inside between e))
-          go (same e q) =
-              never (sym (wrote-keeps t (p .write) f (p .accepted)) ∙ rw e (opens-closes t (l .start) f (l .opened)))
+          go (same e q) = never (sym (wrote-keeps t (p .write) f (p .accepted)) ∙ rw e (opens-closes t (s .start) f (s .opened)))
           go (later between e) = record { before = between; write = p .write; after = p .after; split = e; accepted = p .accepted }
 
   from-words : (h : Seq Scheduled) → PendingInWords t h f → Pending t h f
-  from-words h w = ⊎-elim (λ s. sent (s .0) (s .1)) (λ u. never-sent (u .0) (u .1)) w
+  from-words h w = ⊎-elim (λ s. after-last (s .0) (s .1)) (λ u. never-sent (u .0) (u .1)) w
     where
-      sent : (l : LastSent t h f) → Written t (l .during ▹ l .end ⋈ l .after) f → Pending t h f
-      sent l v = record {
-        before = l .before ▹ l .start ⋈ v .before;
-        write = v .write;
-        after = v .after;
-        split = l .split
-            ∙ sym (join-assoc (l .before ▹ l .start) (l .during ▹ l .end) (l .after))
-            ∙ ap (λ k. l .before ▹ l .start ⋈ k) (v .split)
-            ∙ join-assoc (l .before ▹ l .start) (v .before ▹ v .write) (v .after);
-        accepted = v .accepted;
-        unsent = λ s. l .last (success-behind (l .during) (l .end) (l .after) (l .open-on) (l .well) (rw (v .split) (success-later (v .before ▹ v .write) (v .after) s)));
-      }
+      after-last : (l : LastSent t h f) → Written t (sinceOpening l) f → Pending t h f
+      after-last l v =
+          let s = l .sent in
+          record {
+            before = s .before ▹ s .start ⋈ v .before;
+            write = v .write;
+            after = v .after;
+            split = s .split
+                ∙ sym (join-assoc (s .before ▹ s .start) (s .during ▹ s .end) (s .after))
+                ∙ ap (λ k. s .before ▹ s .start ⋈ k) (v .split)
+                ∙ join-assoc (s .before ▹ s .start) (v .before ▹ v .write) (v .after);
+            accepted = v .accepted;
+            unsent = λ u. l .last (success-behind (s .during) (s .end) (s .after) (s .open-on) (s .well)
+                (rw (v .split) (success-later (v .before ▹ v .write) (v .after) u)));
+          }
 
       never-sent : Written t h f → ¬ Succeeded t h f → Pending t h f
       never-sent v u = record {

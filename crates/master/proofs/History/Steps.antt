@@ -7,11 +7,13 @@ use native.Mathlib.Omega.{arith}
 use lib.ListN.{length, replicate}
 use Rattle.refusal.specs.declared.Refusal.{Refusal}
 use Rattle.refusal.specs.Numbers as number
+use Rattle.cluster.specs.declared.Verdict.{Verdict}
 use Rattle.cluster.specs.declared.Verdict.the-variants as verdict
 use Rattle.cluster.specs.Check.{then, RightTable}
 use Rattle.cluster.specs.Values.{valueFits, arrayFits, scalarValue, arrayRead}
 use Rattle.transport.proofs.Tests.{whether}
 use Rattle.master.specs.declared.state.State.{State}
+use Rattle.master.specs.declared.write.WriteAnswer.{WriteAnswer}
 use Rattle.master.specs.declared.write.WriteAnswer.the-variants as write
 use Rattle.master.specs.declared.write.Wrote.{Wrote}
 use Rattle.master.specs.declared.read.ReadAnswer.the-variants as read
@@ -26,7 +28,7 @@ use Rattle.master.specs.declared.status.StatusAnswer.the-variants as sta
 use Rattle.master.specs.declared.status.StatusRead.{StatusRead}
 use Rattle.master.specs.declared.message.SendAnswer.the-variants as send
 use Rattle.master.specs.declared.message.Sent.{Sent}
-use Rattle.master.specs.Admit.{unless, bufferSize, admitted, Step}
+use Rattle.master.specs.Admit.{unless, answered, bufferSize, admitted, Step}
 use Rattle.master.specs.Fits.{lentFits}
 use Rattle.master.specs.Transfers.{isOpen}
 use Rattle.master.specs.Write.{marked, writable, wrote, writeOf, writeArrayOf}
@@ -94,37 +96,40 @@ module _ (t : List ℕ) (ok : RightTable t) (h : Seq Scheduled) (x : Held) (is :
       agrees-wrote t ok h x is y r v e (w .below)
       (fits-all t (marked t r s) (marked-fits t s (fits-clauses t s (is .fits)) ok r (w .below) (w .is-published)))
 
+  -- a write of either kind: what counts of it, and what it answers
+  module _ (r : ℕ) (kind fits : Bool) (v : Value) (c : Call) (says : WriteAnswer → Answer c)
+      (counts : (b : WriteAnswer) → actOf (c ⇒ says b) ≡ writeAct r v b)
+      (told : (b : WriteAnswer) → b ≡ writeReply (writeNumber t r kind fits) → Replies t h c (says b)) where
+    abbrev judged : Verdict
+    judged = then (admitted t (length (x .bytes)) s) (writable t r kind fits)
+
+    inner : judged ≡ writable t r kind fits
+    inner = rw lent-admitted
+
+    replied : (b : WriteAnswer) (w : Verdict) → judged ≡ w → b ≡ answered w (λ q. write.Refused q) write.Written → Replies t h c (says b)
+    unfolding writeReply
+    replied b w e p =
+        told b (p ∙ reply-is (writeNumber t r kind fits) (λ q. write.Refused q) write.Written w (sym (write-verdict t r kind fits) ∙ sym inner ∙ e))
+
+    step-wrote : Stepped t h c (says (wrote t s (x .bytes) r judged (withValue t (x .bytes) r v) .given .answer))
+        (held (wrote t s (x .bytes) r judged (withValue t (x .bytes) r v) .given .state) (wrote t s (x .bytes) r judged (withValue t (x .bytes) r v) .left))
+    unfolding wrote schedule
+    step-wrote =
+        by-verdict (λ (z : Step Wrote). Stepped t h c (says (z .given .answer)) (held (z .given .state) (z .left))) judged _ _
+        (λ q e. step-nothing c (says (write.Refused q)) (counts (write.Refused q)) (replied (write.Refused q) (verdict.Refused q) e refl))
+        (λ a. record {
+          agrees = written r kind fits v (sym inner ∙ a) (schedule t h (c ⇒ says write.Written)) (counts write.Written);
+          replies = replied write.Written verdict.Accepted a refl;
+          lawful = λ e q p k. never (rw (counts write.Written) at q);
+        })
+
   step-write : (r v : ℕ) → Stepped t h (call.write r v) (answerOf t x (call.write r v)) (leftBy t x (call.write r v))
-  unfolding answerOf leftBy writeOf wrote schedule writeReply
-  step-write r v =
-      let w = writable t r false (valueFits t r v) in
-      let n = writeNumber t r false (valueFits t r v) in
-      let inner : then (admitted t (length (x .bytes)) s) w ≡ w = rw lent-admitted in
-      let number-is = sym (write-verdict t r false (valueFits t r v)) ∙ sym inner in
-      by-verdict (λ (z : Step Wrote). Stepped t h (call.write r v) (z .given .answer) (held (z .given .state) (z .left)))
-      (then (admitted t (length (x .bytes)) s) w) _ _
-      (λ q e. step-nothing (call.write r v) (write.Refused q) refl (reply-is n (λ i. write.Refused i) write.Written (verdict.Refused q) (number-is ∙ e)))
-      (λ a. record {
-        agrees = written r false (valueFits t r v) (scalar v) (sym inner ∙ a) (schedule t h (call.write r v ⇒ write.Written)) refl;
-        replies = reply-is n (λ i. write.Refused i) write.Written verdict.Accepted (number-is ∙ a);
-        lawful = λ e q p k. never q;
-      })
+  unfolding answerOf leftBy writeOf
+  step-write r v = step-wrote r false (valueFits t r v) (scalar v) (call.write r v) (λ b. b) (λ b. refl) (λ b p. p)
 
   step-array : (r : ℕ) (vs : List ℕ) → Stepped t h (call.writeArray r vs) (answerOf t x (call.writeArray r vs)) (leftBy t x (call.writeArray r vs))
-  unfolding answerOf leftBy writeArrayOf wrote schedule writeReply
-  step-array r vs =
-      let w = writable t r true (arrayFits t r vs) in
-      let n = writeNumber t r true (arrayFits t r vs) in
-      let inner : then (admitted t (length (x .bytes)) s) w ≡ w = rw lent-admitted in
-      let number-is = sym (write-verdict t r true (arrayFits t r vs)) ∙ sym inner in
-      by-verdict (λ (z : Step Wrote). Stepped t h (call.writeArray r vs) (z .given .answer) (held (z .given .state) (z .left)))
-      (then (admitted t (length (x .bytes)) s) w) _ _
-      (λ q e. step-nothing (call.writeArray r vs) (write.Refused q) refl (reply-is n (λ i. write.Refused i) write.Written (verdict.Refused q) (number-is ∙ e)))
-      (λ a. record {
-        agrees = written r true (arrayFits t r vs) (array vs) (sym inner ∙ a) (schedule t h (call.writeArray r vs ⇒ write.Written)) refl;
-        replies = reply-is n (λ i. write.Refused i) write.Written verdict.Accepted (number-is ∙ a);
-        lawful = λ e q p k. never q;
-      })
+  unfolding answerOf leftBy writeArrayOf
+  step-array r vs = step-wrote r true (arrayFits t r vs) (array vs) (call.writeArray r vs) (λ b. b) (λ b. refl) (λ b p. p)
 
   -- ---- the calls that only ask
 
