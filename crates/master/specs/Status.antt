@@ -1,9 +1,8 @@
 -- Document 01, "Status": the parts, what a closed transfer does to them, and the word that is read.
 use Prim.Native.Nat.{ℕ, _+_, _*_}
-use mathlib.Core.Bool.{Bool, true, cond, not, _||_}
+use mathlib.Core.Bool.{Bool, cond, not, _||_}
 use mathlib.Core.List.{List}
 use Rattle.wire.specs.Bits.{digit}
-use Rattle.refusal.specs.declared.Refusal.{Refusal}
 use Rattle.master.specs.declared.state.Status.{Status}
 use Rattle.master.specs.declared.state.State.{State}
 use Rattle.master.specs.declared.status.StatusAnswer.the-variants as answer

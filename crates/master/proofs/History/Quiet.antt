@@ -11,10 +11,9 @@ use Rattle.master.specs.Seq.{Seq, _▹_}
 use Rattle.master.specs.Schedule.{Scheduled, act}
 use Rattle.master.specs.Acts.{Act, nothing, wrote, selected, ticked, took, statusRead, sending, Value, onWrite, onByte, withValue}
 use Rattle.master.specs.History.{writes, closes, openAfter, writtenBytes, gotBy, gotAfter}
-use Rattle.master.specs.Answering.{dueAfter, bytesAfter}
+use Rattle.master.specs.Answering.{dueAfter}
 use Rattle.master.proofs.Tests.{never, or-false}
-use Rattle.master.proofs.History.Events.{keeps-unsent}
-use Rattle.master.proofs.History.Computed.{hits, rewrittenAfter, pendingAfter, rewritten-on, pending-kept, unwiped-open-on}
+use Rattle.master.proofs.History.Computed.{hits, rewrittenAfter, rewritten-on}
 
 -- neither a write nor a byte
 abbrev pub isQuiet : Act → Bool
@@ -60,7 +59,7 @@ module _ (t : List ℕ) (h : Seq Scheduled) (y : Scheduled) (q : isQuiet (act y)
   unfolding writtenBytes
   written-quiet = quiet-write (λ s v. withValue t (writtenBytes t h) s v) (writtenBytes t h) (act y) q
 
-  -- and where it closes nothing either, all stays
+  -- and where it closes nothing either, all of these stay
   module _ (c : closes y ≡ false) where
     pub got-quiet : gotAfter (h ▹ y) ≡ gotAfter h
     unfolding gotAfter gotBy
@@ -72,10 +71,3 @@ module _ (t : List ℕ) (h : Seq Scheduled) (y : Scheduled) (q : isQuiet (act y)
 
     pub rewritten-quiet : rewrittenAfter t (h ▹ y) ≡ rewrittenAfter t h
     rewritten-quiet = rw (rewritten-on t h y c, quiet-hits (openAfter t h)) (or-false (rewrittenAfter t h))
-
-    pub pending-quiet : (f : ℕ) → pendingAfter t (h ▹ y) f ≡ pendingAfter t h f
-    pending-quiet f = pending-kept t h y f (quiet-writes f) (unwiped-open-on t h y f c)
-
-    pub bytes-quiet : bytesAfter t (h ▹ y) ≡ bytesAfter t h
-    unfolding bytesAfter
-    bytes-quiet = rw (keeps-unsent y c, quiet-write (λ s v. withValue t (bytesAfter t h) s v) (bytesAfter t h) (act y) q)

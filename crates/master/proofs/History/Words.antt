@@ -15,15 +15,12 @@ use Rattle.master.specs.declared.state.Opened.{Opened}
 use Rattle.master.specs.declared.state.Opened.the-variants.{Nothing, Frame, Request, Response}
 use Rattle.master.specs.declared.state.Message.{Message}
 use Rattle.master.specs.declared.state.Message.the-variants as message
-use Rattle.master.specs.declared.byte.ByteAnswer.{ByteAnswer}
-use Rattle.master.specs.declared.byte.ByteAnswer.the-variants as byte
-use Rattle.master.specs.Answers.{successful}
 use Rattle.master.specs.Fits.{isSending, lentFits}
 use Rattle.master.specs.Transfers.{isOpen, openIdentifier, openModel, openProtected, openChecksum, frameData}
 use Rattle.master.specs.Plan.{waits, entryDue}
 use Rattle.master.specs.Message.{sendingAt, moved, messageSent, messageFailed, told}
 use Rattle.master.specs.Schedule.{Slot, none, unscheduled, entry, slotOf, slotDue}
-use Rattle.master.specs.History.{isSuccess, isTransfer, dataOf, checksumOver}
+use Rattle.master.specs.History.{isTransfer, dataOf, checksumOver}
 use Rattle.master.specs.Answering.{sentOn, messageClosed, protectedOf}
 use Rattle.master.specs.Replies.{isBeingSent, messageReply, lentRight}
 use Rattle.master.proofs.Tests.{never}
@@ -36,13 +33,6 @@ is-transfer Nothing = refl
 is-transfer (Frame f) = refl
 is-transfer Request = refl
 is-transfer Response = refl
-
-pub is-success : (a : ByteAnswer) → successful a ≡ isSuccess a
-is-success byte.More = refl
-is-success byte.Success = refl
-is-success byte.Failure = refl
-is-success byte.Response = refl
-is-success (byte.Refused r) = refl
 
 pub protected-of : (t : List ℕ) (o : Opened) → isOpen o ≡ true → openProtected t o ≡ protectedOf t o
 unfolding isOpen openProtected openIdentifier protectedOf
