@@ -1,10 +1,12 @@
 -- Document 01, "The cluster table": where each word stands, and every field by its name. A word that is not there reads as 0.
 use Prim.Native.Nat.{ℕ, zero, suc, _+_, _*_}
-use mathlib.Core.Bool.{Bool}
+use mathlib.Core.Bool.{Bool, cond}
 use mathlib.Core.List.{List}
 use lib.Dec.{eqb}
 use lib.ListN.{getD}
 use Rattle.wire.specs.Bits.{bit}
+use Rattle.wire.specs.declared.checksum.Model.{Model}
+use Rattle.wire.specs.declared.checksum.Model.the-variants.{Classic, Enhanced}
 
 unfoldable pub word : List ℕ → ℕ → ℕ
 word t i = getD t i 0
@@ -59,6 +61,10 @@ published t f = bit (flags t f) 0
 -- "bit 1: classic"
 unfoldable pub classic : List ℕ → ℕ → Bool
 classic t f = bit (flags t f) 1
+
+-- the checksum of a frame, "as the table says"
+abbrev pub frameModel : List ℕ → ℕ → Model
+frameModel t f = cond (classic t f) Classic Enhanced
 
 -- ---- a signal: frame number, kind, offset, width, start value
 

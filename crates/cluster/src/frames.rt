@@ -5,13 +5,14 @@ use crate::marks::is_marked;
 use crate::table::due;
 use crate::table::frame_at;
 use crate::table::word;
+use wire::checksum::Model;
 ghost use mathlib.Core.Path.{_≡_};
 ghost use Prim.Native.Nat.{_*_, _≤_};
 ghost use Rattle.cluster.specs.Check.{faults};
 ghost use Rattle.cluster.specs.Right.{frameRight, records};
 ghost use Rattle.cluster.specs.Seen.{frameSeen, leading};
 ghost use Rattle.cluster.specs.Table.{frameAt, frameCount, identifier as identifierOf, frameLength, flags as flagsOf};
-ghost use Rattle.cluster.specs.Table.{published as publishedOf, classic as classicOf};
+ghost use Rattle.cluster.specs.Table.{published as publishedOf, classic as classicOf, frameModel};
 
 // How many frames there are.
 pub fn count(t: &[u16]) -> u16
@@ -53,6 +54,17 @@ pub fn classic(t: &[u16], f: u16) -> bool
     ensures { λ r. ⌜ r ≡ classicOf (now (t .entry)) f ⌝ }
 {
     flags(t, f) / 2 % 2 == 1
+}
+
+// Which checksum a frame has.
+pub fn model(t: &[u16], f: u16) -> Model
+    ensures { λ r. ⌜ r ≡ frameModel (now (t .entry)) f ⌝ }
+{
+    if classic(t, f) {
+        Model::Classic
+    } else {
+        Model::Enhanced
+    }
 }
 
 // Whether the master publishes a frame, of which the number may be that of a missing word.

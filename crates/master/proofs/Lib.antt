@@ -30,5 +30,4 @@ pub mod StatusLaws
 pub mod Tests
 pub mod Verdicts
 pub mod Walks
-pub mod Wire
 pub mod WriteLaws

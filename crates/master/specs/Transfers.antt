@@ -6,8 +6,8 @@ use lib.ListN.{length, take, drop, replicate}
 use Rattle.wire.specs.Identifier.{protectedByte}
 use Rattle.wire.specs.Checksum.{checksumByte}
 use Rattle.wire.specs.declared.checksum.Model.{Model}
-use Rattle.wire.specs.declared.checksum.Model.the-variants.{Classic, Enhanced}
-use Rattle.cluster.specs.Table.{identifier, frameLength, published, classic}
+use Rattle.wire.specs.declared.checksum.Model.the-variants.{Classic}
+use Rattle.cluster.specs.Table.{identifier, frameLength, published, frameModel}
 use Rattle.transport.specs.Cutting.{cutOf}
 use Rattle.master.specs.declared.state.Opened.{Opened}
 use Rattle.master.specs.declared.state.Opened.the-variants.{Nothing, Frame, Request, Response}
@@ -39,7 +39,7 @@ openIdentifier t Response = 61
 -- "Identifiers 60 to 63 use classic (000); the others as the table says."
 unfoldable pub openModel : List ℕ → Opened → Model
 openModel t Nothing = Classic
-openModel t (Frame f) = cond (classic t f) Classic Enhanced
+openModel t (Frame f) = frameModel t f
 openModel t Request = Classic
 openModel t Response = Classic
 

@@ -66,7 +66,7 @@ impl Opened {
     {
         match self {
             Opened::Nothing => Model::Classic,
-            Opened::Frame(f) => frame_model(t, f),
+            Opened::Frame(f) => frames::model(t, f),
             Opened::Request => Model::Classic,
             Opened::Response => Model::Classic,
         }
@@ -132,17 +132,6 @@ impl Opened {
             Opened::Request => request_copy(t, message, lent),
             Opened::Response => [255; 9],
         }
-    }
-}
-
-// The checksum model of a frame.
-fn frame_model(t: &[u16], f: u16) -> Model
-    ensures { λ r. ⌜ r ≡ openModel (now (t .entry)) (Frame f) ⌝ }
-{
-    if frames::classic(t, f) {
-        Model::Classic
-    } else {
-        Model::Enhanced
     }
 }
 

@@ -1,3 +1,4 @@
+pub mod AnswerLaws
 pub mod Below
 pub mod ChecksumLaws
 pub mod IdentifierLaws

@@ -1,7 +1,7 @@
 -- `opened::checksum_byte` meets its contract.
 use borrow.Author.Needs.{needs}
 use mathlib.Core.Path.{_∙_, sym}
-use Rattle.master.proofs.Wire.{not-summed, summed}
+use Rattle.wire.proofs.AnswerLaws.{not-summed, summed}
 use Rattle.master.proofs.opened.checksum_byte.Statement.{statement}
 use Rattle.master.proofs.opened.checksum_byte.Tie as tie
 

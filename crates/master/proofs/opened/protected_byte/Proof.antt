@@ -1,7 +1,7 @@
 -- `opened::protected_byte` meets its contract.
 use borrow.Author.Needs.{needs}
 use mathlib.Core.Path.{_∙_, sym}
-use Rattle.master.proofs.Wire.{built, not-refused}
+use Rattle.wire.proofs.AnswerLaws.{built, not-refused}
 use Rattle.master.proofs.opened.protected_byte.Statement.{statement}
 use Rattle.master.proofs.opened.protected_byte.Tie as tie
 

@@ -10,8 +10,8 @@ enum-told c = search needs
 enum-known-self : tie.Need-enum-known-self
 enum-known-self c = search needs
 
-frame-model-requires : tie.Need-frame-model-requires
-frame-model-requires c κs = search needs
+model-requires : tie.Need-model-requires
+model-requires c κs = search needs
 
 enum-told-2 : tie.Need-enum-told-2
 enum-told-2 c = search needs
@@ -25,7 +25,7 @@ returns c = rw (c .enum-told .given .1)
 
 returns-2 : tie.Need-returns-2
 unfolding openModel
-returns-2 c = rw (c .before .before .self .given .1, c .frame-model .ensures)
+returns-2 c = rw (c .before .before .self .given .1, c .model .ensures)
 
 returns-3 : tie.Need-returns-3
 unfolding openModel
@@ -41,7 +41,7 @@ model-spec =
     (tie.spec
     enum-told
     enum-known-self
-    frame-model-requires
+    model-requires
     enum-told-2
     enum-told-3
     returns

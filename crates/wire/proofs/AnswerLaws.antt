@@ -1,4 +1,4 @@
--- The calls of `wire` give a byte where the identifier and the number of bytes are right.
+-- The calls of this crate give a byte where the identifier and the number of bytes are right.
 use Prim.Native.Nat.{ℕ, _≤_, _<_}
 use mathlib.Core.Path.{_≡_, sym, _∙_}
 use mathlib.Core.List.{List}

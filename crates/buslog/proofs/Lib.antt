@@ -1,0 +1,14 @@
+pub mod Decimal
+pub mod Digits
+pub mod Example
+pub mod Fronting
+pub mod Judging
+pub mod Keeping
+pub mod PairLaws
+pub mod PartLaws
+pub mod Reading
+pub mod ReportLaws
+pub mod Reporting
+pub mod Rows
+pub mod Splitting
+pub mod VerdictLaws

@@ -1,0 +1,210 @@
+-- A log may be reported in parts, cut anywhere: the report is that of the whole log.
+use Prim.Native.Nat.{ℕ, zero, suc, _+_, _-_, _*_, _<_, _≤_}
+use mathlib.Core.Path.{_≡_, refl, sym, ap, _∙_}
+use mathlib.Core.Bool.{Bool, true, false, not, _&&_, true≢false}
+use mathlib.Core.List.{List, [], _∷_, _++_, append-nil, append-assoc}
+use native.Mathlib.Nat.{add-assoc}
+use native.Mathlib.Omega.{arith}
+use lib.Dec.{eqb}
+use lib.ListN.{length, take, drop, length-append, length-take}
+use lib.Seq.{take-all, take-take, take-append-le, length-take-le, append-snoc, drop-append-add, drop-drop}
+use Rattle.wire.proofs.Tests.{and-right, whether}
+use Rattle.signal.proofs.Inside.{order}
+use Rattle.buslog.specs.Verdict.{lineVerdict}
+use Rattle.buslog.specs.Row.{header, rowOf}
+use Rattle.buslog.specs.Lines.{wholeLines, unfinished, lastLine, logLines}
+use Rattle.buslog.specs.Report.{rowsOf, charactersOf, keptLength, keptOf, reportOf, inParts, joined}
+use Rattle.buslog.proofs.Reading.{too-long}
+use Rattle.buslog.proofs.Judging.{no-bytes}
+use Rattle.buslog.proofs.Rows.{rows-append}
+use Rattle.buslog.proofs.Splitting.{line-ends, line-goes-on}
+
+-- ---- one character of a text
+
+module _ (c : ℕ) (rest begun : List ℕ) where
+  rest-ends : eqb c 10 ≡ true → unfinished begun (c ∷ rest) ≡ unfinished [] rest
+  unfolding unfinished
+  rest-ends e = rw e
+
+  rest-goes-on : eqb c 10 ≡ false → unfinished begun (c ∷ rest) ≡ unfinished (begun ++ (c ∷ [])) rest
+  unfolding unfinished
+  rest-goes-on e = rw e
+
+-- ---- a text and more behind it
+
+lines-append : (begun a b : List ℕ) → wholeLines begun (a ++ b) ≡ wholeLines begun a ++ wholeLines (unfinished begun a) b
+unfolding wholeLines unfinished
+lines-append begun [] b = refl
+lines-append begun (c ∷ a) b =
+    whether (eqb c 10)
+    (λ e. rw (line-ends c (a ++ b) begun e, line-ends c a begun e, rest-ends c a begun e, lines-append [] a b))
+    (λ e. rw (line-goes-on c (a ++ b) begun e, line-goes-on c a begun e, rest-goes-on c a begun e) (lines-append (begun ++ (c ∷ [])) a b))
+
+rest-append : (begun a b : List ℕ) → unfinished begun (a ++ b) ≡ unfinished (unfinished begun a) b
+unfolding unfinished
+rest-append begun [] b = refl
+rest-append begun (c ∷ a) b =
+    whether (eqb c 10)
+    (λ e. rw (rest-ends c (a ++ b) begun e, rest-ends c a begun e) (rest-append [] a b))
+    (λ e. rw (rest-goes-on c (a ++ b) begun e, rest-goes-on c a begun e) (rest-append (begun ++ (c ∷ [])) a b))
+
+-- what stands behind the whole lines is the line that is not whole
+left-over : (begun text : List ℕ) → drop (charactersOf (wholeLines begun text)) (begun ++ text) ≡ unfinished begun text
+unfolding wholeLines unfinished charactersOf
+left-over begun [] = append-nil begun
+left-over begun (c ∷ text) =
+    whether (eqb c 10)
+    (λ e.
+    let k : length begun + 1 + charactersOf (wholeLines [] text) ≡ length begun + suc (charactersOf (wholeLines [] text)) = omega arith in
+    rw (e, k, drop-append-add begun (c ∷ text) (suc (charactersOf (wholeLines [] text)))) (left-over [] text))
+    (λ e. rw (e, ← append-snoc begun c text) (left-over (begun ++ (c ∷ [])) text))
+
+-- ---- a line with no newline in it
+
+plain : List ℕ → Bool
+plain [] = true
+plain (c ∷ u) = not (eqb c 10) && plain u
+
+module _ (c : ℕ) (u : List ℕ) (h : plain (c ∷ u) ≡ true) where
+  no-newline : eqb c 10 ≡ false
+  unfolding plain
+  no-newline = whether (eqb c 10) (λ e. absurd (true≢false (sym h ∙ rw e))) (λ e. e)
+
+  plain-on : plain u ≡ true
+  unfolding plain
+  plain-on = and-right (not (eqb c 10)) (plain u) h
+
+plain-lines : (begun u b : List ℕ) → plain u ≡ true → wholeLines begun (u ++ b) ≡ wholeLines (begun ++ u) b
+plain-lines begun [] b h = rw append-nil
+plain-lines begun (c ∷ u) b h =
+    line-goes-on c (u ++ b) begun (no-newline c u h)
+    ∙ plain-lines (begun ++ (c ∷ [])) u b (plain-on c u h)
+    ∙ rw (append-snoc begun c u)
+
+plain-rest : (begun u b : List ℕ) → plain u ≡ true → unfinished begun (u ++ b) ≡ unfinished (begun ++ u) b
+plain-rest begun [] b h = rw append-nil
+plain-rest begun (c ∷ u) b h =
+    rest-goes-on c (u ++ b) begun (no-newline c u h)
+    ∙ plain-rest (begun ++ (c ∷ [])) u b (plain-on c u h)
+    ∙ rw (append-snoc begun c u)
+
+plain-take : (k : ℕ) (u : List ℕ) → plain u ≡ true → plain (take k u) ≡ true
+unfolding plain
+plain-take zero u h = refl
+plain-take (suc k) [] h = refl
+plain-take (suc k) (c ∷ u) h = rw (no-newline c u h) (plain-take k u (plain-on c u h))
+
+plain-snoc : (u : List ℕ) (c : ℕ) → plain u ≡ true → eqb c 10 ≡ false → plain (u ++ (c ∷ [])) ≡ true
+unfolding plain
+plain-snoc [] c h e = rw e
+plain-snoc (b ∷ u) c h e = rw (no-newline b u h) (plain-snoc u c (plain-on b u h) e)
+
+plain-unfinished : (begun text : List ℕ) → plain begun ≡ true → plain (unfinished begun text) ≡ true
+unfolding plain unfinished
+plain-unfinished begun [] h = h
+plain-unfinished begun (c ∷ text) h =
+    whether (eqb c 10)
+    (λ e. rw e (plain-unfinished [] text refl))
+    (λ e. rw e (plain-unfinished (begun ++ (c ∷ [])) text (plain-snoc begun c h e)))
+
+-- ---- two lines that begin alike: they are the same, or both are too long for pairs
+
+Alike : List ℕ → List ℕ → Type 0
+Alike u v = take keptLength u ≡ take keptLength v
+
+either : {A : Type 0} (u v : List ℕ) → Alike u v → (u ≡ v → A) → (keptLength ≤ length u → keptLength ≤ length v → A) → A
+unfolding Alike
+either u v e same both =
+    order (length u) keptLength
+    (λ a. order (length v) keptLength
+    (λ b. same (sym (take-all keptLength u (omega arith)) ∙ e ∙ take-all keptLength v (omega arith)))
+    (λ b. absurd (omega (arith, ap length (sym (take-all keptLength u (omega arith)) ∙ e), length-take-le keptLength v b))))
+    (λ a. order (length v) keptLength
+    (λ b. absurd (omega (arith, ap length (e ∙ take-all keptLength v (omega arith)), length-take-le keptLength u a)))
+    (λ b. both a b))
+
+alike-more : (u v x : List ℕ) → Alike u v → Alike (u ++ x) (v ++ x)
+unfolding Alike
+alike-more u v x e =
+    either u v e
+    (λ s. rw s)
+    (λ a b. rw (take-append-le keptLength u x a, take-append-le keptLength v x b) e)
+
+alike-cut : (u : List ℕ) → Alike (take keptLength u) u
+unfolding Alike
+alike-cut u = take-take keptLength keptLength u (omega arith)
+
+module _ (t : List ℕ) where
+  alike-verdict : (u v : List ℕ) → Alike u v → lineVerdict t u ≡ lineVerdict t v
+  alike-verdict u v e =
+      either u v e
+      (λ s. rw s)
+      (λ a b. sym (no-bytes t u (too-long u (omega arith))) ∙ no-bytes t v (too-long v (omega arith)))
+
+  alike-rows : (n : ℕ) (u v c : List ℕ) → Alike u v → rowsOf t n (wholeLines u c) ≡ rowsOf t n (wholeLines v c)
+  unfolding wholeLines rowsOf
+  alike-rows n u v [] a = refl
+  alike-rows n u v (x ∷ c) a =
+      whether (eqb x 10)
+      (λ e. rw (e, alike-verdict u v a))
+      (λ e. rw e (alike-rows n (u ++ (x ∷ [])) (v ++ (x ∷ [])) c (alike-more u v (x ∷ []) a)))
+
+  alike-last : (n : ℕ) (u v : List ℕ) → Alike u v → rowsOf t n (lastLine u) ≡ rowsOf t n (lastLine v)
+  unfolding lastLine rowsOf Alike
+  alike-last n [] [] a = refl
+  alike-last n [] (y ∷ v) a = absurd (omega (arith, ap length a))
+  alike-last n (x ∷ u) [] a = absurd (omega (arith, ap length a))
+  alike-last n (x ∷ u) (y ∷ v) a = rw (alike-verdict (x ∷ u) (y ∷ v) a)
+
+alike-count : (u v c : List ℕ) → length (wholeLines u c) ≡ length (wholeLines v c)
+unfolding wholeLines
+alike-count u v [] = refl
+alike-count u v (x ∷ c) =
+    whether (eqb x 10)
+    (λ e. rw e)
+    (λ e. rw e (alike-count (u ++ (x ∷ [])) (v ++ (x ∷ [])) c))
+
+alike-rest : (u v c : List ℕ) → Alike u v → Alike (unfinished u c) (unfinished v c)
+unfolding unfinished Alike
+alike-rest u v [] a = a
+alike-rest u v (x ∷ c) a =
+    whether (eqb x 10)
+    (λ e. rw e)
+    (λ e. rw e (alike-rest (u ++ (x ∷ [])) (v ++ (x ∷ [])) c (alike-more u v (x ∷ []) a)))
+
+-- ---- the report in parts
+
+-- what is kept of a part behind a line of which only the first characters were kept
+kept-rest : (u part : List ℕ) → plain u ≡ true
+    → keptOf (take keptLength u ++ part) (charactersOf (wholeLines [] (take keptLength u ++ part))) ≡ take keptLength (unfinished u part)
+unfolding keptOf Alike
+kept-rest u part h =
+    rw (left-over [] (take keptLength u ++ part), plain-rest [] (take keptLength u) part (plain-take keptLength u h))
+    (alike-rest (take keptLength u) u part (alike-cut u))
+
+module _ (t : List ℕ) where
+  -- where u is what came of the current line
+  parts-from : (n : ℕ) (u : List ℕ) (parts : List (List ℕ)) → plain u ≡ true
+      → inParts t n (take keptLength u) parts ≡ rowsOf t n (wholeLines u (joined parts) ++ lastLine (unfinished u (joined parts)))
+  unfolding inParts joined wholeLines unfinished
+  parts-from n u [] h = alike-last t n (take keptLength u) u (alike-cut u)
+  parts-from n u (part ∷ parts) h =
+      let m : ℕ = n + length (wholeLines u part) in
+      let r : List ℕ = unfinished u part in
+      rw (
+        kept-rest u part h,
+        plain-lines [] (take keptLength u) part (plain-take keptLength u h),
+        alike-rows t n (take keptLength u) u part (alike-cut u),
+        alike-count (take keptLength u) u part,
+        parts-from m r parts (plain-unfinished u part h),
+        lines-append u part (joined parts),
+        rest-append u part (joined parts),
+      )
+      (sym
+      (rw (append-assoc (wholeLines u part) (wholeLines r (joined parts)) (lastLine (unfinished r (joined parts))))
+      (rows-append t n (wholeLines u part) (wholeLines r (joined parts) ++ lastLine (unfinished r (joined parts))))))
+
+  -- a log that comes in parts, cut anywhere, gives the report of the whole log
+  pub parts-joined : (parts : List (List ℕ)) → header ++ inParts t 1 [] parts ≡ reportOf t (joined parts)
+  unfolding reportOf logLines plain
+  parts-joined parts = ap (λ (rows : List ℕ). header ++ rows) (parts-from 1 [] parts refl)

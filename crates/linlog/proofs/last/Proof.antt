@@ -1,0 +1,48 @@
+-- `linlog::last` is safe.
+use mathlib.Core.Path.{_∙_}
+use native.Mathlib.Omega.{arith}
+use borrow.Author.Needs.{needs}
+use lib.ListN.{length-set}
+use Rattle.linlog.proofs.last.Statement.{statement}
+use Rattle.linlog.proofs.last.Tie as tie
+
+ended-requires : tie.Need-ended-requires
+ended-requires c κs = search needs
+
+returns : tie.Need-returns
+returns c = search needs
+
+slice-write-text : tie.Need-slice-write-text
+slice-write-text c = search needs
+
+add-whole-lines : tie.Need-add-whole-lines
+add-whole-lines c = search needs
+
+whole-lines-requires : tie.Need-whole-lines-requires
+whole-lines-requires c κs = simp length-set (omega arith)
+
+ended-requires-2 : tie.Need-ended-requires-2
+ended-requires-2 c κs = search needs
+
+same-length : tie.Need-same-length
+same-length c = c .before .before .before .before .before .whole-lines .kept .1 .0 ∙ simp length-set
+
+same-length-2 : tie.Need-same-length-2
+same-length-2 c = search needs
+
+returns-2 : tie.Need-returns-2
+returns-2 c = search needs
+
+pub last-spec : {M : Type 1} → statement M
+last-spec =
+    tie.close
+    (tie.spec
+    ended-requires
+    returns
+    slice-write-text
+    add-whole-lines
+    whole-lines-requires
+    ended-requires-2
+    same-length
+    same-length-2
+    returns-2)

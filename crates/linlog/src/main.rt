@@ -1,0 +1,97 @@
+// The log program of document 01: judges the frames of a log on standard input, one a line, and prints a row for each.
+use buslog::report;
+use libc::STDIN_FILENO;
+use libc::STDOUT_FILENO;
+ghost use Prim.Native.Nat.{_≤_, _<_};
+ghost use lib.ListN.{length};
+
+// The built-in table: one frame, identifier 2, length 1, enhanced.
+const TABLE: [u16; 7] = [1, 0, 0, 0, 2, 1, 0];
+
+// How far the log was reported.
+struct Log {
+    // The number of the next line.
+    number: u64,
+    // The characters of a line that is not whole yet, at the front of the text.
+    kept: usize,
+    goes_on: bool,
+}
+
+fn main() {
+    io::write_all(STDOUT_FILENO, b"line id verdict\n");
+    let mut text = [0u8; 16384];
+    // The rows of so much text always fit: 33 characters for each of its characters.
+    let mut out = [0u8; 540672];
+    run(&mut text, &mut out);
+}
+
+// Nothing says that the input ends, so the turns count down from a number that no run uses up.
+fn run(text: &mut [u8], out: &mut [u8]) {
+    let mut log = Log {
+        number: 1,
+        kept: 0,
+        goes_on: true,
+    };
+    let mut turns = u64::MAX;
+    while turns > 0 && log.goes_on {
+        log = part(log, text, out);
+        turns -= 1;
+    }
+}
+
+// Reads once, and reports the lines that are whole then.
+fn part(log: Log, text: &mut [u8], out: &mut [u8]) -> Log {
+    let kept = log.kept;
+    if text.len() <= kept {
+        return ended(log);
+    }
+    let more = read_some(&mut text[kept..]);
+    if more == 0 {
+        return last(log, text, out);
+    }
+    whole_lines(log, text, kept + more, out)
+}
+
+// Reads once, and tells how many characters came.
+fn read_some(text: &mut [u8]) -> usize
+    ensures { λ r. ⌜ r ≤ length (now (text .entry)) ⌝ }
+{
+    let got = libc::read(STDIN_FILENO, text);
+    io::count(got, text)
+}
+
+// Reports a last line that lacks its newline, if there is one.
+fn last(log: Log, text: &mut [u8], out: &mut [u8]) -> Log
+    requires { ⌜ log .kept < length (now text) ⌝ }
+{
+    let kept = log.kept;
+    if kept == 0 {
+        return ended(log);
+    }
+    text[kept] = b'\n';
+    ended(whole_lines(log, text, kept + 1, out))
+}
+
+// Reports the whole lines of the first n characters, writes their rows, and keeps what is left.
+fn whole_lines(log: Log, text: &mut [u8], n: usize, out: &mut [u8]) -> Log
+    requires { ⌜ n ≤ length (now text) ⌝ }
+{
+    let table = TABLE;
+    let written = report::write(&table, log.number, &text[..n], out);
+    let put = written.put;
+    let goes_on = io::write_all(STDOUT_FILENO, &out[..put]);
+    Log {
+        number: std::num::wrapping_add_u64(log.number, written.lines as u64),
+        kept: report::keep(&mut text[..n], written.used),
+        goes_on,
+    }
+}
+
+// The log with nothing more to come.
+fn ended(log: Log) -> Log {
+    Log {
+        number: log.number,
+        kept: 0,
+        goes_on: false,
+    }
+}
