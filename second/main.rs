@@ -1,72 +1,71 @@
-//! The second program: reads the bench script and answers it, one line each.
+//! The second program: answers the bench script, or judges a log where its argument is `log`.
 
+mod bench;
 mod cluster;
+mod diagnostic;
+mod fields;
+mod lines;
+mod log;
+mod master;
+mod reassembler;
+mod refusal;
 mod script;
+mod signals;
+mod state;
+mod table;
+mod transfer;
 mod wire;
 
-use std::io::{self, BufRead, BufReader, BufWriter, ErrorKind, Write};
+use bench::Bench;
+use std::io::{self, BufRead, BufReader, BufWriter, Write};
+use std::process::ExitCode;
 
 /// The size of the input and the output buffer in bytes.
 const BUFFER_SIZE: usize = 65_536;
 
-/// The bytes kept of a line: one above the limit shows that a line is too long.
+/// The bytes kept of a script's line: one above the limit shows that a line is too long.
 const KEPT_MAX: usize = script::LINE_LENGTH_MAX + 1;
 
-fn main() -> io::Result<()> {
+fn main() -> ExitCode {
     let input = BufReader::with_capacity(BUFFER_SIZE, io::stdin().lock());
     let output = BufWriter::with_capacity(BUFFER_SIZE, io::stdout().lock());
-    run(input, output)
+    let arguments: Vec<String> = std::env::args().skip(1).collect();
+    let arguments: Vec<&str> = arguments.iter().map(String::as_str).collect();
+    let result = match arguments.as_slice() {
+        [] => run_script(input, output),
+        ["log"] => log::report(input, output),
+        _ => Err(io::Error::other("usage: second [log]")),
+    };
+    match result {
+        Ok(()) => ExitCode::SUCCESS,
+        Err(error) => {
+            eprintln!("second: {error}");
+            ExitCode::FAILURE
+        }
+    }
 }
 
-/// Answers every line of the input.
-fn run(mut input: impl BufRead, mut output: impl Write) -> io::Result<()> {
+/// Answers every line of a script.
+fn run_script(mut input: impl BufRead, mut output: impl Write) -> io::Result<()> {
+    let mut bench = Bench::new();
     let mut line = Vec::with_capacity(KEPT_MAX);
-    while read_line(&mut input, &mut line)? {
-        if let Some(text) = script::answer(&line) {
-            output.write_all(text.as_bytes())?;
-            output.write_all(b"\n")?;
+    while lines::read_line(&mut input, &mut line, KEPT_MAX)? {
+        if let Some(text) = bench.answer(&line) {
+            writeln!(output, "{text}")?;
         }
     }
     output.flush()
-}
-
-/// Reads one line without its newline and tells whether there was one.
-///
-/// Only its first `KEPT_MAX` bytes are kept.
-fn read_line(input: &mut impl BufRead, line: &mut Vec<u8>) -> io::Result<bool> {
-    line.clear();
-    let mut begun = false;
-    loop {
-        let available = match input.fill_buf() {
-            Ok(bytes) => bytes,
-            Err(error) if error.kind() == ErrorKind::Interrupted => continue,
-            Err(error) => return Err(error),
-        };
-        if available.is_empty() {
-            return Ok(begun);
-        }
-        begun = true;
-        let newline = available.iter().position(|&byte| byte == b'\n');
-        let part = &available[..newline.unwrap_or(available.len())];
-        let room = KEPT_MAX - line.len();
-        line.extend_from_slice(&part[..part.len().min(room)]);
-        let used = part.len() + usize::from(newline.is_some());
-        input.consume(used);
-        if newline.is_some() {
-            return Ok(true);
-        }
-    }
 }
 
 #[cfg(test)]
 mod tests {
     use super::*;
 
-    /// Gives the whole output for an input, the same for each size of the input buffer.
+    /// Gives the whole output for a script, the same for each size of the input buffer.
     fn output_of(input: &[u8]) -> String {
         let mut outputs = [1, 2, 3, 7, 65_536].map(|size| {
             let mut output = Vec::new();
-            run(BufReader::with_capacity(size, input), &mut output).unwrap();
+            run_script(BufReader::with_capacity(size, input), &mut output).unwrap();
             String::from_utf8(output).unwrap()
         });
         outputs.sort();
@@ -88,8 +87,14 @@ mod tests {
 
     #[test]
     fn several_lines() {
-        let input = b"# comment\npid 0\n\nid 43\ntick\nchecksum 2 enhanced 00\n\0\xFF";
+        let input = b"# comment\npid 0\n\nid 43\ntock\nchecksum 2 enhanced 00\n\0\xFF";
         assert_eq!(output_of(input), "pid 80\nrefused 11\n?\nchecksum BD\n?\n");
+    }
+
+    #[test]
+    fn the_bench_is_kept_from_line_to_line() {
+        let input = b"room 2\ntake 01 02 08 09 00 00 00 00\ntable 0 0 0 0\ntaken";
+        assert_eq!(output_of(input), "room 2\ndone 2\naccepted\ntaken 08 09\n");
     }
 
     #[test]

@@ -1,11 +1,6 @@
 //! Protected identifiers and checksums, by "Bytes on the bus" of document 01.
 
-/// A refusal with its number from "Refusal numbers" of document 01.
-#[derive(Debug, Clone, Copy, PartialEq, Eq)]
-pub struct Refusal(pub u8);
-
-/// Refuses an identifier above 63, a data length that is not 1 to 8, and wrong parity.
-const BYTES_REFUSED: Refusal = Refusal(11);
+use crate::refusal::Refusal;
 
 /// The largest frame identifier.
 const IDENTIFIER_MAX: u8 = 63;
@@ -43,7 +38,7 @@ fn parity_1(identifier: u8) -> u8 {
 /// Builds the protected identifier: the identifier, P0 as bit 6 and P1 as bit 7.
 pub fn protected_identifier(identifier: u8) -> Result<u8, Refusal> {
     if identifier > IDENTIFIER_MAX {
-        return Err(BYTES_REFUSED);
+        return Err(Refusal::BytesRefused);
     }
     Ok(identifier | (parity_0(identifier) << 6) | (parity_1(identifier) << 7))
 }
@@ -56,7 +51,7 @@ pub fn frame_identifier(protected: u8) -> Result<u8, Refusal> {
     if parity_right {
         Ok(identifier)
     } else {
-        Err(BYTES_REFUSED)
+        Err(Refusal::BytesRefused)
     }
 }
 
@@ -74,7 +69,7 @@ fn add(sum: u16, byte: u8) -> u16 {
 pub fn checksum(identifier: u8, model: ChecksumModel, data: &[u8]) -> Result<u8, Refusal> {
     let protected = protected_identifier(identifier)?;
     if data.is_empty() || data.len() > DATA_LENGTH_MAX {
-        return Err(BYTES_REFUSED);
+        return Err(Refusal::BytesRefused);
     }
     let mut sum = 0;
     if model == ChecksumModel::Enhanced && identifier < FIRST_CLASSIC_ONLY {
@@ -110,11 +105,35 @@ mod tests {
     }
 
     #[test]
+    fn identifiers_of_annex_a() {
+        #[rustfmt::skip]
+        let table = [
+            0x80, 0xC1, 0x42, 0x03, 0xC4, 0x85, 0x06, 0x47,
+            0x08, 0x49, 0xCA, 0x8B, 0x4C, 0x0D, 0x8E, 0xCF,
+            0x50, 0x11, 0x92, 0xD3, 0x14, 0x55, 0xD6, 0x97,
+            0xD8, 0x99, 0x1A, 0x5B, 0x9C, 0xDD, 0x5E, 0x1F,
+            0x20, 0x61, 0xE2, 0xA3, 0x64, 0x25, 0xA6, 0xE7,
+            0xA8, 0xE9, 0x6A, 0x2B, 0xEC, 0xAD, 0x2E, 0x6F,
+            0xF0, 0xB1, 0x32, 0x73, 0xB4, 0xF5, 0x76, 0x37,
+            0x78, 0x39, 0xBA, 0xFB, 0x3C, 0x7D, 0xFE, 0xBF,
+        ];
+        for (identifier, protected) in (0..).zip(table) {
+            assert_eq!(protected_identifier(identifier), Ok(protected));
+        }
+    }
+
+    #[test]
     fn identifiers_above_63_are_refused() {
         for identifier in 64..=255 {
-            assert_eq!(protected_identifier(identifier), Err(Refusal(11)));
-            assert_eq!(checksum(identifier, Classic, &[0]), Err(Refusal(11)));
-            assert_eq!(checksum(identifier, Enhanced, &[0]), Err(Refusal(11)));
+            assert_eq!(protected_identifier(identifier), Err(Refusal::BytesRefused));
+            assert_eq!(
+                checksum(identifier, Classic, &[0]),
+                Err(Refusal::BytesRefused)
+            );
+            assert_eq!(
+                checksum(identifier, Enhanced, &[0]),
+                Err(Refusal::BytesRefused)
+            );
         }
     }
 
@@ -122,7 +141,7 @@ mod tests {
     fn a_byte_is_read_exactly_when_it_can_be_built() {
         for byte in 0..=255 {
             let built = (0..=63).find(|&n| protected_identifier(n) == Ok(byte));
-            assert_eq!(frame_identifier(byte), built.ok_or(Refusal(11)));
+            assert_eq!(frame_identifier(byte), built.ok_or(Refusal::BytesRefused));
         }
     }
 
@@ -159,7 +178,7 @@ mod tests {
             assert_eq!(checksum(7, Classic, &data).is_ok(), taken);
             assert_eq!(checksum(7, Enhanced, &data).is_ok(), taken);
         }
-        assert_eq!(checksum(7, Classic, &[]), Err(Refusal(11)));
-        assert_eq!(checksum(7, Enhanced, &[0; 9]), Err(Refusal(11)));
+        assert_eq!(checksum(7, Classic, &[]), Err(Refusal::BytesRefused));
+        assert_eq!(checksum(7, Enhanced, &[0; 9]), Err(Refusal::BytesRefused));
     }
 }

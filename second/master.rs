@@ -1,0 +1,204 @@
+//! The master's calls and their refusals, by document 01.
+//!
+//! Each call tests its refusals in the order of their numbers, before it changes anything.
+
+use crate::diagnostic::{Message, MESSAGE_LENGTH_MAX};
+use crate::refusal::Refusal;
+use crate::signals;
+use crate::state::{Came, State, Ticked};
+use crate::table::{Signal, SignalKind, Table, FRAME_BYTES};
+
+/// The master: its table, its frame bytes and its state.
+pub struct Master {
+    /// The table, or the refusal that its check gave.
+    pub table: Result<Table, Refusal>,
+    /// The frame bytes.
+    pub buffer: Vec<u8>,
+    pub state: State,
+}
+
+impl Master {
+    /// Gives a master with a table of no words.
+    pub fn new() -> Master {
+        Master {
+            table: Table::read(&[]),
+            buffer: Vec::new(),
+            state: State::fresh(),
+        }
+    }
+
+    /// Tests refusal 1.
+    fn checked_table(&self) -> Result<&Table, Refusal> {
+        self.table.as_ref().map_err(|refusal| *refusal)
+    }
+
+    /// Tests refusals 1 and 2.
+    fn table_with_buffer(&self) -> Result<&Table, Refusal> {
+        let table = self.checked_table()?;
+        if self.buffer.len() != table.buffer_length() {
+            return Err(Refusal::BufferLength);
+        }
+        Ok(table)
+    }
+
+    /// Fills the frame bytes with the start values and makes the state fresh.
+    pub fn fresh(&mut self) -> Result<(), Refusal> {
+        self.buffer = self.table_with_buffer()?.fresh_buffer();
+        self.state = State::fresh();
+        Ok(())
+    }
+
+    /// Tests refusals 1, 2, 4 and gives a signal.
+    fn signal(&self, number: usize) -> Result<&Signal, Refusal> {
+        let table = self.table_with_buffer()?;
+        table.signals.get(number).ok_or(Refusal::NotThere)
+    }
+
+    /// Tests refusals 1, 2, 4, 6 and gives a signal to read.
+    fn readable(&self, number: usize, kind: SignalKind) -> Result<&Signal, Refusal> {
+        let signal = self.signal(number)?;
+        if signal.kind != kind {
+            return Err(Refusal::OtherKind);
+        }
+        Ok(signal)
+    }
+
+    /// Tests refusals 1, 2, 4, 5, 6 and gives a signal to write.
+    fn writable(&self, number: usize, kind: SignalKind) -> Result<Signal, Refusal> {
+        let signal = self.signal(number)?;
+        if !self.checked_table()?.frames[signal.frame].published {
+            return Err(Refusal::NotPublished);
+        }
+        self.readable(number, kind).cloned()
+    }
+
+    /// Gives the frame bytes of a signal's frame.
+    fn data_of(&self, signal: &Signal) -> &[u8] {
+        &self.buffer[FRAME_BYTES * signal.frame..FRAME_BYTES * (signal.frame + 1)]
+    }
+
+    /// Gives the frame bytes of a signal's frame to change them.
+    fn data_of_mut(&mut self, signal: &Signal) -> &mut [u8] {
+        &mut self.buffer[FRAME_BYTES * signal.frame..FRAME_BYTES * (signal.frame + 1)]
+    }
+
+    /// Writes a scalar.
+    pub fn write(&mut self, number: usize, value: u32) -> Result<(), Refusal> {
+        let signal = self.writable(number, SignalKind::Scalar)?;
+        if value >= 1 << signal.width {
+            return Err(Refusal::ValueOutOfRange);
+        }
+        let data = self.data_of_mut(&signal);
+        signals::put_scalar(data, signal.offset, signal.width, value as u16);
+        self.state.mark_written(signal.frame);
+        Ok(())
+    }
+
+    /// Writes an array.
+    pub fn write_array(&mut self, number: usize, bytes: &[u8]) -> Result<(), Refusal> {
+        let signal = self.writable(number, SignalKind::Array)?;
+        if bytes.len() * 8 != signal.width {
+            return Err(Refusal::ValueOutOfRange);
+        }
+        signals::put_array(self.data_of_mut(&signal), signal.offset, bytes);
+        self.state.mark_written(signal.frame);
+        Ok(())
+    }
+
+    /// Reads a scalar.
+    pub fn read(&self, number: usize) -> Result<u16, Refusal> {
+        let signal = self.readable(number, SignalKind::Scalar)?;
+        let data = self.data_of(signal);
+        Ok(signals::scalar(data, signal.offset, signal.width))
+    }
+
+    /// Reads an array.
+    pub fn read_array(&self, number: usize) -> Result<Vec<u8>, Refusal> {
+        let signal = self.readable(number, SignalKind::Array)?;
+        let data = self.data_of(signal);
+        Ok(signals::array(data, signal.offset, signal.width))
+    }
+
+    /// Asks for a schedule.
+    pub fn select(&mut self, schedule: usize) -> Result<(), Refusal> {
+        if schedule >= self.checked_table()?.schedules.len() {
+            return Err(Refusal::NotThere);
+        }
+        self.state.requested = Some(schedule);
+        Ok(())
+    }
+
+    /// Does one tick with this message lent.
+    pub fn tick(&mut self, lent: &[u8]) -> Result<Ticked, Refusal> {
+        self.table_with_buffer()?;
+        if let Message::Sending { length, .. } = self.state.message {
+            if lent.len() != length {
+                return Err(Refusal::StateMisfit);
+            }
+        }
+        let table = self.table.as_ref().map_err(|refusal| *refusal)?;
+        Ok(self.state.tick(table, &self.buffer, lent))
+    }
+
+    /// Takes a byte from the bus.
+    pub fn byte_in(&mut self, byte: u8) -> Result<Came, Refusal> {
+        self.table_with_buffer()?;
+        let open = self.state.transfer.clone();
+        let transfer = open.ok_or(Refusal::NoTransferOpen)?;
+        Ok(self.state.byte_in(transfer, &mut self.buffer, byte))
+    }
+
+    /// Gives the status word and sets it to 0.
+    pub fn read_status(&mut self) -> Result<u16, Refusal> {
+        self.checked_table()?;
+        Ok(std::mem::take(&mut self.state.status).word())
+    }
+
+    /// Begins to send a message of this length.
+    pub fn send(&mut self, nad: u8, length: u32) -> Result<(), Refusal> {
+        self.checked_table()?;
+        let length = length as usize;
+        if length == 0 || length > MESSAGE_LENGTH_MAX {
+            return Err(Refusal::MessageLength);
+        }
+        if matches!(self.state.message, Message::Sending { .. }) {
+            return Err(Refusal::MessageBeingSent);
+        }
+        let sent = 0;
+        self.state.message = Message::Sending { nad, length, sent };
+        Ok(())
+    }
+
+    /// Gives the state of the message.
+    pub fn message(&self) -> Result<&Message, Refusal> {
+        self.checked_table()?;
+        Ok(&self.state.message)
+    }
+
+    /// Gives the number of pending members ahead of a frame in its list.
+    pub fn ahead(&self, frame: usize) -> Result<usize, Refusal> {
+        let table = self.checked_table()?;
+        let mut lists = table.lists.iter();
+        let list = lists.find(|list| list.contains(&frame));
+        let members = list.ok_or(Refusal::NotThere)?.iter();
+        let ahead = members.take_while(|&&member| member != frame);
+        Ok(ahead.filter(|&&member| self.state.pending[member]).count())
+    }
+
+    /// Gives the numbers of the pending frames.
+    pub fn pending(&self) -> Vec<usize> {
+        let frames = 0..self.state.pending.len();
+        frames.filter(|&frame| self.state.pending[frame]).collect()
+    }
+
+    /// Gives the bytes that the master sends in the open transfer.
+    pub fn out(&self) -> Vec<u8> {
+        let transfer = self.state.transfer.as_ref();
+        let out = transfer.and_then(|transfer| transfer.out.clone());
+        out.unwrap_or_default()
+    }
+}
+
+#[cfg(test)]
+#[path = "master_tests.rs"]
+mod tests;

@@ -1,0 +1,248 @@
+//! The records of a cluster table that the check accepts, by "The cluster table" of document 01.
+
+use crate::cluster::{self, ENTRIES, FRAMES, MEMBERS, SIGNALS};
+use crate::refusal::Refusal;
+use crate::signals;
+use crate::wire::ChecksumModel;
+
+/// The bytes of the frame buffer that belong to one frame.
+pub const FRAME_BYTES: usize = 8;
+
+/// One frame.
+#[derive(Debug, Clone, PartialEq, Eq)]
+pub struct Frame {
+    pub identifier: u8,
+    /// The number of data bytes.
+    pub length: usize,
+    /// The master publishes it; otherwise the master receives it.
+    pub published: bool,
+    pub model: ChecksumModel,
+}
+
+/// The kind of a signal.
+#[derive(Debug, Clone, Copy, PartialEq, Eq)]
+pub enum SignalKind {
+    Scalar,
+    Array,
+}
+
+/// One signal.
+#[derive(Debug, Clone, PartialEq, Eq)]
+pub struct Signal {
+    /// The number of its frame.
+    pub frame: usize,
+    pub kind: SignalKind,
+    /// Its first data bit.
+    pub offset: usize,
+    /// Its number of data bits.
+    pub width: usize,
+    /// The value of a scalar, or of each byte of an array, after fresh.
+    pub start: u16,
+}
+
+/// What a slot opens.
+#[derive(Debug, Clone, Copy, PartialEq, Eq)]
+pub enum Slot {
+    /// This frame.
+    Frame(usize),
+    /// The first pending member of this list.
+    List(usize),
+    /// The master request frame.
+    Request,
+    /// The slave response frame.
+    Response,
+}
+
+/// One entry of a schedule.
+#[derive(Debug, Clone, PartialEq, Eq)]
+pub struct Entry {
+    pub slot: Slot,
+    /// The ticks until the next slot.
+    pub delay: u16,
+}
+
+/// An accepted cluster table.
+#[derive(Debug, Clone, PartialEq, Eq)]
+pub struct Table {
+    pub frames: Vec<Frame>,
+    pub signals: Vec<Signal>,
+    /// The frame numbers of each list's members, in priority order.
+    pub lists: Vec<Vec<usize>>,
+    /// The entries of each schedule.
+    pub schedules: Vec<Vec<Entry>>,
+}
+
+impl Table {
+    /// Checks the words and reads the records of a right table.
+    pub fn read(words: &[u16]) -> Result<Table, Refusal> {
+        if let Some(position) = cluster::first_fault(words) {
+            return Err(Refusal::TableFault(position));
+        }
+        let (frames, _) = cluster::records::<3>(words, FRAMES);
+        let (signals, _) = cluster::records::<5>(words, SIGNALS);
+        let (members, _) = cluster::records::<2>(words, MEMBERS);
+        let (entries, _) = cluster::records::<4>(words, ENTRIES);
+        let members = members.iter().map(|&[list, frame]| (list, frame.into()));
+        let entries = entries.iter().map(|entry| (entry[0], read_entry(entry)));
+        Ok(Table {
+            frames: frames.iter().map(read_frame).collect(),
+            signals: signals.iter().map(read_signal).collect(),
+            lists: grouped(members),
+            schedules: grouped(entries),
+        })
+    }
+
+    /// Gives the number of bytes of the frame buffer.
+    pub fn buffer_length(&self) -> usize {
+        FRAME_BYTES * self.frames.len()
+    }
+
+    /// Gives the frame bytes that a fresh call leaves.
+    pub fn fresh_buffer(&self) -> Vec<u8> {
+        let mut buffer = vec![255; self.buffer_length()];
+        for signal in &self.signals {
+            let data = &mut buffer[FRAME_BYTES * signal.frame..FRAME_BYTES * (signal.frame + 1)];
+            match signal.kind {
+                SignalKind::Scalar => {
+                    signals::put_scalar(data, signal.offset, signal.width, signal.start);
+                }
+                SignalKind::Array => {
+                    let bytes = vec![signal.start as u8; signal.width / 8];
+                    signals::put_array(data, signal.offset, &bytes);
+                }
+            }
+        }
+        buffer
+    }
+}
+
+/// Reads a frame record.
+fn read_frame(&[identifier, length, flags]: &[u16; 3]) -> Frame {
+    Frame {
+        identifier: identifier as u8,
+        length: length.into(),
+        published: flags & 1 != 0,
+        model: if flags & 2 != 0 {
+            ChecksumModel::Classic
+        } else {
+            ChecksumModel::Enhanced
+        },
+    }
+}
+
+/// Reads a signal record.
+fn read_signal(&[frame, kind, offset, width, start]: &[u16; 5]) -> Signal {
+    Signal {
+        frame: frame.into(),
+        kind: if kind == 0 {
+            SignalKind::Scalar
+        } else {
+            SignalKind::Array
+        },
+        offset: offset.into(),
+        width: width.into(),
+        start,
+    }
+}
+
+/// Reads an entry record.
+fn read_entry(&[_, kind, target, delay]: &[u16; 4]) -> Entry {
+    let slot = match kind {
+        0 => Slot::Frame(target.into()),
+        1 => Slot::List(target.into()),
+        2 => Slot::Request,
+        _ => Slot::Response,
+    };
+    Entry { slot, delay }
+}
+
+/// Groups items by their number, which is first 0, then that of the item before or one more.
+fn grouped<T>(items: impl Iterator<Item = (u16, T)>) -> Vec<Vec<T>> {
+    let mut groups: Vec<Vec<T>> = Vec::new();
+    for (number, item) in items {
+        if groups.len() == usize::from(number) {
+            groups.push(Vec::new());
+        }
+        groups[usize::from(number)].push(item);
+    }
+    groups
+}
+
+#[cfg(test)]
+mod tests {
+    use super::*;
+
+    #[test]
+    fn a_fault_is_refused_with_its_position() {
+        assert_eq!(Table::read(&[]), Err(Refusal::TableFault(0)));
+        assert_eq!(Table::read(&[0, 0, 0, 0, 9]), Err(Refusal::TableFault(4)));
+    }
+
+    #[test]
+    fn frames_and_signals() {
+        let words = [
+            2, 2, 0, 0, 7, 8, 1, 9, 2, 2, 1, 0, 3, 12, 4095, 0, 1, 16, 48, 9,
+        ];
+        let table = Table::read(&words).unwrap();
+        assert_eq!(table.buffer_length(), 16);
+        assert_eq!(table.frames[0].identifier, 7);
+        assert_eq!(table.frames[0].length, 8);
+        assert_eq!(
+            table
+                .frames
+                .iter()
+                .map(|frame| frame.published)
+                .collect::<Vec<_>>(),
+            [true, false]
+        );
+        assert_eq!(table.frames[0].model, ChecksumModel::Enhanced);
+        assert_eq!(table.frames[1].model, ChecksumModel::Classic);
+        let scalar = Signal {
+            frame: 1,
+            kind: SignalKind::Scalar,
+            offset: 3,
+            width: 12,
+            start: 4095,
+        };
+        assert_eq!(table.signals[0], scalar);
+        assert_eq!(table.signals[1].kind, SignalKind::Array);
+    }
+
+    #[test]
+    fn lists_and_schedules() {
+        let mut words = vec![3, 0, 3, 5];
+        words.extend([1, 1, 1, 2, 1, 3, 3, 1, 1]);
+        words.extend([0, 2, 0, 0, 1, 1]);
+        words.extend([
+            0, 0, 1, 5, 0, 1, 1, 6, 1, 2, 0, 7, 2, 3, 0, 65_535, 2, 1, 0, 1,
+        ]);
+        let table = Table::read(&words).unwrap();
+        assert_eq!(table.lists, [vec![2, 0], vec![1]]);
+        let slots: Vec<Vec<(Slot, u16)>> = table
+            .schedules
+            .iter()
+            .map(|schedule| {
+                schedule
+                    .iter()
+                    .map(|entry| (entry.slot, entry.delay))
+                    .collect()
+            })
+            .collect();
+        assert_eq!(slots[0], [(Slot::Frame(1), 5), (Slot::List(1), 6)]);
+        assert_eq!(slots[1], [(Slot::Request, 7)]);
+        assert_eq!(slots[2], [(Slot::Response, 65_535), (Slot::List(0), 1)]);
+        assert_eq!(slots.len(), 3);
+    }
+
+    #[test]
+    fn fresh_bytes() {
+        let words = [
+            2, 3, 0, 0, 7, 8, 1, 9, 2, 2, 1, 0, 3, 12, 0, 0, 1, 16, 32, 9, 0, 0, 63, 1, 0,
+        ];
+        let table = Table::read(&words).unwrap();
+        let mut expected = vec![255, 255, 9, 9, 9, 9, 255, 127];
+        expected.extend([0b0000_0111, 0b1000_0000, 255, 255, 255, 255, 255, 255]);
+        assert_eq!(table.fresh_buffer(), expected);
+        assert_eq!(Table::read(&[0, 0, 0, 0]).unwrap().fresh_buffer(), []);
+    }
+}
