@@ -1,12 +1,12 @@
 -- The decimal digits of a number, put down from the last one on.
-use Prim.Native.Nat.{ℕ, zero, suc, _+_, _-_, _*_, _/_, _%_, _^_, _<_, _≤_}
-use mathlib.Core.Path.{_≡_, refl, sym, ap, _∙_}
+use Prim.Native.Nat.{ℕ, zero, suc, _+_, _-_, _/_, _%_, _^_, _<_, _≤_}
+use mathlib.Core.Path.{_≡_, refl, sym, _∙_}
 use mathlib.Core.List.{List, [], _∷_, _++_}
 use native.Mathlib.Nat.{mod-eq-of-lt, pow-suc, div-lt-iff-lt-mul}
 use native.Mathlib.Numerals.{sub-one}
 use native.Mathlib.Omega.{arith}
-use borrow.Author.Tests.{eq-eqb, ne-eqb}
-use lib.ListN.{length, getD, take, drop, set, length-set, length-drop}
+use borrow.Author.Tests.{ne-eqb}
+use lib.ListN.{length, take, drop, set, length-set, length-drop}
 use lib.Seq.{drop-cons, getD-set-same, drop-set-lt, append-snoc, take-all}
 use Rattle.buslog.specs.Row.{digitsOf, decimalOf}
 

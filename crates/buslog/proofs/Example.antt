@@ -8,15 +8,13 @@ use Rattle.wire.specs.Identifier.{p0, p1, protectedByte, rightParity}
 use Rattle.wire.specs.Checksum.{withCarry, sum, covered, modelOf, inverted, checksumByte}
 use Rattle.cluster.specs.Lists.{firstFrom}
 use Rattle.cluster.specs.Table as table
+use Rattle.cluster.specs.Right.{anyBelow, headerRight, identifierRight, lengthRight, flagsRight, frameRight, records, wordsRight}
+use Rattle.cluster.specs.Check.{faults, surplus, judged, RightTable}
 use Rattle.buslog.specs.Pairs.{digitOf, isPair, pairByte, arePairs, pairBytes, lineBytes, digitCharacter, pairOf}
 use Rattle.buslog.specs.Verdict.{frameWith, knownVerdict, identifierVerdict, bytesVerdict, lineVerdict}
 use Rattle.buslog.specs.Row.{digitsOf, decimalOf, shownIdentifier, word, rowOf, header}
 use Rattle.buslog.specs.Lines.{wholeLines, unfinished, lastLine, logLines}
-use Rattle.buslog.specs.Report.{rowsOf, reportOf}
-
--- one frame, identifier 2, length 1, enhanced
-abbrev pub builtIn : List ℕ
-builtIn = 1 ∷ 0 ∷ 0 ∷ 0 ∷ 2 ∷ 1 ∷ 0 ∷ []
+use Rattle.buslog.specs.Report.{builtIn, rowsOf, reportOf}
 
 -- `42 00 BD`, `42 00 BC`, `43 00 BD`, the last newline missing
 abbrev pub log : List ℕ
@@ -33,5 +31,10 @@ rows =
     ∷ 51 ∷ 32 ∷ 45 ∷ 45 ∷ 32 ∷ 112 ∷ 97 ∷ 114 ∷ 105 ∷ 116 ∷ 121 ∷ 10 ∷ []
 
 pub example : reportOf builtIn log ≡ header ++ rows
-unfolding reportOf logLines wholeLines unfinished lastLine rowsOf rowOf decimalOf digitsOf shownIdentifier word pairOf digitCharacter lineVerdict bytesVerdict identifierVerdict knownVerdict frameWith lineBytes pairBytes arePairs pairByte isPair digitOf rightParity p0 p1 xor protectedByte bit withCarry sum covered modelOf inverted checksumByte firstFrom table.word table.frameCount table.identifier table.frameLength table.flags table.classic header
+unfolding builtIn reportOf logLines wholeLines unfinished lastLine rowsOf rowOf decimalOf digitsOf shownIdentifier word pairOf digitCharacter lineVerdict bytesVerdict identifierVerdict knownVerdict frameWith lineBytes pairBytes arePairs pairByte isPair digitOf rightParity p0 p1 xor protectedByte bit withCarry sum covered modelOf inverted checksumByte firstFrom table.word table.frameCount table.identifier table.frameLength table.flags table.classic header
 example = refl
+
+-- the built-in table is accepted, so no part of a log is refused under it
+pub built-in-right : RightTable builtIn
+unfolding builtIn judged faults surplus wordsRight records headerRight frameRight identifierRight lengthRight flagsRight anyBelow table.word table.frameCount table.signalCount table.memberCount table.entryCount table.size table.identifier table.frameLength table.flags
+built-in-right = refl

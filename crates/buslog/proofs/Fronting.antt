@@ -1,13 +1,12 @@
 -- Characters put at the front of a buffer, one text behind the other.
 use Prim.Native.Nat.{ℕ, _+_, _-_, _≤_}
-use mathlib.Core.Path.{_≡_, refl, sym, ap, _∙_}
-use mathlib.Core.List.{List, [], _∷_, _++_, append-nil, append-assoc}
+use mathlib.Core.Path.{_≡_, sym, ap, _∙_}
+use mathlib.Core.List.{List, [], _++_, append-nil, append-assoc}
 use native.Mathlib.Omega.{arith}
 use borrow.Rule.Slice.PartMut.{putMid}
 use lib.ListN.{length, take, drop, length-append, length-drop, drop-of-length-le}
 use lib.Seq.{take-length, take-all, drop-drop, length-take-le, take-append-seam, drop-append-seam}
-use Rattle.buslog.specs.Report.{fronted}
-use Rattle.buslog.specs.Parts.{Fronts}
+use Rattle.buslog.specs.Report.{fronted, Fronts}
 
 -- a text that was copied to the front
 pub copied : (text before : List ℕ) {r : ℕ} {after : List ℕ} → r ≡ length text → after ≡ take (length text) text ++ drop (length text) before

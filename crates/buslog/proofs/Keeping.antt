@@ -1,20 +1,16 @@
 -- What is kept of a line that is not whole.
-use Prim.Native.Nat.{ℕ, _+_, _-_, _≤_, _<_, min}
-use mathlib.Core.Path.{_≡_, refl, sym, ap, _∙_}
-use mathlib.Core.List.{List, [], _++_}
-use native.Mathlib.Nat.{min-le-left, min-le-right, min-eq-left, min-eq-right}
+use Prim.Native.Nat.{ℕ, _+_, _-_, _≤_, min}
+use mathlib.Core.Path.{_≡_, sym, _∙_}
+use mathlib.Core.List.{List, _++_}
+use native.Mathlib.Nat.{min-le-right, min-eq-left, min-eq-right}
 use native.Mathlib.Omega.{arith}
 use lib.ListN.{length, take, drop, length-take, length-drop}
 use lib.Seq.{take-all, take-at, take-length}
 use Rattle.signal.proofs.Inside.{order}
-use Rattle.buslog.specs.Report.{keptLength, keptOf, fronted}
-use Rattle.buslog.specs.Parts.{Fronts}
+use Rattle.buslog.specs.Report.{keptLength, keptOf, fronted, Fronts}
 
 module _ (text : List ℕ) (from n : ℕ) (e : n ≡ min keptLength (length text - from)) where
-  -- as many characters as there are, and at most 30
-  pub kept-few : n ≤ 30
-  kept-few = omega (arith, e, min-le-left keptLength (length text - from))
-
+  -- no more characters than there are
   pub kept-within : n ≤ length text - from
   kept-within = omega (arith, e, min-le-right keptLength (length text - from))
 

@@ -1,13 +1,13 @@
 -- A line is read exactly where it spells bytes: what is spelled is read back, and what is read was spelled so.
-use Prim.Native.Nat.{ℕ, zero, suc, _+_, _-_, _*_, _/_, _%_, _<_, _≤_}
+use Prim.Native.Nat.{ℕ, zero, suc, _+_, _*_, _/_, _%_, _<_, _≤_}
 use mathlib.Core.Path.{_≡_, refl, sym, ap, _∙_}
 use mathlib.Core.Logic.{_↔_}
-use mathlib.Core.Bool.{Bool, true, false, true≢false, _&&_}
+use mathlib.Core.Bool.{true, false, true≢false, _&&_}
 use mathlib.Core.List.{List, [], _∷_, _++_}
 use native.Mathlib.Omega.{arith}
 use borrow.Author.Tests.{eqb-true, ltb-true, lt-ltb, le-leb, leb-true}
 use lib.Dec.{eqb, ltb, leb}
-use lib.ListN.{length, getD}
+use lib.ListN.{length}
 use Rattle.wire.specs.Bits.{Bytes}
 use Rattle.wire.proofs.Tests.{and-left, and-right, whether}
 use Rattle.buslog.specs.Pairs.{digitOf, isPair, pairByte, arePairs, pairBytes, longestLine, lineBytes, digitCharacter, pairOf, spelled}

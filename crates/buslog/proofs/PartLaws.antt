@@ -1,17 +1,18 @@
 -- A log may be reported in parts, cut anywhere: the report is that of the whole log.
-use Prim.Native.Nat.{ℕ, zero, suc, _+_, _-_, _*_, _<_, _≤_}
+use Prim.Native.Nat.{ℕ, zero, suc, _+_, _≤_}
 use mathlib.Core.Path.{_≡_, refl, sym, ap, _∙_}
 use mathlib.Core.Bool.{Bool, true, false, not, _&&_, true≢false}
 use mathlib.Core.List.{List, [], _∷_, _++_, append-nil, append-assoc}
-use native.Mathlib.Nat.{add-assoc}
 use native.Mathlib.Omega.{arith}
 use lib.Dec.{eqb}
-use lib.ListN.{length, take, drop, length-append, length-take}
-use lib.Seq.{take-all, take-take, take-append-le, length-take-le, append-snoc, drop-append-add, drop-drop}
+use lib.ListN.{length, take, drop}
+use lib.Seq.{take-all, take-take, take-append-le, length-take-le, append-snoc, drop-append-add}
 use Rattle.wire.proofs.Tests.{and-right, whether}
 use Rattle.signal.proofs.Inside.{order}
-use Rattle.buslog.specs.Verdict.{lineVerdict}
-use Rattle.buslog.specs.Row.{header, rowOf}
+use Rattle.buslog.specs.declared.judge.Verdict.the-variants.{Text}
+use Rattle.buslog.specs.Pairs.{arePairs, lineBytes}
+use Rattle.buslog.specs.Verdict.{bytesVerdict, lineVerdict}
+use Rattle.buslog.specs.Row.{header}
 use Rattle.buslog.specs.Lines.{wholeLines, unfinished, lastLine, logLines}
 use Rattle.buslog.specs.Report.{rowsOf, charactersOf, keptLength, keptOf, reportOf, inParts, joined}
 use Rattle.buslog.proofs.Reading.{too-long}
@@ -208,3 +209,37 @@ module _ (t : List ℕ) where
   pub parts-joined : (parts : List (List ℕ)) → header ++ inParts t 1 [] parts ≡ reportOf t (joined parts)
   unfolding reportOf logLines plain
   parts-joined parts = ap (λ (rows : List ℕ). header ++ rows) (parts-from 1 [] parts refl)
+
+-- what is kept of a text is one line: there is no newline in it
+pub kept-line : (text : List ℕ) → wholeLines [] (keptOf text (charactersOf (wholeLines [] text)) ++ (10 ∷ [])) ≡ keptOf text (charactersOf (wholeLines [] text)) ∷ []
+unfolding keptOf wholeLines plain
+kept-line text =
+    rw (left-over [] text)
+    (plain-lines [] (take keptLength (unfinished [] text)) (10 ∷ []) (plain-take keptLength (unfinished [] text) (plain-unfinished [] text refl)))
+
+-- ---- what document 01 says of lines
+
+one-line : (line : List ℕ) → (line ≡ [] → ⊥) → line ∷ [] ≡ lastLine line
+unfolding lastLine
+one-line [] h = absurd (h refl)
+one-line (c ∷ line) h = refl
+
+module _ (t : List ℕ) where
+  -- "An empty line is text"
+  pub empty-line : lineVerdict t [] ≡ Text
+  unfolding lineVerdict lineBytes arePairs bytesVerdict
+  empty-line = refl
+
+  -- "empty input gives the header only"
+  pub empty-input : reportOf t [] ≡ header
+  unfolding reportOf logLines wholeLines unfinished lastLine rowsOf
+  empty-input = append-nil header
+
+  -- "the last newline may be missing": behind a last line that is not empty it changes nothing
+  last-lines : (log : List ℕ) → (unfinished [] log ≡ [] → ⊥) → logLines (log ++ (10 ∷ [])) ≡ logLines log
+  unfolding logLines wholeLines unfinished lastLine
+  last-lines log h = rw (lines-append [] log (10 ∷ []), rest-append [] log (10 ∷ []), append-nil) (ap (λ (ls : List (List ℕ)). wholeLines [] log ++ ls) (one-line (unfinished [] log) h))
+
+  pub last-newline : (log : List ℕ) → (unfinished [] log ≡ [] → ⊥) → reportOf t (log ++ (10 ∷ [])) ≡ reportOf t log
+  unfolding reportOf
+  last-newline log h = rw (last-lines log h)

@@ -1,6 +1,6 @@
 -- Laws of the report in parts.
 use Prim.Native.Nat.{ℕ, zero, suc, _+_, _-_, _*_, _/_, _%_, _^_, _≤_}
-use mathlib.Core.Path.{_≡_, refl, sym, ap, _∙_}
+use mathlib.Core.Path.{_≡_, refl, ap}
 use mathlib.Core.List.{List, [], _∷_, _++_}
 use native.Mathlib.Omega.{arith}
 use borrow.Author.Tests.{le-leb}
@@ -10,7 +10,7 @@ use lib.Seq.{take-length}
 use Rattle.wire.proofs.Tests.{whether}
 use Rattle.cluster.specs.declared.Verdict.{Verdict}
 use Rattle.cluster.specs.declared.Verdict.the-variants as table
-use Rattle.cluster.specs.Check.{judged}
+use Rattle.cluster.specs.Check.{judged, RightTable}
 use Rattle.buslog.specs.declared.report.Written.{Written}
 use Rattle.buslog.specs.declared.judge.Verdict as buslog
 use Rattle.buslog.specs.declared.judge.Verdict.the-variants.{Text, Parity, Unknown, Length, Checksum, Ok}
@@ -87,3 +87,8 @@ module _ (t : List ℕ) where
   all-reported n room text h =
       rw (reportable-all n room (wholeLines [] text) (omega (arith, lines-few [] text)))
       (take-length (wholeLines [] text))
+
+  -- under an accepted table a part with so much room is reported whole
+  pub part-reported : (n room : ℕ) (text : List ℕ) → RightTable t → longestRow * length text ≤ room → reported t n room text ≡ reporting t n (wholeLines [] text)
+  unfolding reported reportedBy
+  part-reported n room text right h = rw (right, all-reported n room text h)

@@ -5,7 +5,7 @@ use mathlib.Core.List.{List, [], _∷_, _++_}
 use native.Mathlib.Nat.{add-zero, zero-add, sub-zero}
 use native.Mathlib.Omega.{arith}
 use borrow.Rule.Slice.PartMut.{putMid}
-use lib.ListN.{length, take, drop, length-append, length-drop, length-take}
+use lib.ListN.{length, take, drop, length-append, length-drop}
 use lib.Seq.{append-snoc, take-append-seam, length-take-le}
 use Rattle.bytes.specs.Bytes.{indexOf, slice}
 use Rattle.refusal.specs.declared.Refusal.{Refusal}
@@ -17,8 +17,8 @@ use Rattle.buslog.specs.declared.report.Written.{Written}
 use Rattle.buslog.specs.Verdict.{lineVerdict}
 use Rattle.buslog.specs.Row.{rowOf, longestRow}
 use Rattle.buslog.specs.Lines.{wholeLines}
-use Rattle.buslog.specs.Report.{rowsOf, charactersOf, reportable, reportedLines, reporting, reportedBy, reported, fronted, Leaves}
-use Rattle.buslog.specs.Parts.{Fronts, soFar}
+use Rattle.buslog.specs.Report.{rowsOf, charactersOf, reportable, reportedLines, reporting, reportedBy, reported, fronted, Leaves, Fronts}
+use Rattle.buslog.specs.Parts.{soFar}
 use Rattle.buslog.proofs.Fronting.{behind, behind-within, fronted-length}
 use Rattle.buslog.proofs.Rows.{row-number, rows-more, has-room, no-room, characters-more}
 use Rattle.buslog.proofs.Splitting.{line-at, none-at}

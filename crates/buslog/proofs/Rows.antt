@@ -1,11 +1,11 @@
 -- The rows of lines, one behind the other.
 use Prim.Native.Nat.{ℕ, suc, _+_, _-_, _%_, _^_, _≤_, _<_}
-use mathlib.Core.Path.{_≡_, refl, sym, ap, _∙_}
+use mathlib.Core.Path.{_≡_, refl, sym, _∙_}
 use mathlib.Core.List.{List, [], _∷_, _++_, append-nil, append-assoc}
 use native.Mathlib.Nat.{add-zero, mod-mod}
 use native.Mathlib.Omega.{arith}
 use borrow.Author.Tests.{le-leb, lt-leb}
-use lib.ListN.{length, take, drop, length-append}
+use lib.ListN.{length}
 use Rattle.buslog.specs.declared.judge.Verdict.{Verdict}
 use Rattle.buslog.specs.Verdict.{lineVerdict}
 use Rattle.buslog.specs.Row.{rowOf, decimalOf, longestRow}

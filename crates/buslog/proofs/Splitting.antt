@@ -1,17 +1,15 @@
 -- The first line of a text, by its first newline.
-use Prim.Native.Nat.{ℕ, zero, suc, _+_, _-_, _<_, _≤_}
+use Prim.Native.Nat.{ℕ, suc, _+_, _-_, _<_, _≤_}
 use mathlib.Core.Path.{_≡_, refl, sym, ap, _∙_}
-use mathlib.Core.Bool.{Bool, true, false}
+use mathlib.Core.Bool.{true, false}
 use mathlib.Core.List.{List, [], _∷_, _++_, append-nil}
-use native.Mathlib.Numerals.{add-one}
 use native.Mathlib.Omega.{arith}
-use borrow.Author.Tests.{eq-eqb, ne-eqb}
 use lib.Dec.{eqb}
 use lib.ListN.{length, take, drop, length-drop}
 use lib.Seq.{append-snoc, drop-drop, take-length}
 use Rattle.bytes.specs.Bytes.{indexOf, indexAfter, slice}
 use Rattle.wire.proofs.Tests.{whether}
-use Rattle.buslog.specs.Lines.{wholeLines, unfinished}
+use Rattle.buslog.specs.Lines.{wholeLines}
 
 module _ (c : ℕ) (rest : List ℕ) where
   at-newline : eqb c 10 ≡ true → indexOf 10 (c ∷ rest) ≡ 0

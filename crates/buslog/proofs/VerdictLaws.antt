@@ -1,20 +1,19 @@
 -- The frames that a log may show with the verdict ok: protected identifier, data and checksum, spelled as pairs.
-use Prim.Native.Nat.{ℕ, zero, suc, _+_, _-_, _%_, _<_, _≤_}
-use mathlib.Core.Path.{_≡_, refl, sym, ap, _∙_}
-use mathlib.Core.Bool.{true, false, _||_}
+use Prim.Native.Nat.{ℕ, zero, suc, _+_, _-_, _<_, _≤_}
+use mathlib.Core.Path.{_≡_, refl, sym, _∙_}
+use mathlib.Core.Bool.{true}
 use mathlib.Core.Logic.{_⊎_, ⊎-elim}
 use mathlib.Core.List.{List, [], _∷_, _++_}
 use native.Mathlib.Omega.{arith}
-use borrow.Author.Tests.{eq-eqb, ne-eqb, eqb-true, lt-ltb}
+use borrow.Author.Tests.{eq-eqb, ne-eqb, eqb-true}
 use lib.Dec.{eqb}
-use lib.ListN.{length, getD, take, length-append}
+use lib.ListN.{length, length-append}
 use lib.Seq.{take-all, take-append-seam, getD-append-seam}
 use Rattle.wire.specs.Bits.{Bytes}
 use Rattle.wire.specs.Identifier.{protectedByte}
 use Rattle.wire.specs.Checksum.{sum, covered, modelOf, checksumByte}
 use Rattle.wire.specs.declared.checksum.Model.{Model}
 use Rattle.wire.specs.declared.checksum.Model.the-variants.{Classic}
-use Rattle.wire.specs.declared.Answer.the-variants.{Byte}
 use Rattle.wire.proofs.ChecksumLaws.{inverted-below}
 use Rattle.wire.proofs.IdentifierLaws.{protected-below, read-built}
 use Rattle.cluster.specs.Check.{RightTable}
@@ -23,7 +22,7 @@ use Rattle.cluster.proofs.FrameLaws.{identifier-below, identifiers-distinct, fr
 use Rattle.cluster.proofs.Searching.{first-holds, first-least}
 use Rattle.buslog.specs.declared.judge.Verdict.the-variants.{Ok}
 use Rattle.buslog.specs.Pairs.{spelled}
-use Rattle.buslog.specs.Verdict.{frameWith, knownVerdict, identifierVerdict, bytesVerdict, lineVerdict}
+use Rattle.buslog.specs.Verdict.{frameWith, knownVerdict, identifierVerdict, lineVerdict}
 use Rattle.buslog.proofs.PairLaws.{spelled-read}
 use Rattle.buslog.proofs.Judging.{right-sum, diagnostic, listed, by-identifier, by-bytes}
 

@@ -10,7 +10,6 @@ use Rattle.buslog.specs.declared.report.Answer.the-variants.{Reported}
 use Rattle.buslog.specs.declared.report.Written.{Written}
 use Rattle.buslog.specs.Pairs.{isPair, pairByte, lineBytes}
 use Rattle.buslog.specs.Row.{shownIdentifier, word}
-use Rattle.buslog.specs.Report.{fronted}
 
 -- the byte of the pair at a place of a line, and 256 where there is no pair
 unfoldable pub pairAt : List ℕ → ℕ → ℕ
@@ -20,11 +19,6 @@ pairAt line at = cond (isPair (getD line at 0) (getD line (at + 1) 0)) (pairByte
 pub record Reads (line : List ℕ) (r : Pairs) : Type 0 where
   pub within : r .count ≤ length (r .bytes)
   pub front : take (r .count) (r .bytes) ≡ lineBytes line
-
--- some characters were put at the front of a buffer, and their number is told
-pub record Fronts (cs before : List ℕ) (r : ℕ) (after : List ℕ) : Type 0 where
-  pub count : r ≡ length cs
-  pub left : after ≡ fronted cs before
 
 -- what stands behind the number in a row
 unfoldable pub verdictText : Verdict → List ℕ

@@ -19,7 +19,11 @@ unfoldable pub rowsOf : List ℕ → ℕ → List (List ℕ) → List ℕ
 rowsOf t n [] = []
 rowsOf t n (l ∷ ls) = rowOf n (lineVerdict t l) ++ rowsOf t (n + 1) ls
 
--- the report of a whole log: a header, and a row for each line, "line number (decimal, from 1)"
+-- "Its built-in table has one frame: identifier 2, length 1, enhanced": flags 0, and no signals, members and entries
+unfoldable pub builtIn : List ℕ
+builtIn = 1 ∷ 0 ∷ 0 ∷ 0 ∷ 2 ∷ 1 ∷ 0 ∷ []
+
+-- the report of a whole log: a header, and a row for each line, "line number (decimal, from 1)"; "empty input gives the header only"
 unfoldable pub reportOf : List ℕ → List ℕ → List ℕ
 reportOf t log = header ++ rowsOf t 1 (logLines log)
 
@@ -45,6 +49,11 @@ charactersOf (l ∷ ls) = length l + 1 + charactersOf ls
 -- some characters at the front of a buffer, and behind them what was there
 unfoldable pub fronted : List ℕ → List ℕ → List ℕ
 fronted cs buffer = cs ++ drop (length cs) buffer
+
+-- some characters were put at the front of a buffer, and their number is told
+pub record Fronts (cs before : List ℕ) (r : ℕ) (after : List ℕ) : Type 0 where
+  pub count : r ≡ length cs
+  pub left : after ≡ fronted cs before
 
 -- what is answered, and what stands at the front of the buffer
 pub record Outcome : Type 0 where

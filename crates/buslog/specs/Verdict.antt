@@ -1,6 +1,6 @@
 -- Document 01, "The log program": "the first verdict that applies: text, parity, unknown, length, checksum, ok".
 use Prim.Native.Nat.{ℕ, _+_, _%_}
-use mathlib.Core.Bool.{Bool, cond, _||_}
+use mathlib.Core.Bool.{cond, _||_}
 use mathlib.Core.List.{List, [], _∷_}
 use lib.Dec.{ltb, eqb}
 use lib.ListN.{length, getD, take}
@@ -39,7 +39,7 @@ identifierVerdict t id rest =
     (knownVerdict id (frameLength t (frameWith t id)) (frameModel t (frameWith t id)) rest)
     (Unknown id))
 
--- the verdict on "protected identifier, data, checksum"; no bytes are those of a text
+-- the verdict on "protected identifier, data, checksum"; no bytes are those of a text, and so "An empty line is text"
 unfoldable pub bytesVerdict : List ℕ → List ℕ → Verdict
 bytesVerdict t [] = Text
 bytesVerdict t (p ∷ rest) = cond (rightParity p) (identifierVerdict t (p % 64) rest) Parity

@@ -5,10 +5,10 @@ use cluster::Verdict;
 use refusal::Refusal;
 ghost use mathlib.Core.Path.{_≡_};
 ghost use lib.ListN.{length};
-ghost use Prim.Native.Nat.{_≤_, _-_, min};
+ghost use Prim.Native.Nat.{_-_, min};
 ghost use Rattle.cluster.specs.Check.{RightTable};
-ghost use Rattle.buslog.specs.Report.{reported, reporting, reportedLines, Leaves, keptOf, keptLength};
-ghost use Rattle.buslog.specs.Parts.{Fronts, soFar};
+ghost use Rattle.buslog.specs.Report.{reported, reporting, reportedLines, Leaves, Fronts, keptOf, keptLength};
+ghost use Rattle.buslog.specs.Parts.{soFar};
 
 // What the report of some text answers.
 pub enum Answer {

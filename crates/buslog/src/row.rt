@@ -6,7 +6,8 @@ ghost use Prim.Native.Nat.{_+_, _≤_, _<_};
 ghost use lib.ListN.{length};
 ghost use Rattle.buslog.specs.Row.{rowOf, decimalOf, longestRow};
 ghost use Rattle.buslog.specs.Pairs.{digitCharacter, pairOf};
-ghost use Rattle.buslog.specs.Parts.{Fronts, verdictText};
+ghost use Rattle.buslog.specs.Report.{Fronts};
+ghost use Rattle.buslog.specs.Parts.{verdictText};
 
 // Puts a row at the front of a buffer and tells its length.
 pub(crate) fn put(out: &mut [u8], number: u64, verdict: Verdict) -> usize

@@ -70,11 +70,12 @@ module _ (t : List ℕ) where
       let l = ltb-true i (length t) (and-left (ltb i (length t)) b (there i b bs h)) in
       omega (arith, faults-length (suc i) bs (further i b bs h) l)
 
-then-first : (v w : Verdict) → then v w ≡ Accepted → v ≡ Accepted
+-- a verdict with a later one behind it accepts: both do
+pub then-first : (v w : Verdict) → then v w ≡ Accepted → v ≡ Accepted
 then-first Accepted w h = refl
 then-first (Refused r) w h = h
 
-then-second : (v w : Verdict) → then v w ≡ Accepted → w ≡ Accepted
+pub then-second : (v w : Verdict) → then v w ≡ Accepted → w ≡ Accepted
 then-second Accepted w h = h
 then-second (Refused r) w h = cc
 

@@ -2,11 +2,13 @@
 use buslog::report;
 use libc::STDIN_FILENO;
 use libc::STDOUT_FILENO;
-ghost use Prim.Native.Nat.{_≤_, _<_};
-ghost use lib.ListN.{length};
-
-// The built-in table: one frame, identifier 2, length 1, enhanced.
-const TABLE: [u16; 7] = [1, 0, 0, 0, 2, 1, 0];
+ghost use mathlib.Core.Path.{_≡_};
+ghost use mathlib.Core.Bool.{false};
+ghost use Prim.Native.Nat.{_≤_, _<_, _*_};
+ghost use lib.ListN.{length, take};
+ghost use Rattle.buslog.specs.Row.{header, longestRow};
+ghost use Rattle.buslog.specs.Report.{builtIn, keptLength};
+ghost use Rattle.linlog.specs.Part.{Reports, Ends, Goes};
 
 // How far the log was reported.
 struct Log {
@@ -18,15 +20,32 @@ struct Log {
 }
 
 fn main() {
-    io::write_all(STDOUT_FILENO, b"line id verdict\n");
+    let header = header();
+    io::write_all(STDOUT_FILENO, &header);
     let mut text = [0u8; 16384];
     // The rows of so much text always fit: 33 characters for each of its characters.
     let mut out = [0u8; 540672];
     run(&mut text, &mut out);
 }
 
+// The first line of the report.
+fn header() -> [u8; 16]
+    ensures { λ r. ⌜ r ≡ header ⌝ }
+{
+    *b"line id verdict\n"
+}
+
+// The built-in table: one frame, identifier 2, length 1, enhanced.
+fn table() -> [u16; 7]
+    ensures { λ r. ⌜ r ≡ builtIn ⌝ }
+{
+    [1, 0, 0, 0, 2, 1, 0]
+}
+
 // Nothing says that the input ends, so the turns count down from a number that no run uses up.
-fn run(text: &mut [u8], out: &mut [u8]) {
+fn run(text: &mut [u8], out: &mut [u8])
+    requires { ⌜ (keptLength < length (now text)) × (longestRow * length (now text) ≤ length (now out)) ⌝ }
+{
     let mut log = Log {
         number: 1,
         kept: 0,
@@ -40,11 +59,11 @@ fn run(text: &mut [u8], out: &mut [u8]) {
 }
 
 // Reads once, and reports the lines that are whole then.
-fn part(log: Log, text: &mut [u8], out: &mut [u8]) -> Log {
+fn part(log: Log, text: &mut [u8], out: &mut [u8]) -> Log
+    requires { ⌜ (log .kept < length (now text)) × (longestRow * length (now text) ≤ length (now out)) ⌝ }
+    ensures { λ r. ⌜ Goes log (take (log .kept) (now (text .entry))) (now (out .entry)) r (now (text .exit)) (now (out .exit)) ⌝ }
+{
     let kept = log.kept;
-    if text.len() <= kept {
-        return ended(log);
-    }
     let more = read_some(&mut text[kept..]);
     if more == 0 {
         return last(log, text, out);
@@ -62,7 +81,8 @@ fn read_some(text: &mut [u8]) -> usize
 
 // Reports a last line that lacks its newline, if there is one.
 fn last(log: Log, text: &mut [u8], out: &mut [u8]) -> Log
-    requires { ⌜ log .kept < length (now text) ⌝ }
+    requires { ⌜ (log .kept < length (now text)) × (longestRow * length (now text) ≤ length (now out)) ⌝ }
+    ensures { λ r. ⌜ Ends log (take (log .kept) (now (text .entry))) (now (out .entry)) r (now (out .exit)) ⌝ }
 {
     let kept = log.kept;
     if kept == 0 {
@@ -74,9 +94,10 @@ fn last(log: Log, text: &mut [u8], out: &mut [u8]) -> Log
 
 // Reports the whole lines of the first n characters, writes their rows, and keeps what is left.
 fn whole_lines(log: Log, text: &mut [u8], n: usize, out: &mut [u8]) -> Log
-    requires { ⌜ n ≤ length (now text) ⌝ }
+    requires { ⌜ (n ≤ length (now text)) × (longestRow * length (now text) ≤ length (now out)) ⌝ }
+    ensures { λ r. ⌜ Reports log (take n (now (text .entry))) (now (out .entry)) r (now (text .exit)) (now (out .exit)) ⌝ }
 {
-    let table = TABLE;
+    let table = table();
     let written = report::write(&table, log.number, &text[..n], out);
     let put = written.put;
     let goes_on = io::write_all(STDOUT_FILENO, &out[..put]);
@@ -88,7 +109,9 @@ fn whole_lines(log: Log, text: &mut [u8], n: usize, out: &mut [u8]) -> Log
 }
 
 // The log with nothing more to come.
-fn ended(log: Log) -> Log {
+fn ended(log: Log) -> Log
+    ensures { λ r. ⌜ (r .kept ≡ 0) × (r .«goes_on» ≡ false) ⌝ }
+{
     Log {
         number: log.number,
         kept: 0,

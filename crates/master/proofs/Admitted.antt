@@ -9,9 +9,10 @@ use borrow.Author.Tests.{ltb-true, leb-true, eqb-true, eq-eqb}
 use Rattle.refusal.specs.Numbers.{buffer, state}
 use Rattle.transport.proofs.Tests.{and-left, and-right}
 use Rattle.cluster.specs.declared.Verdict.{Verdict}
-use Rattle.cluster.specs.declared.Verdict.the-variants.{Accepted, Refused}
+use Rattle.cluster.specs.declared.Verdict.the-variants.{Accepted}
 use Rattle.cluster.specs.Table.{frameCount}
-use Rattle.cluster.specs.Check.{judged, then, RightTable}
+use Rattle.cluster.specs.Check.{judged, RightTable}
+use Rattle.cluster.proofs.Accepted.{then-first, then-second}
 use Rattle.cluster.proofs.FrameLaws.{identifier-below, frame-length-low, frame-length-high}
 use Rattle.master.specs.declared.state.Opened.{Opened}
 use Rattle.master.specs.declared.state.Opened.the-variants.{Nothing, Frame, Request, Response}
@@ -19,15 +20,6 @@ use Rattle.master.specs.declared.state.State.{State}
 use Rattle.master.specs.Transfers.{isOpen, openLength, openIdentifier}
 use Rattle.master.specs.Fits.{entryThere, scheduleThere, frameThere, waitFits, pendingFits, canOpen, countFits, messageFits, stateFits}
 use Rattle.master.specs.Admit.{unless, bufferSize, admitted}
-
--- a verdict with a later one behind it accepts: both do
-pub then-first : (v w : Verdict) → then v w ≡ Accepted → v ≡ Accepted
-then-first Accepted w h = refl
-then-first (Refused r) w h = h
-
-pub then-second : (v w : Verdict) → then v w ≡ Accepted → w ≡ Accepted
-then-second Accepted w h = h
-then-second (Refused r) w h = cc
 
 -- a test in front of a verdict that accepts holds, and what is behind it accepts
 pub unless-test : (b : Bool) (n : ℕ) (v : Verdict) → unless b n v ≡ Accepted → b ≡ true

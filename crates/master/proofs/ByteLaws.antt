@@ -12,6 +12,7 @@ use Rattle.cluster.specs.declared.Verdict.the-variants.{Accepted, Refused}
 use Rattle.transport.specs.Reassembly.{written}
 use Rattle.transport.proofs.WrittenLaws.{written-length, written-before, written-behind}
 use Rattle.transport.proofs.Tests.{order}
+use Rattle.cluster.proofs.Accepted.{then-first}
 use Rattle.master.specs.declared.state.Opened.{Opened}
 use Rattle.master.specs.declared.state.Opened.the-variants.{Nothing, Frame, Request, Response}
 use Rattle.master.specs.declared.state.State.{State}
@@ -24,7 +25,7 @@ use Rattle.master.specs.Fits.{frameThere}
 use Rattle.master.specs.Transfers.{openLength, sends, frameData}
 use Rattle.master.specs.Closing.{failed, pendingSent, succeeded}
 use Rattle.master.specs.Byte.{plain, passed, withByte, sentByte, accepted, taken, byteVerdict, byteOf}
-use Rattle.master.proofs.Admitted.{then-first, admitted-table, admitted-size, admitted-fits, fits-clauses, open-length-high}
+use Rattle.master.proofs.Admitted.{admitted-table, admitted-size, admitted-fits, fits-clauses, open-length-high}
 use Rattle.master.proofs.Answered.{by-verdict}
 use Rattle.master.proofs.Cases.{keeping, taken-by, accepted-state}
 use Rattle.master.proofs.Lengths.{data-inside}

@@ -10,9 +10,10 @@ use Rattle.cluster.specs.declared.Verdict.the-variants.{Accepted}
 use Rattle.cluster.specs.Table.{signalCount}
 use Rattle.cluster.specs.Check.{judged}
 use Rattle.cluster.specs.Fresh.{filled, freshBytes}
+use Rattle.cluster.proofs.Accepted.{then-second}
 use Rattle.master.specs.Admit.{bufferSize}
 use Rattle.master.specs.Start.{freshVerdict}
-use Rattle.master.proofs.Admitted.{then-second, unless-test}
+use Rattle.master.proofs.Admitted.{unless-test}
 
 pub fresh-size : (t : List ℕ) (n : ℕ) → freshVerdict t n ≡ Accepted → n ≡ bufferSize t
 unfolding freshVerdict

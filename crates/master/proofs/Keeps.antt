@@ -11,6 +11,7 @@ use Rattle.cluster.specs.Check.{then, RightTable}
 use Rattle.cluster.specs.Table.{scheduleCount}
 use Rattle.cluster.specs.Values.{valueFits, arrayFits, withScalar, withArray}
 use Rattle.transport.specs.Cutting.{isLength}
+use Rattle.cluster.proofs.Accepted.{then-second}
 use Rattle.master.specs.declared.state.State.{State}
 use Rattle.master.specs.declared.write.Wrote.{Wrote}
 use Rattle.master.specs.declared.select.Chosen.{Chosen}
@@ -27,7 +28,7 @@ use Rattle.master.specs.Status.{withoutStatus, statusOf}
 use Rattle.master.specs.Message.{sendVerdict, sendOf}
 use Rattle.master.specs.Tick.{ticked, tickVerdict, tickOf}
 use Rattle.master.specs.Byte.{withByte, taken, byteVerdict, byteOf}
-use Rattle.master.proofs.Admitted.{then-second, unless-test, Fits, fits-clauses, fits-all}
+use Rattle.master.proofs.Admitted.{unless-test, Fits, fits-clauses, fits-all}
 use Rattle.master.proofs.Cases.{taken-by, accepted-state}
 use Rattle.master.proofs.FitsKept.{marked-fits, asking-fits, status-fits, send-fits, failed-fits, succeeded-fits, passed-fits}
 use Rattle.master.proofs.SlotFits.{ticked-fits}

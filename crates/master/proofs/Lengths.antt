@@ -8,6 +8,7 @@ use lib.ListN.{length, take, length-take}
 use Rattle.cluster.specs.declared.Verdict.{Verdict}
 use Rattle.cluster.specs.Check.{then, RightTable}
 use Rattle.cluster.specs.Values.{valueFits, arrayFits, withScalar, withArray}
+use Rattle.cluster.proofs.Accepted.{then-first}
 use Rattle.cluster.proofs.ValueLaws.{scalar-length, array-length-stays}
 use Rattle.transport.proofs.WrittenLaws.{written-length}
 use Rattle.master.specs.declared.state.Opened.{Opened}
@@ -20,7 +21,7 @@ use Rattle.master.specs.Fits.{frameThere}
 use Rattle.master.specs.Admit.{admitted, bufferSize, Step}
 use Rattle.master.specs.Write.{writable, wrote, writeOf, writeArrayOf}
 use Rattle.master.specs.Byte.{withByte, accepted, taken, byteVerdict, byteOf}
-use Rattle.master.proofs.Admitted.{then-first, admitted-table, admitted-size, admitted-fits, fits-clauses, frame-below, open-length-high}
+use Rattle.master.proofs.Admitted.{admitted-table, admitted-size, admitted-fits, fits-clauses, frame-below, open-length-high}
 use Rattle.master.proofs.Cases.{taken-by}
 use Rattle.master.proofs.Answered.{by-verdict}
 

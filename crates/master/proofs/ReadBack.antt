@@ -14,6 +14,7 @@ use Rattle.cluster.specs.Check.{then, RightTable}
 use Rattle.cluster.specs.Table.{frameCount, frameLength, signalCount, signalWidth, isArray}
 use Rattle.cluster.specs.Fresh.{signalPlace, arrayLength}
 use Rattle.cluster.specs.Values.{touches, valueFits, arrayFits, arrayRead, withScalar, withArray}
+use Rattle.cluster.proofs.Accepted.{then-first, then-second}
 use Rattle.cluster.proofs.FrameLaws.{frame-length-high}
 use Rattle.cluster.proofs.ValueLaws.{scalar-length, array-length-stays, read-scalar, read-array, scalar-untouched, array-untouched, scalar-outside, array-outside}
 use Rattle.transport.proofs.Tests.{order}
@@ -26,7 +27,7 @@ use Rattle.master.specs.Admit.{admitted, bufferSize, Step}
 use Rattle.master.specs.Transfers.{frameData}
 use Rattle.master.specs.Write.{marked, writable, wrote, writeOf, writeArrayOf}
 use Rattle.master.specs.Read.{readVerdict, readOf, readArrayOf}
-use Rattle.master.proofs.Admitted.{then-first, then-second, admitted-table, admitted-size, admitted-fits, admits, fits-clauses, fits-all}
+use Rattle.master.proofs.Admitted.{admitted-table, admitted-size, admitted-fits, admits, fits-clauses, fits-all}
 use Rattle.master.proofs.FitsKept.{marked-fits}
 use Rattle.master.proofs.Answered.{by-verdict, Writable, writable-signal}
 use Rattle.master.proofs.WriteLaws.{scalarVerdict, arrayVerdict, write-accepts, write-state, write-left, write-array-accepts, write-array-state, write-array-left}

@@ -13,6 +13,7 @@ use Rattle.cluster.specs.declared.Verdict.the-variants.{Accepted}
 use Rattle.cluster.specs.Table.{memberCount}
 use Rattle.cluster.specs.Values.{valueFits}
 use Rattle.cluster.specs.Check.{RightTable, then}
+use Rattle.cluster.proofs.Accepted.{then-first, then-second}
 use Rattle.cluster.proofs.ValueLaws.{value-limit}
 use Rattle.master.specs.declared.state.State.{State}
 use Rattle.master.specs.Transfers.{isOpen, openLength, openIdentifier}
@@ -24,7 +25,7 @@ use Rattle.master.specs.Tick.{tickVerdict}
 use Rattle.master.specs.Byte.{byteVerdict}
 use Rattle.master.specs.Ahead.{memberOf, aheadVerdict}
 use Rattle.master.proofs.Answered.{Writable, writable-signal}
-use Rattle.master.proofs.Admitted.{then-first, then-second, unless-test, admits, admitted-table, admitted-size, admitted-fits, Fits, fits-clauses, open-identifier, open-length-low, open-length-high, open-count}
+use Rattle.master.proofs.Admitted.{unless-test, admits, admitted-table, admitted-size, admitted-fits, Fits, fits-clauses, open-identifier, open-length-low, open-length-high, open-count}
 
 -- ---- write
 

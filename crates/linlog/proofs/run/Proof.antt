@@ -1,22 +1,27 @@
--- `linlog::run` is safe and ends: the turns that are left fall.
+-- `linlog::run` is safe and ends: the turns that are left fall, and what is kept has room.
+use Prim.Native.Nat.{_≤_}
 use mathlib.Core.Path.{_≡_, refl, _∙_}
 use native.Mathlib.Omega.{arith}
-use borrow.Author.Needs.{needs}
 use lib.ListN.{length}
+use Rattle.buslog.specs.Report.{keptLength}
+use Rattle.linlog.proofs.PartLaws.{few-kept}
 use Rattle.linlog.proofs.run.Statement.{statement}
 use Rattle.linlog.proofs.run.Tie as tie
 
 abbrev Inv-loop : tie.InvT-loop
-Inv-loop text₀ out₀ log₀ turns₀ text out log turns = (length text ≡ length text₀) × (length out ≡ length out₀)
+Inv-loop text₀ out₀ log₀ turns₀ text out log turns = (length text ≡ length text₀) × (length out ≡ length out₀) × (log .kept ≤ keptLength)
 
 abbrev μ-loop : tie.MeasureT-loop
 μ-loop text₀ out₀ log₀ turns₀ text out log turns = turns
 
 loop-holds : tie.Need-loop-holds Inv-loop μ-loop
-loop-holds c = search needs
+loop-holds c = (refl, refl, omega arith)
 
 part-requires : tie.Need-part-requires Inv-loop μ-loop
-part-requires c κs = tt
+part-requires c κs =
+    let now = c .before .before .before .before .loop .inv in
+    let asked = c .before .before .before .before .before .before .before .pre in
+    (omega (arith, now .0, now .2, asked .0), omega (arith, now .0, now .1, asked .1))
 
 sub-turns : tie.Need-sub-turns Inv-loop μ-loop
 sub-turns c = omega arith
@@ -25,7 +30,10 @@ loop-less : tie.Need-loop-less Inv-loop μ-loop
 loop-less c = omega arith
 
 loop-again : tie.Need-loop-again Inv-loop μ-loop
-loop-again c = (c .before .before .before .before .part .kept .1 .0 ∙ c .before .before .before .before .before .before .before .before .before .loop .inv .0, c .before .before .before .before .part .kept .1 .1 .0 ∙ c .before .before .before .before .before .before .before .before .before .loop .inv .1)
+loop-again c =
+    let now = c .before .before .before .before .before .before .before .before .before .loop .inv in
+    let part = c .before .before .before .before .part in
+    (part .kept .1 .0 ∙ now .0, part .kept .1 .1 .0 ∙ now .1, few-kept _ _ _ _ _ _ (part .ensures))
 
 same-length : tie.Need-same-length Inv-loop μ-loop
 same-length c = c .before .before .loop .inv .0

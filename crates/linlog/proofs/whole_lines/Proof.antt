@@ -1,11 +1,18 @@
--- `linlog::whole_lines` is safe: the rows that were put are within the buffer.
+-- `linlog::whole_lines` does one step of a log in parts.
+use Prim.Native.Nat.{_*_, _≤_}
 use mathlib.Core.Path.{sym}
 use native.Mathlib.Omega.{arith}
 use borrow.Author.Needs.{needs}
+use lib.ListN.{length, take}
 use lib.Seq.{length-take-le}
+use Rattle.buslog.specs.Row.{longestRow}
 use Rattle.buslog.proofs.ReportLaws.{put-within}
+use Rattle.linlog.proofs.PartLaws.{step}
 use Rattle.linlog.proofs.whole_lines.Statement.{statement}
 use Rattle.linlog.proofs.whole_lines.Tie as tie
+
+table-requires : tie.Need-table-requires
+table-requires c κs = search needs
 
 slice-aggregate-write : tie.Need-slice-aggregate-write
 slice-aggregate-write c = search needs
@@ -14,7 +21,7 @@ slice-reshare-prefix-write : tie.Need-slice-reshare-prefix-write
 slice-reshare-prefix-write c = search needs
 
 slice-aggregate-write-2 : tie.Need-slice-aggregate-write-2
-slice-aggregate-write-2 c = sym (length-take-le _ (c .before .before .before .before .args .text .now) (omega arith))
+slice-aggregate-write-2 c = sym (length-take-le _ (c .before .before .before .before .before .args .text .now) (omega (arith, c .before .before .before .before .before .pre .0)))
 
 write-requires : tie.Need-write-requires
 write-requires c κs = search needs
@@ -35,7 +42,7 @@ slice-relend-prefix-keep : tie.Need-slice-relend-prefix-keep
 slice-relend-prefix-keep c = search needs
 
 slice-aggregate-keep : tie.Need-slice-aggregate-keep
-slice-aggregate-keep c = sym (length-take-le _ (c .before .before .before .before .before .before .before .before .before .before .before .before .args .text .now) (omega (arith, c .before .before .before .before .before .before .before .before .before .before .before .before .pre)))
+slice-aggregate-keep c = sym (length-take-le _ (c .before .before .before .before .before .before .before .before .before .before .before .before .before .args .text .now) (omega (arith, c .before .before .before .before .before .before .before .before .before .before .before .before .before .pre .0)))
 
 keep-requires : tie.Need-keep-requires
 keep-requires c κs = search needs
@@ -47,12 +54,18 @@ same-length-2 : tie.Need-same-length-2
 same-length-2 c = search needs
 
 returns : tie.Need-returns
-returns c = search needs
+returns c =
+    let start = c .before .before .before .before .before .before .before .before .before .before .before .before .before .before .before .before in
+    let wrote = c .before .before .before .before .before .before .before .before .before in
+    let few : longestRow * length (take (start .args .n) (start .args .text .now)) ≤ length (start .args .out .now) =
+    omega (arith, length-take-le (start .args .n) (start .args .text .now) (start .pre .0), start .pre .1) in
+    step (start .args .log) _ _ (take (start .args .n) (start .args .text .now)) (start .args .out .now) _ _ few (c .before .before .before .before .before .before .before .before .before .before .before .before .before .table .ensures) (wrote .write .ensures) _ _ (c .before .before .before .before .wrapping-add-u64 .ensures) (c .before .before .keep .ensures)
 
 pub whole-lines-spec : {M : Type 1} → statement M
 whole-lines-spec =
     tie.close
     (tie.spec
+    table-requires
     slice-aggregate-write
     slice-reshare-prefix-write
     slice-aggregate-write-2

@@ -8,6 +8,7 @@ use borrow.Author.Tests.{eq-eqb}
 use lib.ListN.{length, take}
 use Rattle.cluster.specs.declared.Verdict.the-variants as verdict
 use Rattle.cluster.specs.Check.{judged, RightTable}
+use Rattle.cluster.proofs.Accepted.{then-first}
 use Rattle.master.specs.declared.start.FreshAnswer.the-variants as start
 use Rattle.master.specs.declared.start.Started.{Started}
 use Rattle.master.specs.Admit.{bufferSize, Step}
@@ -21,7 +22,7 @@ use Rattle.master.specs.History.{openAfter, gotAfter}
 use Rattle.master.specs.Answering.{dueAfter}
 use Rattle.master.specs.Replies.{Replies}
 use Rattle.master.specs.Claim.{recordOf}
-use Rattle.master.proofs.Admitted.{then-first, fits-clauses, open-count}
+use Rattle.master.proofs.Admitted.{fits-clauses, open-count}
 use Rattle.master.proofs.Answered.{by-verdict}
 use Rattle.master.proofs.History.Along.{Along}
 use Rattle.master.proofs.History.Agrees.{Agrees, agrees-fresh}

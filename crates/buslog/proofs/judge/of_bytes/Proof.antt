@@ -1,5 +1,5 @@
 -- `judge::of_bytes` meets its contract.
-use mathlib.Core.Path.{_≡_, refl, sym, _∙_}
+use mathlib.Core.Path.{refl, sym, _∙_}
 use borrow.Author.Needs.{needs}
 use Rattle.buslog.proofs.Judging.{wrong-parity, by-identifier, read-below}
 use Rattle.buslog.proofs.judge.of_bytes.Statement.{statement}

@@ -4,7 +4,7 @@ use native.Mathlib.Omega.{arith}
 use borrow.Author.Needs.{needs}
 use lib.ListN.{length}
 use Rattle.buslog.proofs.Fronting.{copied}
-use Rattle.buslog.proofs.Keeping.{kept-few, kept-within, kept-length, kept-none, through}
+use Rattle.buslog.proofs.Keeping.{kept-within, kept-length, kept-none, through}
 use Rattle.buslog.proofs.report.keep.Statement.{statement}
 use Rattle.buslog.proofs.report.keep.Tie as tie
 

@@ -1,6 +1,6 @@
 -- `report::rows` meets its contract. The invariant: some lines are reported, and what is left is the rest of the text and of the room.
 use Prim.Native.Nat.{_-_}
-use mathlib.Core.Path.{refl, sym, ap, _∙_}
+use mathlib.Core.Path.{refl}
 use native.Mathlib.Omega.{arith}
 use borrow.Author.Needs.{needs}
 use lib.ListN.{length}

@@ -1,5 +1,5 @@
 -- `row::put` meets its contract: the digits, and behind them the rest of the row.
-use mathlib.Core.Path.{refl, sym, ap, _∙_}
+use mathlib.Core.Path.{refl}
 use native.Mathlib.Omega.{arith}
 use borrow.Author.Needs.{needs}
 use Rattle.buslog.specs.Parts.{verdictText}

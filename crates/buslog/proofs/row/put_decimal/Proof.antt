@@ -1,11 +1,10 @@
 -- `row::put_decimal` meets its contract. The invariant: the digits are those of what is left, and then those that are there.
 use Prim.Native.Nat.{_-_, _^_, _<_, _≤_}
 use mathlib.Core.List.{_++_}
-use mathlib.Core.Path.{_≡_, refl, sym, _∙_}
+use mathlib.Core.Path.{_≡_, refl, _∙_}
 use native.Mathlib.Omega.{arith}
 use borrow.Author.Needs.{needs}
 use lib.ListN.{length, drop, length-set, length-take, length-drop}
-use lib.Seq.{take-all}
 use Rattle.buslog.specs.Row.{digitsOf, decimalOf}
 use Rattle.buslog.proofs.Decimal.{decimal, fewer, shorter, turn, spelled}
 use Rattle.buslog.proofs.Fronting.{copied}

@@ -1,6 +1,6 @@
 -- `row::put_identified` meets its contract.
 use mathlib.Core.List.{_∷_, []}
-use mathlib.Core.Path.{refl, sym, _∙_}
+use mathlib.Core.Path.{refl}
 use borrow.Author.Needs.{needs}
 use Rattle.buslog.specs.Pairs.{pairOf}
 use Rattle.buslog.proofs.Fronting.{copied, behind}

@@ -1,0 +1,125 @@
+-- A part of a log is reported and kept, and a last line is reported: the two equations of `inParts`.
+use Prim.Native.Nat.{ℕ, suc, _+_, _*_, _%_, _^_, _≤_, _<_}
+use mathlib.Core.Path.{_≡_, refl, sym, ap, _∙_}
+use mathlib.Core.Bool.{false}
+use mathlib.Core.List.{List, [], _∷_, _++_, append-assoc}
+use mathlib.Core.Logic.{⊎-elim}
+use native.Mathlib.Omega.{arith}
+use native.Mathlib.Nat.{min-le-left, min-le-right}
+use lib.ListN.{length, take, drop, set, length-take, take-append-drop}
+use lib.Seq.{take-at, take-append-add, set-split, length-take-le}
+use Rattle.buslog.specs.declared.report.Written.{Written}
+use Rattle.buslog.specs.Row.{longestRow}
+use Rattle.buslog.specs.Lines.{wholeLines, lastLine}
+use Rattle.buslog.specs.Report.{builtIn, Outcome, reporting, reported, rowsOf, charactersOf, fronted, Fronts, Leaves, keptLength, keptOf}
+use Rattle.buslog.proofs.Example.{built-in-right}
+use Rattle.buslog.proofs.ReportLaws.{part-reported}
+use Rattle.buslog.proofs.PartLaws.{kept-line}
+use Rattle.linlog.specs.declared.Log.{Log}
+use Rattle.linlog.specs.Part.{lineKept, Reports, Came, ended, Ends, Goes}
+
+-- ---- one part
+
+module _ (log r : Log) (t text out : List ℕ) (w : Written) (after : List ℕ)
+    (room : longestRow * length text ≤ length out) (table : t ≡ builtIn) (leaves : Leaves (reported t (log .number) (length out) text) out w after) where
+  -- all whole lines of the part are reported
+  whole : reported t (log .number) (length out) text ≡ reporting builtIn (log .number) (wholeLines [] text)
+  whole = rw table (part-reported builtIn (log .number) (length out) text built-in-right room)
+
+  handed : w ≡ reporting builtIn (log .number) (wholeLines [] text) .report
+  handed = leaves .handed ∙ ap (λ (o : Outcome). o .report) whole
+
+  used : w .used ≡ charactersOf (wholeLines [] text)
+  unfolding reporting
+  used = ap (λ (v : Written). v .used) handed
+
+  lines : w .lines ≡ length (wholeLines [] text)
+  unfolding reporting
+  lines = ap (λ (v : Written). v .lines) handed
+
+  -- what was kept stands before what is behind the part
+  pub step : (kept rest : List ℕ) → r .number ≡ (log .number + w .lines) % 2 ^ 64 → Fronts (keptOf text (w .used)) text (r .kept) kept
+      → Reports log text out r (kept ++ rest) after
+  unfolding lineKept fronted reporting
+  step kept rest n f =
+      let line : keptOf text (w .used) ≡ lineKept text = rw used in
+      record {
+        rows = leaves .left ∙ rw whole;
+        number = n ∙ rw lines;
+        kept = f .count ∙ ap length line;
+        left =
+            rw (f .left, append-assoc)
+            (take-at (keptOf text (w .used)) (drop (length (keptOf text (w .used))) text ++ rest) (r .kept) (sym (f .count)))
+            ∙ line;
+      }
+
+-- ---- what was kept, and what stands behind it
+
+newline-behind : (text : List ℕ) (k : ℕ) → k < length text → take (k + 1) (set text k 10) ≡ take k text ++ (10 ∷ [])
+newline-behind text k h =
+    rw (set-split text k 10 h)
+    (ap (λ (n : ℕ). take (n + 1) (take k text ++ 10 ∷ drop (suc k) text)) (sym (length-take-le k text (omega arith)))
+    ∙ take-append-add (take k text) (10 ∷ drop (suc k) text) 1)
+
+part-behind : (text : List ℕ) (k m : ℕ) → k ≤ length text → take (k + m) text ≡ take k text ++ take m (drop k text)
+part-behind text k m h =
+    ap (λ (xs : List ℕ). take (k + m) xs) (sym (take-append-drop k text))
+    ∙ ap (λ (n : ℕ). take (n + m) (take k text ++ drop k text)) (sym (length-take-le k text h))
+    ∙ take-append-add (take k text) (drop k text) m
+
+ended-is : (u : List ℕ) → 1 ≤ length u → ended u ≡ u ++ (10 ∷ [])
+unfolding ended
+ended-is [] h = absurd (omega arith)
+ended-is (c ∷ u) h = refl
+
+module _ (log r : Log) (text out : List ℕ) where
+  -- where nothing was kept nothing is reported
+  pub nothing-left : log .kept ≡ 0 → (r .kept ≡ 0) × (r .«goes_on» ≡ false) → Ends log (take (log .kept) text) out r out
+  unfolding ended wholeLines rowsOf fronted
+  nothing-left z e = record { rows = rw z; none-kept = e .0; over = e .1 }
+
+  -- a line that was kept is reported with a newline behind it
+  pub line-left : {next : Log} {textAfter after : List ℕ} → 1 ≤ log .kept → log .kept < length text
+      → Reports log (take (log .kept + 1) (set text (log .kept) 10)) out next textAfter after → (r .kept ≡ 0) × (r .«goes_on» ≡ false)
+      → Ends log (take (log .kept) text) out r after
+  line-left some h reports e =
+      let few : 1 ≤ length (take (log .kept) text) = omega (arith, length-take-le (log .kept) text (omega arith)) in
+      record {
+        rows = reports .rows ∙ rw (newline-behind text (log .kept) h, ended-is (take (log .kept) text) few);
+        none-kept = e .0;
+        over = e .1;
+      }
+
+  -- what was read leaves what was kept
+  pub input-ended : (now : List ℕ) {after : List ℕ} → take (log .kept) now ≡ take (log .kept) text → Ends log (take (log .kept) now) out r after
+      → Ends log (take (log .kept) text) out r after
+  input-ended now same ends = rw same at ends
+
+  -- what was read stands behind what was kept
+  pub part-came : (now : List ℕ) (more : ℕ) {textAfter after : List ℕ} → log .kept ≤ length text → take (log .kept) now ≡ take (log .kept) text
+      → Reports log (take (log .kept + more) now) out r textAfter after → Came log (take (log .kept) text) out r textAfter after
+  part-came now more h same reports =
+      let there : log .kept ≤ length now =
+      omega (arith, length-take-le (log .kept) text h, ap length same, length-take (log .kept) now, min-le-right (log .kept) (length now)) in
+      record { part = take more (drop (log .kept) now); reports = rw (part-behind now (log .kept) more there, same) at reports }
+
+-- at most 30 characters are kept
+pub few-kept : (log : Log) (kept out : List ℕ) (r : Log) (textAfter outAfter : List ℕ) → Goes log kept out r textAfter outAfter → r .kept ≤ keptLength
+unfolding lineKept keptOf
+few-kept log kept out r textAfter outAfter =
+    ⊎-elim
+    (λ came.
+    let text : List ℕ = kept ++ came .part in
+    let rest : List ℕ = drop (charactersOf (wholeLines [] text)) text in
+    omega (arith, came .reports .kept, length-take keptLength rest, min-le-left keptLength (length rest)))
+    (λ ends. omega (arith, ends .none-kept))
+
+-- of a text that was reported, what was kept is the last line of `inParts`
+ended-line : (u : List ℕ) → wholeLines [] (u ++ (10 ∷ [])) ≡ u ∷ [] → wholeLines [] (ended u) ≡ lastLine u
+unfolding ended lastLine wholeLines
+ended-line [] h = refl
+ended-line (c ∷ u) h = h
+
+pub last-line : (text : List ℕ) → wholeLines [] (ended (lineKept text)) ≡ lastLine (lineKept text)
+unfolding lineKept
+last-line text = ended-line (keptOf text (charactersOf (wholeLines [] text))) (kept-line text)

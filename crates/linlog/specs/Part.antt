@@ -1,0 +1,42 @@
+-- A log in parts: what the program does with one part, and at the end of the input. These are the two equations of `inParts` (buslog, Report), by which a
+-- log in parts gives the report of the whole.
+use Prim.Native.Nat.{ℕ, _+_, _%_, _^_}
+use mathlib.Core.Path.{_≡_}
+use mathlib.Core.Bool.{false}
+use mathlib.Core.List.{List, [], _∷_, _++_}
+use mathlib.Core.Logic.{_⊎_}
+use lib.ListN.{length, take}
+use Rattle.buslog.specs.Lines.{wholeLines}
+use Rattle.buslog.specs.Report.{builtIn, rowsOf, charactersOf, fronted, keptOf}
+use Rattle.linlog.specs.declared.Log.{Log}
+
+-- what is kept of a text: the line that is not whole yet
+unfoldable pub lineKept : List ℕ → List ℕ
+lineKept text = keptOf text (charactersOf (wholeLines [] text))
+
+-- a text was reported: the rows of all its whole lines stand at the front of one buffer, the line that is not whole at the front of the other, and the lines are counted
+pub record Reports (log : Log) (text out : List ℕ) (r : Log) (textAfter outAfter : List ℕ) : Type 0 where
+  pub rows : outAfter ≡ fronted (rowsOf builtIn (log .number) (wholeLines [] text)) out
+  pub number : r .number ≡ (log .number + length (wholeLines [] text)) % 2 ^ 64
+  pub kept : r .kept ≡ length (lineKept text)
+  pub left : take (r .kept) textAfter ≡ lineKept text
+
+-- a part came, and was reported behind what was kept
+pub record Came (log : Log) (kept out : List ℕ) (r : Log) (textAfter outAfter : List ℕ) : Type 0 where
+  pub part : List ℕ
+  pub reports : Reports log (kept ++ part) out r textAfter outAfter
+
+-- what was kept with the newline that it lacks; where nothing was kept there is no line
+unfoldable pub ended : List ℕ → List ℕ
+ended [] = []
+ended (c ∷ cs) = (c ∷ cs) ++ (10 ∷ [])
+
+-- the input ended: the row of a last line whose newline is missing stands at the front of the buffer, and nothing goes on
+pub record Ends (log : Log) (kept out : List ℕ) (r : Log) (outAfter : List ℕ) : Type 0 where
+  pub rows : outAfter ≡ fronted (rowsOf builtIn (log .number) (wholeLines [] (ended kept))) out
+  pub none-kept : r .kept ≡ 0
+  pub over : r .«goes_on» ≡ false
+
+-- one of the two
+abbrev pub Goes : Log → List ℕ → List ℕ → Log → List ℕ → List ℕ → Type 0
+Goes log kept out r textAfter outAfter = Came log kept out r textAfter outAfter ⊎ Ends log kept out r outAfter
