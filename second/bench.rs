@@ -1,19 +1,17 @@
 //! The bench that a script works on: its requests and their answers, by DESIGN.md.
 
-use crate::diagnostic::Message;
+use crate::answers::{self, text, with_bytes, with_numbers};
 use crate::master::Master;
-use crate::reassembler::{Reassembler, Taken};
+use crate::reassembler::Reassembler;
 use crate::refusal::Refusal;
-use crate::script::{self, Line, Request};
-use crate::state::{Came, State, Ticked};
+use crate::script::{self, Line, Request, Show};
+use crate::settings::Setting;
+use crate::state::{State, FRAMES_MAX};
 use crate::table::{Table, FRAME_BYTES};
 use crate::wire::{self, ChecksumModel};
 
 /// The answer to a line that is no request.
 const NO_REQUEST: &str = "?";
-
-/// The largest number of frames for which a table line makes frame bytes.
-const FRAMES_MAX: usize = 60;
 
 /// Everything that lines of a script change.
 pub struct Bench {
@@ -67,17 +65,14 @@ impl Bench {
                 .map(|bytes| with_bytes("bytes", &bytes)),
             Request::Select { schedule } => master.select(schedule).map(|()| text("selected")),
             Request::Lend(message) => Ok(self.set_lent(message)),
-            Request::Tick => master.tick(&self.lent).map(tick_text),
-            Request::Byte(byte) => master.byte_in(byte).map(byte_text),
+            Request::Tick => master.tick(&self.lent).map(answers::ticked),
+            Request::Byte(byte) => master.byte_in(byte).map(answers::came),
             Request::Status => master
                 .read_status()
                 .map(|word| format!("status {word:04X}")),
             Request::Send { nad, length } => master.send(nad, length).map(|()| text("sending")),
-            Request::Message => master.message().map(message_text),
+            Request::Message => master.message().map(answers::message),
             Request::Ahead { frame } => master.ahead(frame).map(|count| format!("ahead {count}")),
-            Request::Pending => Ok(with_numbers("pending", &master.pending())),
-            Request::Frames => Ok(with_bytes("frames", &master.buffer)),
-            Request::Out => Ok(with_bytes("out", &master.out())),
             Request::ProtectedIdentifier(identifier) => pid_answer(identifier),
             Request::FrameIdentifier(protected) => id_answer(protected),
             Request::Checksum(identifier, model, data) => checksum_answer(identifier, model, &data),
@@ -85,8 +80,22 @@ impl Bench {
             Request::Take(frame) => self
                 .reassembler
                 .take(&mut self.room, &frame)
-                .map(taken_text),
-            Request::Taken => Ok(with_bytes("taken", &self.room)),
+                .map(answers::taken),
+            Request::Set(setting) => Ok(self.set(setting)),
+            Request::Show(show) => Ok(self.show(show)),
+        }
+    }
+
+    /// Shows a part of the bench.
+    fn show(&self, show: Show) -> String {
+        let master = &self.master;
+        match show {
+            Show::Pending => with_numbers("pending", &master.pending()),
+            Show::Frames => with_bytes("frames", &master.buffer),
+            Show::Out => with_bytes("out", &master.out()),
+            Show::State => answers::state(&master.state),
+            Show::Taken => with_bytes("taken", &self.room),
+            Show::Assembly => answers::assembly(self.reassembler.open),
         }
     }
 
@@ -101,6 +110,15 @@ impl Bench {
             Ok(_) => Ok(text("accepted")),
             Err(refusal) => Err(*refusal),
         }
+    }
+
+    /// Sets a part of the state or the reassembler's state, whether it fits or not.
+    fn set(&mut self, setting: Setting) -> String {
+        match setting {
+            Setting::Master(part) => part.put(&mut self.master.state),
+            Setting::Assembly(open) => self.reassembler.open = open,
+        }
+        text("set")
     }
 
     /// Makes the frame bytes this many zeros.
@@ -136,70 +154,6 @@ fn id_answer(protected: u8) -> Result<String, Refusal> {
 /// Gives the checksum for an identifier.
 fn checksum_answer(identifier: u8, model: ChecksumModel, data: &[u8]) -> Result<String, Refusal> {
     wire::checksum(identifier, model, data).map(|byte| format!("checksum {byte:02X}"))
-}
-
-/// Gives an answer that is always the same.
-fn text(answer: &str) -> String {
-    answer.to_string()
-}
-
-/// Gives a word with decimal numbers behind it.
-fn with_numbers(word: &str, numbers: &[usize]) -> String {
-    let mut text = word.to_string();
-    for number in numbers {
-        text.push_str(&format!(" {number}"));
-    }
-    text
-}
-
-/// Gives a word with bytes behind it as hexadecimal pairs.
-fn with_bytes(word: &str, bytes: &[u8]) -> String {
-    let mut text = word.to_string();
-    for byte in bytes {
-        text.push_str(&format!(" {byte:02X}"));
-    }
-    text
-}
-
-/// Gives the answer to a tick.
-fn tick_text(ticked: Ticked) -> String {
-    match ticked {
-        Ticked::Waiting => text("waiting"),
-        Ticked::Idle => text("idle"),
-        Ticked::Silent => text("silent"),
-        Ticked::Opened(protected) => format!("open {protected:02X}"),
-    }
-}
-
-/// Gives the answer to a byte in.
-fn byte_text(came: Came) -> String {
-    match came {
-        Came::More => text("more"),
-        Came::Success => text("success"),
-        Came::Failure => text("failure"),
-        Came::Response(data) => with_bytes("response", &data),
-    }
-}
-
-/// Gives the answer to a question for the message.
-fn message_text(message: &Message) -> String {
-    match message {
-        Message::None => text("none"),
-        Message::Sending { .. } => text("sending"),
-        Message::Completed => text("completed"),
-        Message::Failed => text("failed"),
-    }
-}
-
-/// Gives the answer to a frame for the reassembler.
-fn taken_text(taken: Taken) -> String {
-    match taken {
-        Taken::Ignored => text("ignored"),
-        Taken::Started => text("started"),
-        Taken::More => text("more"),
-        Taken::Done(length) => format!("done {length}"),
-        Taken::Broken => text("broken"),
-    }
 }
 
 #[cfg(test)]

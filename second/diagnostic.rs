@@ -16,14 +16,14 @@ pub const FIRST_BYTES: usize = 5;
 pub const NEXT_BYTES: usize = 6;
 
 /// What the master knows of the message it sends.
-#[derive(Debug, Clone, PartialEq, Eq)]
+#[derive(Debug, Clone, Copy, PartialEq, Eq)]
 pub enum Message {
     None,
     Sending {
         nad: u8,
         length: usize,
-        /// The number of frames sent so far.
-        sent: usize,
+        /// The number, from 0, of the frame that is sent next.
+        next: usize,
     },
     Completed,
     Failed,
@@ -33,12 +33,12 @@ impl Message {
     /// Gives the message after a request transfer was closed.
     pub fn after_transfer(&self, successful: bool) -> Message {
         match *self {
-            Message::Sending { nad, length, sent } if successful => {
-                if sent + 1 == frame_count(length) {
+            Message::Sending { nad, length, next } if successful => {
+                let next = next + 1;
+                if next == frame_count(length) {
                     Message::Completed
                 } else {
-                    let sent = sent + 1;
-                    Message::Sending { nad, length, sent }
+                    Message::Sending { nad, length, next }
                 }
             }
             _ => Message::Failed,
@@ -137,10 +137,10 @@ mod tests {
 
     #[test]
     fn a_message_moves_on_completes_or_fails() {
-        let sending = |sent| Message::Sending {
+        let sending = |next| Message::Sending {
             nad: 1,
             length: 12,
-            sent,
+            next,
         };
         assert_eq!(sending(0).after_transfer(true), sending(1));
         assert_eq!(sending(1).after_transfer(true), sending(2));

@@ -35,6 +35,11 @@ pub fn long_number(field: &[u8]) -> Option<u32> {
     number(field, u32::MAX.into()).map(|value| value as u32)
 }
 
+/// Reads a decimal number of at most 1 as a bit.
+pub fn bit(field: &[u8]) -> Option<bool> {
+    number(field, 1).map(|value| value == 1)
+}
+
 /// Reads none or more decimal numbers of at most 65,535.
 pub fn words(fields: &[&[u8]]) -> Option<Vec<u16>> {
     fields.iter().map(|field| word(field)).collect()
@@ -78,6 +83,10 @@ mod tests {
         assert_eq!(long_number(b"4294967295"), Some(u32::MAX));
         assert_eq!(long_number(b"4294967296"), None);
         assert_eq!(long_number(b"18446744073709551616"), None);
+        assert_eq!(bit(b"0"), Some(false));
+        assert_eq!(bit(b"1"), Some(true));
+        assert_eq!(bit(b"01"), Some(true));
+        assert_eq!(bit(b"2"), None);
     }
 
     #[test]

@@ -1,15 +1,18 @@
 //! The second program: answers the bench script, or judges a log where its argument is `log`.
 
+mod answers;
 mod bench;
 mod cluster;
 mod diagnostic;
 mod fields;
+mod fits;
 mod lines;
 mod log;
 mod master;
 mod reassembler;
 mod refusal;
 mod script;
+mod settings;
 mod signals;
 mod state;
 mod table;

@@ -3,10 +3,12 @@
 //! Each call tests its refusals in the order of their numbers, before it changes anything.
 
 use crate::diagnostic::{Message, MESSAGE_LENGTH_MAX};
+use crate::fits::fits;
 use crate::refusal::Refusal;
 use crate::signals;
 use crate::state::{Came, State, Ticked};
 use crate::table::{Signal, SignalKind, Table, FRAME_BYTES};
+use crate::transfer::{Open, REQUEST_FRAME};
 
 /// The master: its table, its frame bytes and its state.
 pub struct Master {
@@ -41,6 +43,21 @@ impl Master {
         Ok(table)
     }
 
+    /// Tests refusals 1 and 3.
+    fn fitting_table(&self) -> Result<&Table, Refusal> {
+        let table = self.checked_table()?;
+        if !fits(&self.state, table) {
+            return Err(Refusal::StateMisfit);
+        }
+        Ok(table)
+    }
+
+    /// Tests refusals 1, 2 and 3.
+    fn admitted_table(&self) -> Result<&Table, Refusal> {
+        self.table_with_buffer()?;
+        self.fitting_table()
+    }
+
     /// Fills the frame bytes with the start values and makes the state fresh.
     pub fn fresh(&mut self) -> Result<(), Refusal> {
         self.buffer = self.table_with_buffer()?.fresh_buffer();
@@ -48,13 +65,13 @@ impl Master {
         Ok(())
     }
 
-    /// Tests refusals 1, 2, 4 and gives a signal.
+    /// Tests refusals 1 to 4 and gives a signal.
     fn signal(&self, number: usize) -> Result<&Signal, Refusal> {
-        let table = self.table_with_buffer()?;
+        let table = self.admitted_table()?;
         table.signals.get(number).ok_or(Refusal::NotThere)
     }
 
-    /// Tests refusals 1, 2, 4, 6 and gives a signal to read.
+    /// Tests refusals 1 to 4, 6 and gives a signal to read.
     fn readable(&self, number: usize, kind: SignalKind) -> Result<&Signal, Refusal> {
         let signal = self.signal(number)?;
         if signal.kind != kind {
@@ -63,7 +80,7 @@ impl Master {
         Ok(signal)
     }
 
-    /// Tests refusals 1, 2, 4, 5, 6 and gives a signal to write.
+    /// Tests refusals 1 to 6 and gives a signal to write.
     fn writable(&self, number: usize, kind: SignalKind) -> Result<Signal, Refusal> {
         let signal = self.signal(number)?;
         if !self.checked_table()?.frames[signal.frame].published {
@@ -121,7 +138,7 @@ impl Master {
 
     /// Asks for a schedule.
     pub fn select(&mut self, schedule: usize) -> Result<(), Refusal> {
-        if schedule >= self.checked_table()?.schedules.len() {
+        if schedule >= self.fitting_table()?.schedule_count() {
             return Err(Refusal::NotThere);
         }
         self.state.requested = Some(schedule);
@@ -130,7 +147,7 @@ impl Master {
 
     /// Does one tick with this message lent.
     pub fn tick(&mut self, lent: &[u8]) -> Result<Ticked, Refusal> {
-        self.table_with_buffer()?;
+        self.admitted_table()?;
         if let Message::Sending { length, .. } = self.state.message {
             if lent.len() != length {
                 return Err(Refusal::StateMisfit);
@@ -142,21 +159,23 @@ impl Master {
 
     /// Takes a byte from the bus.
     pub fn byte_in(&mut self, byte: u8) -> Result<Came, Refusal> {
-        self.table_with_buffer()?;
-        let open = self.state.transfer.clone();
-        let transfer = open.ok_or(Refusal::NoTransferOpen)?;
-        Ok(self.state.byte_in(transfer, &mut self.buffer, byte))
+        self.admitted_table()?;
+        if self.state.transfer.open == Open::Nothing {
+            return Err(Refusal::NoTransferOpen);
+        }
+        let table = self.table.as_ref().map_err(|refusal| *refusal)?;
+        Ok(self.state.byte_in(table, &mut self.buffer, byte))
     }
 
     /// Gives the status word and sets it to 0.
     pub fn read_status(&mut self) -> Result<u16, Refusal> {
-        self.checked_table()?;
+        self.fitting_table()?;
         Ok(std::mem::take(&mut self.state.status).word())
     }
 
     /// Begins to send a message of this length.
     pub fn send(&mut self, nad: u8, length: u32) -> Result<(), Refusal> {
-        self.checked_table()?;
+        self.fitting_table()?;
         let length = length as usize;
         if length == 0 || length > MESSAGE_LENGTH_MAX {
             return Err(Refusal::MessageLength);
@@ -164,20 +183,20 @@ impl Master {
         if matches!(self.state.message, Message::Sending { .. }) {
             return Err(Refusal::MessageBeingSent);
         }
-        let sent = 0;
-        self.state.message = Message::Sending { nad, length, sent };
+        let next = 0;
+        self.state.message = Message::Sending { nad, length, next };
         Ok(())
     }
 
     /// Gives the state of the message.
-    pub fn message(&self) -> Result<&Message, Refusal> {
-        self.checked_table()?;
-        Ok(&self.state.message)
+    pub fn message(&self) -> Result<Message, Refusal> {
+        self.fitting_table()?;
+        Ok(self.state.message)
     }
 
     /// Gives the number of pending members ahead of a frame in its list.
     pub fn ahead(&self, frame: usize) -> Result<usize, Refusal> {
-        let table = self.checked_table()?;
+        let table = self.fitting_table()?;
         let mut lists = table.lists.iter();
         let list = lists.find(|list| list.contains(&frame));
         let members = list.ok_or(Refusal::NotThere)?.iter();
@@ -191,11 +210,18 @@ impl Master {
         frames.filter(|&frame| self.state.pending[frame]).collect()
     }
 
-    /// Gives the bytes that the master sends in the open transfer.
+    /// Gives the bytes that the master sends in the open transfer; a wrong table has no frames.
     pub fn out(&self) -> Vec<u8> {
-        let transfer = self.state.transfer.as_ref();
-        let out = transfer.and_then(|transfer| transfer.out.clone());
-        out.unwrap_or_default()
+        let transfer = &self.state.transfer;
+        let frame = match (&self.table, transfer.open) {
+            (Ok(table), open) => open.frame(table),
+            (Err(_), Open::Request) => Some(REQUEST_FRAME),
+            (Err(_), _) => None,
+        };
+        match frame {
+            Some(frame) if frame.published => transfer.bytes[..frame.length + 1].to_vec(),
+            _ => Vec::new(),
+        }
     }
 }
 

@@ -1,6 +1,8 @@
 //! The reassembler of diagnostic messages, by "Diagnostic messages" of document 01.
 
-use crate::diagnostic::{DIAGNOSTIC_LENGTH, FIRST_BYTES, NEXT_BYTES, SINGLE_MAX};
+use crate::diagnostic::{
+    DIAGNOSTIC_LENGTH, FIRST_BYTES, MESSAGE_LENGTH_MAX, NEXT_BYTES, SINGLE_MAX,
+};
 use crate::refusal::Refusal;
 
 /// The answer to a frame.
@@ -15,7 +17,7 @@ pub enum Taken {
 }
 
 /// A message of which the first frame has come and the last one has not.
-#[derive(Debug, Clone, PartialEq, Eq)]
+#[derive(Debug, Clone, Copy, PartialEq, Eq)]
 pub struct OpenMessage {
     pub nad: u8,
     pub length: usize,
@@ -23,6 +25,23 @@ pub struct OpenMessage {
     pub count: usize,
     /// The counter that the next frame must have.
     pub counter: u8,
+}
+
+impl OpenMessage {
+    /// Tells whether frames lead here, by refusal 3 of document 01.
+    fn fits(&self) -> bool {
+        self.nad != 0
+            && (SINGLE_MAX + 1..=MESSAGE_LENGTH_MAX).contains(&self.length)
+            && self.count < self.length
+            && self.counter_due() == Some(self.counter)
+    }
+
+    /// Gives the counter due behind 5 + 6k bytes, and nothing behind another number of them.
+    fn counter_due(&self) -> Option<u8> {
+        let behind_first = self.count.checked_sub(FIRST_BYTES)?;
+        let next_frames = behind_first / NEXT_BYTES;
+        (behind_first % NEXT_BYTES == 0).then_some(((next_frames + 1) % 16) as u8)
+    }
 }
 
 /// The state of the reassembler.
@@ -39,11 +58,14 @@ impl Reassembler {
 
     /// Takes a frame and puts the bytes that it delivers into the buffer.
     pub fn take(&mut self, buffer: &mut [u8], frame: &[u8]) -> Result<Taken, Refusal> {
+        if self.open.is_some_and(|open| !open.fits()) {
+            return Err(Refusal::StateMisfit);
+        }
         if frame.len() != DIAGNOSTIC_LENGTH {
             return Err(Refusal::BytesRefused);
         }
         let nad = frame[0];
-        let of_another = self.open.as_ref().is_some_and(|open| open.nad != nad);
+        let of_another = self.open.is_some_and(|open| open.nad != nad);
         if nad == 0 || of_another {
             return Ok(Taken::Ignored);
         }

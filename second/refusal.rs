@@ -9,7 +9,7 @@ pub enum Refusal {
     TableFault(usize),
     /// The frame buffer isn't 8F bytes, or a message buffer is shorter than its open message.
     BufferLength,
-    /// The state doesn't fit: a lent message of another length than the one being sent.
+    /// The state doesn't fit the table or the lent message, or is no reassembler's.
     StateMisfit,
     /// No such signal, schedule, or frame in a list.
     NotThere,

@@ -1,6 +1,7 @@
-//! Lines of the bench script and the requests they stand for, by DESIGN.md.
+//! Lines of the bench script and the requests they stand for, by DESIGN.md and REQUESTS.md.
 
 use crate::fields::{byte_number, long_number, number, pair, pairs, word, words};
+use crate::settings::Setting;
 use crate::wire::ChecksumModel;
 
 /// The largest number of bytes in a line, its newline not counted.
@@ -48,12 +49,6 @@ pub enum Request {
     Message,
     /// `ahead F`
     Ahead { frame: usize },
-    /// `pending`
-    Pending,
-    /// `frames`
-    Frames,
-    /// `out`
-    Out,
     /// `pid N`
     ProtectedIdentifier(u8),
     /// `id HH`
@@ -64,8 +59,27 @@ pub enum Request {
     Room(usize),
     /// `take HH ..`
     Take(Vec<u8>),
+    /// `set ..`
+    Set(Setting),
+    /// A line that shows something.
+    Show(Show),
+}
+
+/// What a line shows; no call is made for it.
+#[derive(Debug, Clone, Copy, PartialEq, Eq)]
+pub enum Show {
+    /// `pending`
+    Pending,
+    /// `frames`
+    Frames,
+    /// `out`
+    Out,
+    /// `state`
+    State,
     /// `taken`
     Taken,
+    /// `assembly`
+    Assembly,
 }
 
 /// What a line of the script is.
@@ -102,10 +116,12 @@ fn plain_request(fields: &[&[u8]]) -> Option<Request> {
         [b"tick"] => Some(Request::Tick),
         [b"status"] => Some(Request::Status),
         [b"message"] => Some(Request::Message),
-        [b"pending"] => Some(Request::Pending),
-        [b"frames"] => Some(Request::Frames),
-        [b"out"] => Some(Request::Out),
-        [b"taken"] => Some(Request::Taken),
+        [b"pending"] => Some(Request::Show(Show::Pending)),
+        [b"frames"] => Some(Request::Show(Show::Frames)),
+        [b"out"] => Some(Request::Show(Show::Out)),
+        [b"state"] => Some(Request::Show(Show::State)),
+        [b"taken"] => Some(Request::Show(Show::Taken)),
+        [b"assembly"] => Some(Request::Show(Show::Assembly)),
         _ => None,
     }
 }
@@ -160,6 +176,7 @@ fn other_request(fields: &[&[u8]]) -> Option<Request> {
         )),
         [b"room", length] => Some(Request::Room(number(length, ROOM_MAX)? as usize)),
         [b"take", bytes @ ..] => Some(Request::Take(pairs(bytes)?)),
+        [b"set", setting @ ..] => Setting::read(setting).map(Request::Set),
         _ => None,
     }
 }

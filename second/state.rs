@@ -1,20 +1,13 @@
 //! The master's state and its steps, by "Calls and steps" of document 01.
 //!
-//! The steps here take a right table and a buffer that fits it; refusals are tested before.
+//! The steps here take a right table, a buffer and a state that fit it; refusals are tested before.
 
-use crate::diagnostic::{self, Message, DIAGNOSTIC_LENGTH};
+use crate::diagnostic::{self, Message};
 use crate::table::{Slot, Table, FRAME_BYTES};
-use crate::transfer::{Carried, Status, Transfer, Verdict};
-use crate::wire::ChecksumModel;
+use crate::transfer::{protected_identifier, Open, Status, Transfer, Verdict, REQUEST_FRAME};
 
 /// The largest number of frames in a table.
-const FRAMES_MAX: usize = 60;
-
-/// The identifier of the master request frame.
-const REQUEST_IDENTIFIER: u8 = 60;
-
-/// The identifier of the slave response frame.
-const RESPONSE_IDENTIFIER: u8 = 61;
+pub const FRAMES_MAX: usize = 60;
 
 /// The answer to a tick.
 #[derive(Debug, Clone, Copy, PartialEq, Eq)]
@@ -36,23 +29,17 @@ pub enum Came {
     Response(Vec<u8>),
 }
 
-/// The current place: an entry of a schedule.
-#[derive(Debug, Clone, Copy, PartialEq, Eq)]
-pub struct Place {
-    pub schedule: usize,
-    pub entry: usize,
-}
-
 /// The state of the master between calls.
 #[derive(Debug, Clone, PartialEq, Eq)]
 pub struct State {
     /// For each frame, whether it was written and not sent since.
     pub pending: [bool; FRAMES_MAX],
-    pub place: Option<Place>,
+    /// The number of the current entry in the table.
+    pub entry: Option<usize>,
     /// The schedule asked for by select.
     pub requested: Option<usize>,
     pub wait: u16,
-    pub transfer: Option<Transfer>,
+    pub transfer: Transfer,
     pub message: Message,
     pub status: Status,
 }
@@ -62,10 +49,10 @@ impl State {
     pub fn fresh() -> State {
         State {
             pending: [false; FRAMES_MAX],
-            place: None,
+            entry: None,
             requested: None,
             wait: 0,
-            transfer: None,
+            transfer: Transfer::none(),
             message: Message::None,
             status: Status::default(),
         }
@@ -74,10 +61,8 @@ impl State {
     /// Marks a frame as written.
     pub fn mark_written(&mut self, frame: usize) {
         self.pending[frame] = true;
-        if let Some(transfer) = &mut self.transfer {
-            if transfer.carried == Carried::Frame(frame) {
-                transfer.written_since = true;
-            }
+        if self.transfer.open == Open::Frame(frame) {
+            self.transfer.written = true;
         }
     }
 
@@ -87,38 +72,31 @@ impl State {
             self.wait -= 1;
             return Ticked::Waiting;
         }
-        if let Some(transfer) = self.transfer.take() {
-            self.close(&transfer, false);
-        }
-        self.place = self.next_place(table);
+        self.close(table, false);
+        self.entry = self.entry_to_start(table);
         self.requested = None;
-        let Some(place) = self.place else {
+        let Some(entry) = self.entry.map(|number| &table.entries[number]) else {
             return Ticked::Idle;
         };
-        let entry = &table.schedules[place.schedule][place.entry];
         self.wait = entry.delay;
-        self.transfer = self.open(table, buffer, lent, entry.slot);
-        match &self.transfer {
-            Some(transfer) => Ticked::Opened(transfer.protected_identifier()),
-            None => Ticked::Silent,
-        }
+        let Some(transfer) = self.opened(table, buffer, lent, entry.slot) else {
+            return Ticked::Silent;
+        };
+        self.transfer = transfer;
+        let frame = self.transfer.open.frame(table);
+        Ticked::Opened(protected_identifier(&frame.expect("an opened frame")))
     }
 
-    /// Gives the place of the slot that starts: the requested schedule's first, or the next one.
-    fn next_place(&self, table: &Table) -> Option<Place> {
-        if let Some(schedule) = self.requested {
-            return Some(Place { schedule, entry: 0 });
+    /// Gives the entry of the slot that starts: the requested schedule's first, or the next one.
+    fn entry_to_start(&self, table: &Table) -> Option<usize> {
+        match self.requested {
+            Some(schedule) => table.first_entry(schedule),
+            None => table.next_entry(self.entry?),
         }
-        let Place { schedule, entry } = self.place?;
-        let entries = table.schedules[schedule].len();
-        Some(Place {
-            schedule,
-            entry: (entry + 1) % entries,
-        })
     }
 
     /// Gives the transfer that a slot opens, if it isn't silent.
-    fn open(&self, table: &Table, buffer: &[u8], lent: &[u8], slot: Slot) -> Option<Transfer> {
+    fn opened(&self, table: &Table, buffer: &[u8], lent: &[u8], slot: Slot) -> Option<Transfer> {
         match slot {
             Slot::Frame(frame) => Some(frame_transfer(table, buffer, frame)),
             Slot::List(list) => {
@@ -127,77 +105,69 @@ impl State {
                 Some(frame_transfer(table, buffer, *first))
             }
             Slot::Request => self.request_transfer(lent),
-            Slot::Response => Some(Transfer::receiving(
-                Carried::Response,
-                RESPONSE_IDENTIFIER,
-                ChecksumModel::Classic,
-                DIAGNOSTIC_LENGTH,
-            )),
+            Slot::Response => Some(Transfer::receiving(Open::Response)),
         }
     }
 
     /// Gives the transfer of the next frame of the message being sent, if there is one.
     fn request_transfer(&self, lent: &[u8]) -> Option<Transfer> {
-        let Message::Sending { nad, sent, .. } = self.message else {
+        let Message::Sending { nad, next, .. } = self.message else {
             return None;
         };
-        Some(Transfer::sending(
-            Carried::Request,
-            REQUEST_IDENTIFIER,
-            ChecksumModel::Classic,
-            &diagnostic::request_frame(nad, lent, sent),
-        ))
+        let data = diagnostic::request_frame(nad, lent, next);
+        Some(Transfer::sending(Open::Request, &REQUEST_FRAME, &data))
     }
 
     /// Gives a byte to the open transfer; a received frame's data go into the buffer.
-    pub fn byte_in(&mut self, mut transfer: Transfer, buffer: &mut [u8], byte: u8) -> Came {
-        let verdict = transfer.take(byte);
+    pub fn byte_in(&mut self, table: &Table, buffer: &mut [u8], byte: u8) -> Came {
+        let open = self.transfer.open;
+        let frame = open.frame(table).expect("an open frame");
+        let verdict = self.transfer.take(&frame, byte);
         if verdict == Verdict::More {
-            self.transfer = Some(transfer);
             return Came::More;
         }
         let successful = verdict == Verdict::Success;
-        self.transfer = None;
-        self.close(&transfer, successful);
-        if !successful {
-            return Came::Failure;
-        }
-        match transfer.carried {
-            Carried::Frame(frame) => {
-                if transfer.out.is_none() {
-                    let begin = FRAME_BYTES * frame;
-                    buffer[begin..begin + transfer.length].copy_from_slice(transfer.data());
-                }
+        let data = self.transfer.bytes[..frame.length].to_vec();
+        self.close(table, successful);
+        match open {
+            _ if !successful => Came::Failure,
+            Open::Response => Came::Response(data),
+            Open::Frame(number) if !frame.published => {
+                let begin = FRAME_BYTES * number;
+                buffer[begin..begin + frame.length].copy_from_slice(&data);
                 Came::Success
             }
-            Carried::Request => Came::Success,
-            Carried::Response => Came::Response(transfer.data().to_vec()),
+            _ => Came::Success,
         }
     }
 
-    /// Draws from a closed transfer what it means for status, pending and message.
-    fn close(&mut self, transfer: &Transfer, successful: bool) {
-        self.status.count(transfer, successful);
-        match transfer.carried {
-            Carried::Frame(frame) => {
-                if successful && !transfer.written_since {
-                    self.pending[frame] = false;
-                }
-            }
-            Carried::Request => self.message = self.message.after_transfer(successful),
-            Carried::Response => {}
+    /// Closes the open transfer, if there is one: status, pending and message follow from it.
+    fn close(&mut self, table: &Table, successful: bool) {
+        let Some(frame) = self.transfer.open.frame(table) else {
+            return;
+        };
+        if self.transfer.count > 0 {
+            self.status.count(&frame, successful);
         }
+        match self.transfer.open {
+            Open::Frame(number) if successful && !self.transfer.written => {
+                self.pending[number] = false;
+            }
+            Open::Request => self.message = self.message.after_transfer(successful),
+            _ => {}
+        }
+        self.transfer = Transfer::none();
     }
 }
 
 /// Gives the transfer of a frame of the table: the master sends it or a slave does.
 fn frame_transfer(table: &Table, buffer: &[u8], number: usize) -> Transfer {
     let frame = &table.frames[number];
-    let carried = Carried::Frame(number);
+    let open = Open::Frame(number);
     if !frame.published {
-        return Transfer::receiving(carried, frame.identifier, frame.model, frame.length);
+        return Transfer::receiving(open);
     }
     let begin = FRAME_BYTES * number;
     let data = &buffer[begin..begin + frame.length];
-    Transfer::sending(carried, frame.identifier, frame.model, data)
+    Transfer::sending(open, frame, data)
 }

@@ -56,6 +56,8 @@ pub enum Slot {
 /// One entry of a schedule.
 #[derive(Debug, Clone, PartialEq, Eq)]
 pub struct Entry {
+    /// The number of its schedule.
+    pub schedule: usize,
     pub slot: Slot,
     /// The ticks until the next slot.
     pub delay: u16,
@@ -68,8 +70,8 @@ pub struct Table {
     pub signals: Vec<Signal>,
     /// The frame numbers of each list's members, in priority order.
     pub lists: Vec<Vec<usize>>,
-    /// The entries of each schedule.
-    pub schedules: Vec<Vec<Entry>>,
+    /// The entries of all schedules, in the table's order.
+    pub entries: Vec<Entry>,
 }
 
 impl Table {
@@ -83,13 +85,32 @@ impl Table {
         let (members, _) = cluster::records::<2>(words, MEMBERS);
         let (entries, _) = cluster::records::<4>(words, ENTRIES);
         let members = members.iter().map(|&[list, frame]| (list, frame.into()));
-        let entries = entries.iter().map(|entry| (entry[0], read_entry(entry)));
         Ok(Table {
             frames: frames.iter().map(read_frame).collect(),
             signals: signals.iter().map(read_signal).collect(),
             lists: grouped(members),
-            schedules: grouped(entries),
+            entries: entries.iter().map(read_entry).collect(),
         })
+    }
+
+    /// Gives the number of schedules.
+    pub fn schedule_count(&self) -> usize {
+        self.entries.last().map_or(0, |entry| entry.schedule + 1)
+    }
+
+    /// Gives the number of a schedule's first entry, if there is such a schedule.
+    pub fn first_entry(&self, schedule: usize) -> Option<usize> {
+        let mut entries = self.entries.iter();
+        entries.position(|entry| entry.schedule == schedule)
+    }
+
+    /// Gives the number of the entry that follows an entry in its schedule, cyclically.
+    pub fn next_entry(&self, entry: usize) -> Option<usize> {
+        let schedule = self.entries.get(entry)?.schedule;
+        match self.entries.get(entry + 1) {
+            Some(next) if next.schedule == schedule => Some(entry + 1),
+            _ => self.first_entry(schedule),
+        }
     }
 
     /// Gives the number of bytes of the frame buffer.
@@ -146,14 +167,18 @@ fn read_signal(&[frame, kind, offset, width, start]: &[u16; 5]) -> Signal {
 }
 
 /// Reads an entry record.
-fn read_entry(&[_, kind, target, delay]: &[u16; 4]) -> Entry {
+fn read_entry(&[schedule, kind, target, delay]: &[u16; 4]) -> Entry {
     let slot = match kind {
         0 => Slot::Frame(target.into()),
         1 => Slot::List(target.into()),
         2 => Slot::Request,
         _ => Slot::Response,
     };
-    Entry { slot, delay }
+    Entry {
+        schedule: schedule.into(),
+        slot,
+        delay,
+    }
 }
 
 /// Groups items by their number, which is first 0, then that of the item before or one more.
@@ -218,20 +243,27 @@ mod tests {
         ]);
         let table = Table::read(&words).unwrap();
         assert_eq!(table.lists, [vec![2, 0], vec![1]]);
-        let slots: Vec<Vec<(Slot, u16)>> = table
-            .schedules
+        let entries: Vec<(usize, Slot, u16)> = table
+            .entries
             .iter()
-            .map(|schedule| {
-                schedule
-                    .iter()
-                    .map(|entry| (entry.slot, entry.delay))
-                    .collect()
-            })
+            .map(|entry| (entry.schedule, entry.slot, entry.delay))
             .collect();
-        assert_eq!(slots[0], [(Slot::Frame(1), 5), (Slot::List(1), 6)]);
-        assert_eq!(slots[1], [(Slot::Request, 7)]);
-        assert_eq!(slots[2], [(Slot::Response, 65_535), (Slot::List(0), 1)]);
-        assert_eq!(slots.len(), 3);
+        let expected = [
+            (0, Slot::Frame(1), 5),
+            (0, Slot::List(1), 6),
+            (1, Slot::Request, 7),
+            (2, Slot::Response, 65_535),
+            (2, Slot::List(0), 1),
+        ];
+        assert_eq!(entries, expected);
+        assert_eq!(table.schedule_count(), 3);
+        let firsts: Vec<Option<usize>> = (0..4).map(|n| table.first_entry(n)).collect();
+        assert_eq!(firsts, [Some(0), Some(2), Some(3), None]);
+        let followers: Vec<Option<usize>> = (0..6).map(|n| table.next_entry(n)).collect();
+        assert_eq!(
+            followers,
+            [Some(1), Some(0), Some(2), Some(4), Some(3), None]
+        );
     }
 
     #[test]

@@ -1,16 +1,49 @@
-//! The open transfer and the status word, by "Calls and steps" of document 01.
+//! The open transfer and the status, by "Calls and steps" of document 01.
 
+use crate::table::{Frame, Table};
 use crate::wire::{self, ChecksumModel};
 
-/// What a transfer carries.
+/// The most bytes of a response: eight data bytes and the checksum.
+pub const RESPONSE_BYTES: usize = 9;
+
+/// The master request frame.
+pub const REQUEST_FRAME: Frame = Frame {
+    identifier: 60,
+    length: 8,
+    published: true,
+    model: ChecksumModel::Classic,
+};
+
+/// The slave response frame.
+const RESPONSE_FRAME: Frame = Frame {
+    identifier: 61,
+    length: 8,
+    published: false,
+    model: ChecksumModel::Classic,
+};
+
+/// What is open.
 #[derive(Debug, Clone, Copy, PartialEq, Eq)]
-pub enum Carried {
+pub enum Open {
+    Nothing,
     /// The frame with this number.
     Frame(usize),
     /// The master request frame.
     Request,
     /// The slave response frame.
     Response,
+}
+
+impl Open {
+    /// Gives the frame that is open, if there is one in the table or it is a diagnostic one.
+    pub fn frame(self, table: &Table) -> Option<Frame> {
+        match self {
+            Open::Nothing => None,
+            Open::Frame(number) => table.frames.get(number).cloned(),
+            Open::Request => Some(REQUEST_FRAME),
+            Open::Response => Some(RESPONSE_FRAME),
+        }
+    }
 }
 
 /// How a transfer stands after a byte.
@@ -21,115 +54,103 @@ pub enum Verdict {
     Failure,
 }
 
-/// A transfer whose header has gone out.
+/// The record of the open transfer; what closing leaves is that of a fresh state.
 #[derive(Debug, Clone, PartialEq, Eq)]
 pub struct Transfer {
-    pub carried: Carried,
-    pub identifier: u8,
-    /// The number of data bytes.
-    pub length: usize,
-    pub model: ChecksumModel,
-    /// The copied data and checksum that the master sends; none where a slave sends.
-    pub out: Option<Vec<u8>>,
-    /// The response bytes that have come in.
-    pub arrived: Vec<u8>,
-    /// A signal of the frame was written since the transfer was opened.
-    pub written_since: bool,
+    pub open: Open,
+    /// The number of response bytes that have passed.
+    pub count: usize,
+    /// The data and checksum that the master sends, or the bytes that have come in.
+    pub bytes: [u8; RESPONSE_BYTES],
+    /// The frame was written since it was opened.
+    pub written: bool,
 }
 
 impl Transfer {
-    /// Opens a transfer in which the master sends these data, copied now.
-    pub fn sending(carried: Carried, identifier: u8, model: ChecksumModel, data: &[u8]) -> Self {
-        let mut out = data.to_vec();
-        out.push(checksum(identifier, model, data));
+    /// Gives the record of a fresh state: nothing open, the unused bytes 255.
+    pub fn none() -> Transfer {
         Transfer {
-            out: Some(out),
-            ..Transfer::receiving(carried, identifier, model, data.len())
+            open: Open::Nothing,
+            count: 0,
+            bytes: [255; RESPONSE_BYTES],
+            written: false,
         }
     }
 
-    /// Opens a transfer in which a slave sends this number of data bytes.
-    pub fn receiving(
-        carried: Carried,
-        identifier: u8,
-        model: ChecksumModel,
-        length: usize,
-    ) -> Self {
+    /// Opens a transfer in which a slave sends.
+    pub fn receiving(open: Open) -> Transfer {
         Transfer {
-            carried,
-            identifier,
-            length,
-            model,
-            out: None,
-            arrived: Vec::new(),
-            written_since: false,
+            open,
+            ..Transfer::none()
         }
     }
 
-    /// Gives the protected identifier that the master sends in the header.
-    pub fn protected_identifier(&self) -> u8 {
-        wire::protected_identifier(self.identifier).expect("an identifier of at most 63")
+    /// Opens a transfer in which the master sends these data of a frame, copied now.
+    pub fn sending(open: Open, frame: &Frame, data: &[u8]) -> Transfer {
+        let mut transfer = Transfer::receiving(open);
+        transfer.bytes[..data.len()].copy_from_slice(data);
+        transfer.bytes[data.len()] = checksum(frame, data);
+        transfer
     }
 
-    /// Takes a response byte and tells how the transfer stands.
-    pub fn take(&mut self, byte: u8) -> Verdict {
-        self.arrived.push(byte);
-        let count = self.arrived.len();
-        let complete = count == self.length + 1;
-        let right = match &self.out {
-            Some(out) => byte == out[count - 1],
-            None => !complete || byte == checksum(self.identifier, self.model, self.data()),
+    /// Takes a response byte of the open frame and tells how the transfer stands.
+    pub fn take(&mut self, frame: &Frame, byte: u8) -> Verdict {
+        let complete = self.count == frame.length;
+        let right = if frame.published {
+            byte == self.bytes[self.count]
+        } else {
+            !complete || byte == checksum(frame, &self.bytes[..frame.length])
         };
+        self.bytes[self.count] = byte;
+        self.count += 1;
         match (right, complete) {
             (false, _) => Verdict::Failure,
             (true, false) => Verdict::More,
             (true, true) => Verdict::Success,
         }
     }
-
-    /// Gives the data bytes of a complete transfer.
-    pub fn data(&self) -> &[u8] {
-        &self.arrived[..self.length]
-    }
 }
 
 /// Gives the checksum of a frame of the table or of a diagnostic frame.
-fn checksum(identifier: u8, model: ChecksumModel, data: &[u8]) -> u8 {
-    wire::checksum(identifier, model, data).expect("a right identifier and 1 to 8 data bytes")
+pub fn checksum(frame: &Frame, data: &[u8]) -> u8 {
+    wire::checksum(frame.identifier, frame.model, data)
+        .expect("a right identifier and 1 to 8 data bytes")
+}
+
+/// Gives the protected identifier of a frame of the table or of a diagnostic frame.
+pub fn protected_identifier(frame: &Frame) -> u8 {
+    wire::protected_identifier(frame.identifier).expect("an identifier of at most 63")
 }
 
 /// What the status reading tells of the transfers counted since the last reading.
-#[derive(Debug, Clone, Default, PartialEq, Eq)]
+#[derive(Debug, Clone, Copy, Default, PartialEq, Eq)]
 pub struct Status {
-    /// The number of transfers counted.
-    counted: usize,
-    error_in_response: bool,
-    successful_transfer: bool,
+    pub error_in_response: bool,
+    pub successful_transfer: bool,
+    pub overrun: bool,
     /// The protected identifier of the last transfer counted.
-    last: u8,
+    pub last: u8,
 }
 
 impl Status {
-    /// Counts a closed transfer, unless no response byte came.
-    pub fn count(&mut self, transfer: &Transfer, successful: bool) {
-        if transfer.arrived.is_empty() {
-            return;
-        }
-        self.counted += 1;
+    /// Counts a closed transfer with at least one response byte.
+    ///
+    /// One was counted before where one of the first two bits is set.
+    pub fn count(&mut self, frame: &Frame, successful: bool) {
+        self.overrun |= self.error_in_response || self.successful_transfer;
         if successful {
             self.successful_transfer = true;
         } else {
             self.error_in_response = true;
         }
-        self.last = transfer.protected_identifier();
+        self.last = protected_identifier(frame);
     }
 
     /// Gives the status word.
     pub fn word(&self) -> u16 {
-        let overrun = self.counted >= 2;
         u16::from(self.error_in_response)
             | u16::from(self.successful_transfer) << 1
-            | u16::from(overrun) << 2
+            | u16::from(self.overrun) << 2
             | u16::from(self.last) << 8
     }
 }
@@ -140,55 +161,70 @@ mod tests {
     use super::Verdict::{Failure, More, Success};
     use super::*;
 
+    /// A frame with identifier 2.
+    fn frame(length: usize, published: bool, model: ChecksumModel) -> Frame {
+        Frame {
+            identifier: 2,
+            length,
+            published,
+            model,
+        }
+    }
+
     /// Takes bytes one by one and gives what each one answers.
-    fn verdicts(mut transfer: Transfer, bytes: &[u8]) -> Vec<Verdict> {
-        bytes.iter().map(|&byte| transfer.take(byte)).collect()
+    fn verdicts(mut transfer: Transfer, frame: &Frame, bytes: &[u8]) -> Vec<Verdict> {
+        let answers = bytes.iter().map(|&byte| transfer.take(frame, byte));
+        answers.collect()
     }
 
     #[test]
     fn sent_bytes_must_come_back() {
-        let transfer = Transfer::sending(Carried::Frame(0), 2, Enhanced, &[0x00, 0x01]);
-        assert_eq!(transfer.out, Some(vec![0x00, 0x01, 0xBC]));
-        assert_eq!(
-            verdicts(transfer.clone(), &[0x00, 0x01, 0xBC]),
-            [More, More, Success]
-        );
-        assert_eq!(verdicts(transfer.clone(), &[0x01]), [Failure]);
-        assert_eq!(verdicts(transfer.clone(), &[0x00, 0x00]), [More, Failure]);
-        assert_eq!(
-            verdicts(transfer, &[0x00, 0x01, 0xBD]),
-            [More, More, Failure]
-        );
+        let frame = frame(2, true, Enhanced);
+        let transfer = Transfer::sending(Open::Frame(0), &frame, &[0x00, 0x01]);
+        let expected = [0x00, 0x01, 0xBC, 255, 255, 255, 255, 255, 255];
+        assert_eq!(transfer.bytes, expected);
+        let verdicts = |bytes| verdicts(transfer.clone(), &frame, bytes);
+        assert_eq!(verdicts(&[0x00, 0x01, 0xBC]), [More, More, Success]);
+        assert_eq!(verdicts(&[0x01]), [Failure]);
+        assert_eq!(verdicts(&[0x00, 0x00]), [More, Failure]);
+        assert_eq!(verdicts(&[0x00, 0x01, 0xBD]), [More, More, Failure]);
     }
 
     #[test]
     fn received_bytes_are_judged_at_the_end() {
-        let transfer = |model| Transfer::receiving(Carried::Frame(0), 2, model, 1);
-        assert_eq!(verdicts(transfer(Enhanced), &[0x00, 0xBD]), [More, Success]);
-        assert_eq!(verdicts(transfer(Enhanced), &[0x00, 0xFF]), [More, Failure]);
-        assert_eq!(verdicts(transfer(Classic), &[0x00, 0xFF]), [More, Success]);
-        assert_eq!(verdicts(transfer(Classic), &[0x00, 0xBD]), [More, Failure]);
-        assert_eq!(verdicts(transfer(Classic), &[0xFF, 0xFF]), [More, Failure]);
-        assert_eq!(verdicts(transfer(Classic), &[0xFF, 0x00]), [More, Success]);
+        let verdicts = |model, bytes| {
+            let transfer = Transfer::receiving(Open::Frame(0));
+            verdicts(transfer, &frame(1, false, model), bytes)
+        };
+        assert_eq!(verdicts(Enhanced, &[0x00, 0xBD]), [More, Success]);
+        assert_eq!(verdicts(Enhanced, &[0x00, 0xFF]), [More, Failure]);
+        assert_eq!(verdicts(Classic, &[0x00, 0xFF]), [More, Success]);
+        assert_eq!(verdicts(Classic, &[0x00, 0xBD]), [More, Failure]);
+        assert_eq!(verdicts(Classic, &[0xFF, 0xFF]), [More, Failure]);
+        assert_eq!(verdicts(Classic, &[0xFF, 0x00]), [More, Success]);
+    }
+
+    #[test]
+    fn received_bytes_stand_behind_those_before_them() {
+        let mut transfer = Transfer::receiving(Open::Response);
+        transfer.take(&RESPONSE_FRAME, 0x01);
+        transfer.take(&RESPONSE_FRAME, 0x02);
+        assert_eq!(transfer.count, 2);
+        assert_eq!(transfer.bytes, [1, 2, 255, 255, 255, 255, 255, 255, 255]);
     }
 
     #[test]
     fn status_words() {
         let mut status = Status::default();
         assert_eq!(status.word(), 0);
-        let mut transfer = Transfer::receiving(Carried::Frame(0), 2, Enhanced, 1);
-        status.count(&transfer, false);
-        assert_eq!(status.word(), 0);
-        transfer.take(0);
-        status.count(&transfer, false);
+        status.count(&frame(1, false, Enhanced), false);
         assert_eq!(status.word(), 0x4201);
-        transfer.identifier = 61;
-        status.count(&transfer, true);
+        status.count(&RESPONSE_FRAME, true);
         assert_eq!(status.word(), 0x7D07);
         let mut status = Status::default();
-        status.count(&transfer, true);
-        assert_eq!(status.word(), 0x7D02);
-        status.count(&transfer, true);
+        status.count(&REQUEST_FRAME, true);
+        assert_eq!(status.word(), 0x3C02);
+        status.count(&RESPONSE_FRAME, true);
         assert_eq!(status.word(), 0x7D06);
     }
 }

@@ -5,6 +5,10 @@
 //! prints what is needed to repeat it and ends with status 1. With --only it runs script N alone
 //! and writes it to standard output.
 
+#[path = "../second/answers.rs"]
+mod answers;
+#[path = "scripts/assemblies.rs"]
+mod assemblies;
 #[path = "../second/bench.rs"]
 mod bench;
 #[path = "scripts/borders.rs"]
@@ -21,14 +25,20 @@ mod diagnostic;
 mod draft;
 #[path = "../second/fields.rs"]
 mod fields;
+#[path = "../second/fits.rs"]
+mod fits;
 #[path = "scripts/kinds.rs"]
 mod kinds;
+#[path = "scripts/limits.rs"]
+mod limits;
 #[path = "scripts/lines.rs"]
 mod lines;
 #[path = "../second/master.rs"]
 mod master;
 #[path = "scripts/messages.rs"]
 mod messages;
+#[path = "scripts/misfits.rs"]
+mod misfits;
 #[path = "scripts/program.rs"]
 mod program;
 #[path = "scripts/random.rs"]
@@ -43,10 +53,18 @@ mod refusal;
 mod runs;
 #[path = "../second/script.rs"]
 mod script;
+#[path = "scripts/setting.rs"]
+mod setting;
+#[path = "../second/settings.rs"]
+mod settings;
+#[path = "scripts/settings_lines.rs"]
+mod settings_lines;
 #[path = "../second/signals.rs"]
 mod signals;
 #[path = "../second/state.rs"]
 mod state;
+#[path = "scripts/states.rs"]
+mod states;
 #[path = "../second/table.rs"]
 mod table;
 #[path = "scripts/tables.rs"]

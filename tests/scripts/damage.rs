@@ -3,7 +3,16 @@
 use crate::damaged::{damaged_table, hostile_words};
 use crate::draft::Script;
 use crate::runs;
+use crate::settings_lines;
 use crate::tables::{right_table, table_line, Size};
+
+/// Sets some parts of the state, whatever the table is.
+fn set_anything(script: &mut Script) {
+    for _ in 0..script.random.between(1, 4) {
+        let line = settings_lines::any_line(&mut script.random);
+        script.say(line);
+    }
+}
 
 /// Every call on the current table, in any order.
 pub fn calls(script: &mut Script, count: usize) {
@@ -23,6 +32,7 @@ pub fn calls(script: &mut Script, count: usize) {
         "pending",
         "frames",
         "out",
+        "state",
     ];
     script.random.shuffle(&mut lines);
     for line in &lines[..count] {
@@ -45,7 +55,7 @@ pub fn tables(script: &mut Script) {
     let table = right_table(&mut script.random, size);
     let right_line = table_line(&mut script.random, &table.concat());
     script.say(right_line.clone());
-    calls(script, 15);
+    calls(script, 16);
     for _ in 0..script.random.between(3, 8) {
         let damaged = damaged_table(&mut script.random, &table);
         let words = match script.random.below(10) {
@@ -54,7 +64,10 @@ pub fn tables(script: &mut Script) {
         };
         let line = table_line(&mut script.random, &words);
         script.say(line);
-        let count = script.random.one_of(&[3, 5, 15]);
+        if script.random.once_in(3) {
+            set_anything(script);
+        }
+        let count = script.random.one_of(&[3, 5, 16]);
         calls(script, count);
         if script.random.once_in(4) {
             script.say(right_line.clone());
@@ -65,7 +78,7 @@ pub fn tables(script: &mut Script) {
 
 /// Counts that begin no table or an empty one.
 pub fn empty_tables(script: &mut Script) {
-    calls(script, 15);
+    calls(script, 16);
     for line in [
         "table",
         "table 0",
@@ -81,7 +94,7 @@ pub fn empty_tables(script: &mut Script) {
         "table 0 0 0 0",
     ] {
         script.say(line);
-        let count = script.random.one_of(&[2, 5, 15]);
+        let count = script.random.one_of(&[2, 5, 16]);
         calls(script, count);
     }
 }

@@ -2,8 +2,11 @@
 
 use crate::bench::Bench;
 use crate::random::Random;
-use crate::table::Table;
-use crate::transfer::Transfer;
+use crate::table::{Frame, Table};
+use crate::transfer::Open;
+
+/// The state is shown after one of so many lines.
+const STATE_SHOWN: usize = 12;
 
 /// A script and the bench it leads to, by which its further lines are steered.
 pub struct Script {
@@ -12,6 +15,8 @@ pub struct Script {
     pub lines: Vec<Vec<u8>>,
     /// The answers, each with the number of its line.
     pub answers: Vec<(usize, String)>,
+    /// The last table line that was accepted.
+    pub table_line: Vec<u8>,
     /// How many of a hundred transfers are to be successful.
     pub success: usize,
 }
@@ -24,13 +29,26 @@ impl Script {
             random,
             lines: Vec::new(),
             answers: Vec::new(),
+            table_line: Vec::new(),
             success: 60,
         }
     }
 
-    /// Adds a line and gives its answer, empty where it has none.
+    /// Adds a line and gives its answer, empty where it has none; shows the state now and then.
     pub fn say(&mut self, line: impl Into<Vec<u8>>) -> String {
         let line = line.into();
+        let answer = self.add(line.clone());
+        if answer == "accepted" {
+            self.table_line = line;
+        }
+        if self.random.once_in(STATE_SHOWN) {
+            self.add(b"state".to_vec());
+        }
+        answer
+    }
+
+    /// Adds a line and gives its answer, empty where it has none.
+    fn add(&mut self, line: Vec<u8>) -> String {
         let answer = self.bench.answer(&line);
         self.lines.push(line);
         if let Some(text) = &answer {
@@ -61,12 +79,17 @@ impl Script {
 
     /// The number of schedules, 0 where the table is wrong.
     pub fn schedule_count(&self) -> usize {
-        self.table().map_or(0, |table| table.schedules.len())
+        self.table().map_or(0, Table::schedule_count)
     }
 
-    /// The open transfer.
-    pub fn transfer(&self) -> Option<&Transfer> {
-        self.bench.master.state.transfer.as_ref()
+    /// What is open.
+    pub fn open(&self) -> Open {
+        self.bench.master.state.transfer.open
+    }
+
+    /// The open frame, if the table has it or it is a diagnostic one.
+    pub fn open_frame(&self) -> Option<Frame> {
+        self.open().frame(self.table()?)
     }
 }
 

@@ -2,7 +2,8 @@
 
 use crate::draft::Script;
 use crate::tables::Size;
-use crate::{borders, damage, lines, messages, reassembly, runs, values};
+use crate::{assemblies, borders, damage, limits, lines, messages, reassembly};
+use crate::{runs, setting, settings_lines, values};
 
 /// Fills a script with one to four acts and looks at the state at the end.
 pub fn fill(script: &mut Script) {
@@ -10,7 +11,7 @@ pub fn fill(script: &mut Script) {
         act(script);
     }
     for line in [
-        "out", "status", "message", "pending", "frames", "taken", "tick",
+        "state", "out", "pending", "frames", "assembly", "taken", "status", "message", "tick",
     ] {
         script.say(line);
     }
@@ -19,34 +20,57 @@ pub fn fill(script: &mut Script) {
 /// Adds one act of any kind.
 fn act(script: &mut Script) {
     match script.random.below(1_000) {
-        0..=169 => run(script, &[Size::Tiny, Size::Small], 100, 450),
-        170..=239 => run(script, &[Size::Middle], 200, 500),
-        240..=329 => {
-            let length = script.random.between(100, 450);
+        0..=139 => run(script, &[Size::Tiny, Size::Small], 100, 400),
+        140..=189 => run(script, &[Size::Middle], 200, 400),
+        190..=259 => {
+            let length = script.random.between(100, 400);
             runs::run_on_lists(script, length);
         }
-        330..=349 => run(script, &[Size::Large, Size::Limit], 200, 500),
-        350..=359 => runs::large_numbers(script),
-        360..=367 => run(script, &[Size::Small, Size::Middle], 1_500, 3_000),
-        368..=447 => damage::tables(script),
-        448..=477 => borders::borders(script),
-        478..=497 => borders::signal_borders(script),
-        498..=507 => damage::empty_tables(script),
-        508..=547 => runs::buffers(script),
-        548..=637 => values::every_signal(script),
-        638..=737 => messages::sending(script),
-        738..=743 => messages::longest_message(script),
-        744..=823 => reassembly::reassembling(script),
-        824..=843 => reassembly::odd_frames(script),
-        844..=853 => reassembly::every_pci(script),
-        854..=859 => reassembly::longest_message(script),
-        860..=889 => lines::wire(script),
-        890..=919 => lines::limits(script),
-        920..=954 => lines::any_lines(script),
-        955..=976 => lines::long_lines(script),
-        977..=982 => lines::lent_lengths(script),
-        983..=993 => runs::long_delays(script),
+        260..=274 => run(script, &[Size::Large, Size::Limit], 200, 400),
+        275..=282 => runs::large_numbers(script),
+        283..=286 => run(script, &[Size::Small, Size::Middle], 1_500, 3_000),
+        287..=346 => damage::tables(script),
+        347..=371 => borders::borders(script),
+        372..=387 => borders::signal_borders(script),
+        388..=395 => damage::empty_tables(script),
+        396..=425 => runs::buffers(script),
+        426..=485 => values::every_signal(script),
+        486..=735 => message_act(script),
+        736..=835 => line_act(script),
+        836..=935 => setting::state_borders(script),
+        936..=965 => setting::set_runs(script),
+        966..=979 => limits::columns(script),
+        980..=983 => limits::targets(script),
+        984..=986 => limits::counts(script),
+        987..=995 => runs::long_delays(script),
         _ => runs::long_waits(script),
+    }
+}
+
+/// Adds an act on messages that are sent or put together.
+fn message_act(script: &mut Script) {
+    match script.random.below(250) {
+        0..=84 => messages::sending(script),
+        85..=89 => messages::longest_message(script),
+        90..=109 => messages::whole_message(script),
+        110..=169 => reassembly::reassembling(script),
+        170..=185 => reassembly::odd_frames(script),
+        186..=193 => reassembly::every_pci(script),
+        194..=198 => reassembly::longest_message(script),
+        _ => assemblies::set_assemblies(script),
+    }
+}
+
+/// Adds an act on single lines.
+fn line_act(script: &mut Script) {
+    match script.random.below(100) {
+        0..=12 => lines::wire(script),
+        13..=30 => lines::limits(script),
+        31..=52 => lines::any_lines(script),
+        53..=62 => lines::long_lines(script),
+        63..=66 => lines::lent_lengths(script),
+        67..=83 => settings_lines::limits(script),
+        _ => settings_lines::malformed(script),
     }
 }
 

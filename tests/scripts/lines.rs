@@ -2,6 +2,7 @@
 
 use crate::draft::{with_bytes, Script};
 use crate::random::Random;
+use crate::settings_lines;
 
 /// The most bytes of a line.
 const LINE_LENGTH_MAX: usize = 20_000;
@@ -10,7 +11,7 @@ const LINE_LENGTH_MAX: usize = 20_000;
 const BYTES: &[u8] = b"  0123456789ABCDEFGHabcdefgxyzTICK/:@`#?.,-+\r\t\x0b\0\x7f\x80\xFF";
 
 /// Numbers at and around the limits of their places, and far above them.
-const NUMBERS: [u128; 24] = [
+pub const NUMBERS: [u128; 24] = [
     0,
     1,
     59,
@@ -60,23 +61,28 @@ const LIMITS: [(&str, u128); 15] = [
 pub fn limits(script: &mut Script) {
     for _ in 0..script.random.between(20, 60) {
         let (line, limit) = script.random.one_of(&LIMITS);
-        let any = script.random.one_of(&NUMBERS);
-        let power = 1_u128 << script.random.one_of(&[8, 16, 32, 48, 63, 64, 65, 96]);
-        let numbers = [
-            limit,
-            limit,
-            limit + 1,
-            limit + 1,
-            limit + 2,
-            power,
-            power + 1,
-            any,
-        ];
-        let number = script.random.one_of(&numbers);
-        let zeros = script.random.one_of(&[0, 0, 0, 1, 20, 40]);
-        let number = format!("{}{number}", "0".repeat(zeros));
+        let number = number_near(&mut script.random, limit);
         script.say(line.replace('N', &number));
     }
+}
+
+/// A number at a limit, just above it or far above it, sometimes with zeros before it.
+pub fn number_near(random: &mut Random, limit: u128) -> String {
+    let any = random.one_of(&NUMBERS);
+    let power = 1_u128 << random.one_of(&[8, 16, 32, 48, 63, 64, 65, 96]);
+    let numbers = [
+        limit,
+        limit,
+        limit + 1,
+        limit + 1,
+        limit + 2,
+        power,
+        power + 1,
+        any,
+    ];
+    let number = random.one_of(&numbers);
+    let zeros = random.one_of(&[0, 0, 0, 1, 20, 40]);
+    format!("{}{number}", "0".repeat(zeros))
 }
 
 /// Requests about identifiers and checksums.
@@ -131,7 +137,7 @@ fn any_line(random: &mut Random) -> String {
     let (one, two) = (number(random), number(random));
     let count = random.below(10);
     let bytes = with_bytes("", &random.bytes(count));
-    match random.below(31) {
+    match random.below(38) {
         0..=1 => format!("buffer {one}"),
         2 => "fresh".to_string(),
         3..=5 => format!("write {one} {two}"),
@@ -147,10 +153,11 @@ fn any_line(random: &mut Random) -> String {
         21 => "message".to_string(),
         22 => format!("ahead {one}"),
         23 => random
-            .one_of(&["pending", "frames", "out", "taken"])
+            .one_of(&["pending", "frames", "out", "taken", "state", "assembly"])
             .to_string(),
         24..=26 => wire_line(random),
         27 => format!("room {one}"),
+        28..=34 => settings_lines::any_line(random),
         _ => format!("take{bytes}"),
     }
 }

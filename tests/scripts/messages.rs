@@ -134,6 +134,24 @@ fn one_message(script: &mut Script, length: usize) {
     }
 }
 
+/// A message of more than 16 frames sent whole, with a look at the state after each of them.
+pub fn whole_message(script: &mut Script) {
+    script.say("table 0 0 0 2 0 2 0 1 0 3 0 1");
+    script.say("select 0");
+    let length = script.random.between(90, 260);
+    lend(script, length);
+    let nad = address(script);
+    script.say(format!("send {nad} {length}"));
+    while length_being_sent(script).is_some() {
+        script.say("tick");
+        for byte in script.bench.master.out() {
+            script.say(format!("byte {byte:02X}"));
+        }
+        script.say("state");
+    }
+    script.say("message");
+}
+
 /// A message of the largest length or near it, every frame a success.
 pub fn longest_message(script: &mut Script) {
     script.say("table 0 0 0 1 0 2 0 1");

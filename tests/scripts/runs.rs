@@ -3,8 +3,9 @@
 use crate::draft::Script;
 use crate::lines;
 use crate::messages;
+use crate::setting;
 use crate::tables::{list_table, numerous_table, right_table, table_line, Sections, Size};
-use crate::transfer::Carried;
+use crate::transfer::Open;
 use crate::transfers;
 use crate::values::{self, read_signal, signal_number, write_signal, wrong_buffer};
 
@@ -109,7 +110,7 @@ pub fn slot(script: &mut Script) {
             select(script);
         }
     }
-    if script.transfer().is_some() {
+    if script.open() != Open::Nothing {
         transfers::steer(script);
     } else if script.random.once_in(10) {
         let byte = script.random.byte();
@@ -137,10 +138,9 @@ pub fn interlude(script: &mut Script) {
 
 /// Writes a signal of the frame whose transfer is open, or changes the bytes of the message lent.
 fn write_open_frame(script: &mut Script) {
-    let carried = script.transfer().map(|transfer| transfer.carried);
-    let found = match carried {
-        Some(Carried::Frame(frame)) => values::signal_of_frame(script, frame),
-        Some(Carried::Request) if script.bench.lent.len() < 200 => {
+    let found = match script.open() {
+        Open::Frame(frame) => values::signal_of_frame(script, frame),
+        Open::Request if script.bench.lent.len() < 200 => {
             let length = script.bench.lent.len();
             return messages::lend(script, length);
         }
@@ -152,13 +152,14 @@ fn write_open_frame(script: &mut Script) {
 
 /// Looks at a part of the state.
 pub fn peek(script: &mut Script) {
-    match script.random.below(16) {
+    match script.random.below(20) {
         0..=3 => script.say("status"),
         4..=6 => script.say("pending"),
         7..=9 => ahead(script),
         10 => script.say("frames"),
         11 => script.say("out"),
         12 => script.say("message"),
+        13..=16 => script.say("state"),
         _ => {
             let number = signal_number(script);
             read_signal(script, number, 95)
@@ -167,7 +168,7 @@ pub fn peek(script: &mut Script) {
 }
 
 /// Asks for the pending members ahead of a frame, mostly of one that is in a list.
-fn ahead(script: &mut Script) -> String {
+pub fn ahead(script: &mut Script) -> String {
     let lists = script.table().map_or(&[][..], |table| &table.lists);
     let members = lists.concat();
     let frames = script.frame_count();
@@ -184,28 +185,44 @@ fn ahead(script: &mut Script) -> String {
 
 /// Something that a run does seldom.
 fn unusual(script: &mut Script) {
-    match script.random.below(12) {
+    match script.random.below(14) {
         0 => wrong_buffer(script, any_call),
-        1 => right_buffer(script),
-        2 => {
-            script.say("fresh");
-            script.say(
-                script
-                    .random
-                    .clone()
-                    .one_of(&["frames", "tick", "message", "status"]),
-            );
-            select(script);
-        }
-        3..=4 => {
+        1..=4 => begin_anew(script),
+        5 => {
             let byte = script.random.byte();
             script.say(format!("byte {byte:02X}"));
         }
-        5..=6 => {
+        6 => {
             script.say("status");
             script.say("status");
         }
+        7..=9 => setting::disturb(script),
         _ => lines::damaged_line(script),
+    }
+}
+
+/// Fresh, a buffer, the table again or another message lent, also while a transfer is open.
+fn begin_anew(script: &mut Script) {
+    match script.random.below(4) {
+        0 => {
+            script.say("fresh");
+        }
+        1 => right_buffer(script),
+        2 => {
+            let line = script.table_line.clone();
+            script.say(line);
+        }
+        _ => {
+            let length = script.random.between(0, 20);
+            messages::lend(script, length);
+        }
+    }
+    for line in ["state", "frames", "out"] {
+        script.say(line);
+    }
+    any_call(script);
+    if script.random.once_in(2) {
+        select(script);
     }
 }
 

@@ -82,6 +82,29 @@ pub fn list_table(random: &mut Random) -> Sections {
     sections(&frames, &signals, &members, &entries)
 }
 
+/// A right table of few frames, of all kinds, with a slot of each kind and long delays among them.
+pub fn state_table(random: &mut Random) -> Sections {
+    let count = random.between(2, 6);
+    let mut frames = right_frames(random, count, false);
+    frames[random.below(count)][2] |= 1;
+    let signals = right_signals(random, &frames, 2 * count);
+    let mut members = right_members(random, &frames, count);
+    let kept = members.len() - random.below(members.len());
+    members.truncate(kept);
+    let lists = members[kept - 1][0] + 1;
+    let mut slots = vec![(2, 0), (3, 0)];
+    slots.extend((0..count).map(|frame| (0, frame as u16)));
+    slots.extend((0..lists).map(|list| (1, list)));
+    random.shuffle(&mut slots);
+    let schedules = counted_numbers(random, slots.len(), &[1, 2, 4]);
+    let mut entries = Vec::new();
+    for (schedule, (kind, target)) in schedules.into_iter().zip(slots) {
+        let delay = random.one_of(&[1, 1, 2, 3, 5, 255, 256, 65_535]);
+        entries.push([schedule, kind, target, delay]);
+    }
+    sections(&frames, &signals, &members, &entries)
+}
+
 /// A right table with as many frames, signals, lists and schedules as there may be.
 pub fn numerous_table(random: &mut Random) -> Sections {
     let all_published = random.once_in(2);

@@ -1,5 +1,6 @@
 // The answer to a line.
 use crate::buffers::Frames;
+use crate::buffers::LONGEST_LINE;
 use crate::buffers::Message;
 use crate::buffers::Output;
 use crate::buffers::Room;
@@ -8,133 +9,114 @@ use crate::buffers::within;
 use crate::buffers::words_within;
 use crate::bus;
 use crate::calls;
-use crate::command;
-use crate::command::Command;
 use crate::desk::Desk;
+use crate::desk::FRAMES_USED;
+use crate::desk::MESSAGE_USED;
+use crate::desk::ROOM_USED;
+use crate::desk::WORDS_USED;
+use crate::desk::byte;
+use crate::desk::size;
+use crate::forms;
+use crate::forms::Line;
 use crate::print;
-use crate::reads;
-use crate::reassembler;
+use crate::replies::Reply;
+use crate::sets;
 use crate::setup;
 use crate::shows;
-use master::state::State;
+use wire::checksum::Model;
 
 // Answers a line, and passes over an empty one and a comment.
 pub(crate) fn line(
-    desk: Desk,
     line: &[u8],
+    desk: &mut Desk,
     table: &mut Table,
-    bytes: &mut Frames,
+    frames: &mut Frames,
     message: &mut Message,
     room: &mut Room,
     out: &mut Output,
-) -> Desk {
+) {
     if line.len() == 0 {
-        return desk;
+        return;
     }
     if line[0] == b'#' {
-        return desk;
+        return;
     }
-    let command = command::of(line);
-    let after = answer(desk, command, line, table, bytes, message, room, out);
-    print::text(out, b"\n");
-    after
+    let read = forms::of(line);
+    if Line::PENDING <= read.form && read.form <= Line::ASSEMBLY {
+        show(read.form, desk, table, frames, room, out);
+    } else {
+        print::reply(out, reply(read, line, desk, table, frames, message, room));
+    }
+    print::character(out, b'\n');
 }
 
-// Lays out a buffer anew, uses the reassembler, or makes a call.
-fn answer(
-    mut desk: Desk,
-    command: Command,
+// Does what a line says.
+fn reply(
+    read: Line,
     line: &[u8],
+    desk: &mut Desk,
     table: &mut Table,
-    bytes: &mut Frames,
+    frames: &mut Frames,
     message: &mut Message,
     room: &mut Room,
-    out: &mut Output,
-) -> Desk {
-    match command {
-        Command::Table(at) => setup::table(desk, line, at, table, bytes, out),
-        Command::Buffer(n) => setup::buffer(desk, n, bytes, out),
-        Command::Lend(at) => setup::lend(desk, line, at, message, out),
-        Command::Room(n) => setup::room(desk, n, room, out),
-        Command::Take(at) => {
-            let before = desk.reassembler;
-            desk.reassembler = reassembler::take(before, line, at, room, out);
-            desk
-        }
-        Command::Taken => {
-            let reassembler = desk.reassembler;
-            reassembler::taken(reassembler, room, out);
-            desk
-        }
-        _ => in_use(desk, command, line, table, bytes, message, out),
+) -> Reply {
+    let form = read.form;
+    let list = read.list;
+    let numbers = read.numbers;
+    let n = numbers[0];
+    match form {
+        Line::TABLE => setup::table(line, list, desk, table, frames),
+        Line::BUFFER => setup::buffer(n, desk, frames),
+        Line::LEND => setup::lend(line, list, desk, message),
+        Line::ROOM => setup::room(n, desk, room),
+        Line::TAKE => bus::take(line, list, desk, room),
+        Line::PID..=Line::ENHANCED => on_bus(form, byte(n), line, list),
+        0..=Line::MESSAGE => call(read, line, desk, table, frames, message),
+        _ => sets::set(desk, form, &numbers),
     }
 }
 
-// Makes a call on what is in use of each buffer.
-fn in_use(
-    mut desk: Desk,
-    command: Command,
-    line: &[u8],
-    table: &[u16],
-    bytes: &mut [u8],
-    message: &[u8],
-    out: &mut Output,
-) -> Desk {
-    let words = words_within(desk.words, table);
-    let frames = within(desk.bytes, bytes);
-    let lent = within(desk.lent, message);
-    let state = desk.state;
-    desk.state = call(
-        state,
-        command,
-        line,
-        &table[..words],
-        &mut bytes[..frames],
-        &message[..lent],
-        out,
-    );
-    desk
+// Bytes on the bus.
+fn on_bus(form: usize, n: u8, line: &[u8], list: usize) -> Reply {
+    match form {
+        Line::PID => bus::pid(n),
+        Line::ID => bus::id(n),
+        Line::CLASSIC => bus::sum(n, Model::Classic, line, list),
+        _ => bus::sum(n, Model::Enhanced, line, list),
+    }
 }
 
-// Makes a call of the master that changes its state, or does what changes nothing.
+// Makes a call of the master on what is in use of each buffer.
 fn call(
-    state: State,
-    command: Command,
+    read: Line,
     line: &[u8],
-    t: &[u16],
-    bytes: &mut [u8],
-    lent: &[u8],
-    out: &mut Output,
-) -> State {
-    match command {
-        Command::Fresh => calls::fresh(state, t, bytes, out),
-        Command::Write(s, v) => calls::write(state, t, bytes, s, v, out),
-        Command::Writes(s, at) => calls::writes(state, t, bytes, s, line, at, out),
-        Command::Select(n) => calls::select(state, t, n, out),
-        Command::Tick => calls::tick(state, t, bytes, lent, out),
-        Command::Byte(b) => calls::byte(state, t, bytes, b, out),
-        Command::Status => calls::status(state, t, out),
-        Command::Send(nad, length) => calls::send(state, t, nad, length, out),
-        _ => {
-            tell(state, command, line, t, bytes, out);
-            state
-        }
-    }
+    desk: &mut Desk,
+    table: &[u16],
+    frames: &mut [u8],
+    message: &[u8],
+) -> Reply {
+    let words = words_within(size(desk[WORDS_USED]), table);
+    let bytes = within(size(desk[FRAMES_USED]), frames);
+    let lent = within(size(desk[MESSAGE_USED]), message);
+    calls::make(
+        read,
+        line,
+        desk,
+        &table[..words],
+        &mut frames[..bytes],
+        &message[..lent],
+    )
 }
 
-// Makes a call that changes nothing, or shows something.
-fn tell(state: State, command: Command, line: &[u8], t: &[u16], bytes: &[u8], out: &mut Output) {
-    match command {
-        Command::Read(s) => reads::scalar(state, t, bytes, s, out),
-        Command::Reads(s) => reads::array(state, t, bytes, s, out),
-        Command::Message => reads::message(state, t, out),
-        Command::Ahead(f) => reads::ahead(state, t, f, out),
-        Command::Pending => shows::pending(state, out),
-        Command::Frames => shows::frames(bytes, out),
-        Command::Out => shows::sent(state, t, out),
-        Command::Pid(id) => bus::pid(id, out),
-        Command::Id(protected) => bus::id(protected, out),
-        Command::Checksum(id, model, at) => bus::checksum(id, model, line, at, out),
-        _ => print::text(out, b"?"),
+// Shows something.
+fn show(form: usize, desk: &Desk, table: &[u16], frames: &[u8], room: &[u8], out: &mut Output) {
+    let words = words_within(size(desk[WORDS_USED]), table);
+    match form {
+        Line::PENDING => shows::pending(desk, out),
+        Line::FRAMES => shows::bytes(b"frames", desk[FRAMES_USED], frames, out),
+        Line::OUT => shows::sent(desk, &table[..words], out),
+        Line::STATE => shows::state(desk, out),
+        Line::TAKEN => shows::bytes(b"taken", desk[ROOM_USED], room, out),
+        _ => shows::assembly(desk, out),
     }
 }

@@ -19,8 +19,8 @@ pub(crate) const ROOM_BYTES: usize = 4096;
 // The characters of the script that are read at once, with those kept before them.
 pub(crate) const TEXT_BYTES: usize = 65536;
 
-// The answers that are not written out yet, and two bytes that count them.
-pub(crate) const OUTPUT_BYTES: usize = 65537;
+// The answers that are not written out yet, two bytes that count them, and one that tells a failure.
+pub(crate) const OUTPUT_BYTES: usize = 65538;
 
 pub(crate) type Table = [u16; LINE_WORDS];
 

@@ -1,41 +1,54 @@
-// Bytes on the bus: protected identifiers and checksums.
+// Bytes on the bus: protected identifiers and checksums, and the frames that the reassembler takes.
 use crate::buffers::LINE_BYTES;
-use crate::buffers::Output;
+use crate::buffers::Room;
 use crate::buffers::within;
-use crate::fields;
-use crate::fields::List;
-use crate::print;
-use wire::Answer;
+use crate::desk;
+use crate::desk::Desk;
+use crate::desk::ROOM_USED;
+use crate::desk::size;
+use crate::lists;
+use crate::lists::List;
+use crate::replies::Reply;
 use wire::checksum;
 use wire::checksum::Model;
 use wire::identifier;
 
 // Builds a protected identifier.
-pub(crate) fn pid(id: u8, out: &mut Output) {
-    match identifier::build(id) {
-        Answer::Byte(protected) => print::byte(out, b"pid", protected),
-        Answer::Refused(refusal) => print::refusal(out, refusal),
-    }
+pub(crate) fn pid(id: u8) -> Reply {
+    Reply::made(*b"pid      ", identifier::build(id))
 }
 
 // Reads a protected identifier.
-pub(crate) fn id(protected: u8, out: &mut Output) {
-    match identifier::read(protected) {
-        Answer::Byte(id) => print::number(out, b"id", id as u64),
-        Answer::Refused(refusal) => print::refusal(out, refusal),
-    }
+pub(crate) fn id(protected: u8) -> Reply {
+    Reply::identifier(identifier::read(protected))
 }
 
-// Makes the checksum of data under an identifier, the bytes of a line from a place on.
-pub(crate) fn checksum(id: u8, model: Model, line: &[u8], at: usize, out: &mut Output) {
+// Makes the checksum of the bytes that end the line under an identifier.
+pub(crate) fn sum(id: u8, model: Model, line: &[u8], list: usize) -> Reply {
     let mut data = [0u8; LINE_BYTES];
-    let List::Of(count) = fields::pairs_at(line, at, &mut data) else {
-        print::text(out, b"?");
-        return;
+    let List::Of(count) = lists::pairs(line, list, &mut data) else {
+        return Reply::malformed();
     };
     let n = within(count, &data);
-    match checksum::of(id, model, &data[..n]) {
-        Answer::Byte(sum) => print::byte(out, b"checksum", sum),
-        Answer::Refused(refusal) => print::refusal(out, refusal),
-    }
+    Reply::made(*b"checksum ", checksum::of(id, model, &data[..n]))
+}
+
+// The reassembler takes a frame, the bytes that end the line.
+pub(crate) fn take(line: &[u8], list: usize, desk: &mut Desk, room: &mut Room) -> Reply {
+    let mut frame = [0u8; LINE_BYTES];
+    let List::Of(count) = lists::pairs(line, list, &mut frame) else {
+        return Reply::malformed();
+    };
+    let n = within(count, &frame);
+    take_frame(desk, &frame[..n], room)
+}
+
+// The reassembler takes a frame.
+fn take_frame(desk: &mut Desk, frame: &[u8], room: &mut [u8]) -> Reply {
+    let n = within(size(desk[ROOM_USED]), room);
+    let taken = desk::reassembly(desk).take(frame, &mut room[..n]);
+    let state = taken.state;
+    let answer = taken.answer;
+    desk::put_reassembly(desk, state);
+    Reply::take(answer)
 }

@@ -1,38 +1,55 @@
-// The answers as text: they are collected in a buffer, and written out when it is full and before each reading. The last two bytes
-// of the buffer count the characters before them.
+// The answers as text: they are collected in a buffer, and written out when it is full and before each reading. The last three bytes
+// of the buffer count the characters before them and tell whether a writing failed; then nothing more is written.
 use crate::buffers::OUTPUT_BYTES;
 use crate::buffers::Output;
 use crate::buffers::within;
+use crate::replies::Reply;
+use crate::replies::Rest;
 use libc::STDOUT_FILENO;
 use refusal::Refusal;
 ghost use Prim.Native.Nat.{_<_};
 
-// Where the count stands: its high byte and its low one.
-const HIGH: usize = OUTPUT_BYTES - 2;
+// Where the count stands, its high byte and its low one, and where the failure.
+const HIGH: usize = OUTPUT_BYTES - 3;
 
-const LOW: usize = OUTPUT_BYTES - 1;
+const LOW: usize = OUTPUT_BYTES - 2;
 
-// Prints a text; where there is no room for it, the answers before it are written out, and it too.
-pub(crate) fn text(out: &mut Output, text: &[u8]) {
-    let n = count(out);
-    if put(out, n, text) {
-        set_count(out, n + text.len());
-        return;
+const FAILURE: usize = OUTPUT_BYTES - 1;
+
+// Prints an answer.
+pub(crate) fn reply(out: &mut Output, reply: Reply) {
+    let word = reply.word;
+    let rest = reply.rest;
+    let bytes = reply.bytes;
+    start(out, &word);
+    match rest {
+        Rest::Nothing => {}
+        Rest::Number(n) => decimal(out, n as u64),
+        Rest::Byte(b) => spaced(out, b),
+        Rest::Word(w) => four(out, w),
+        Rest::Bytes(count) => first_of(out, bytes, count),
+        Rest::Refused(refusal) => refused(out, refusal),
     }
-    write_out(out);
-    io::write_all(STDOUT_FILENO, text);
 }
 
-// Prints a text and a number in decimal, with a space between.
-pub(crate) fn number(out: &mut Output, name: &[u8], n: u64) {
-    text(out, name);
-    decimal(out, n);
+// Prints a word without the spaces behind it.
+fn start(out: &mut Output, word: &[u8]) {
+    let n = within(bytes::scan::find(word, 0, word.len(), b' '), word);
+    text(out, &word[..n]);
 }
 
-// Prints a text and a byte as an upper-case hexadecimal pair, with a space between.
-pub(crate) fn byte(out: &mut Output, name: &[u8], byte: u8) {
-    text(out, name);
-    pair(out, byte);
+// Prints the first of eight bytes.
+fn first_of(out: &mut Output, eight: [u8; 8], count: usize) {
+    let n = within(count, &eight);
+    bytes(out, b"", &eight[..n]);
+}
+
+// Prints a refusal: its number, and the position that a fault of the table has.
+fn refused(out: &mut Output, refusal: Refusal) {
+    decimal(out, refusal.number as u64);
+    if refusal.number == Refusal::TABLE {
+        decimal(out, refusal.place as u64);
+    }
 }
 
 // Prints a text and bytes as pairs, with a space before each.
@@ -40,53 +57,77 @@ pub(crate) fn bytes(out: &mut Output, name: &[u8], bytes: &[u8]) {
     text(out, name);
     let mut i: usize = 0;
     while i < bytes.len() {
-        pair(out, bytes[i]);
+        spaced(out, bytes[i]);
         i += 1;
     }
 }
 
-// Prints a text and a word as four upper-case hexadecimal digits, with a space between.
-pub(crate) fn word(out: &mut Output, name: &[u8], n: u16) {
-    let high = (n / 256) as u8;
-    let low = (n % 256) as u8;
-    let digits = [
-        b' ',
-        digit(high / 16),
-        digit(high % 16),
-        digit(low / 16),
-        digit(low % 16),
-    ];
-    text(out, name);
-    text(out, &digits);
-}
-
-// Prints a refusal: its number, and the position that a fault of the table has.
-pub(crate) fn refusal(out: &mut Output, refusal: Refusal) {
-    number(out, b"refused", refusal.number as u64);
-    if refusal.number == Refusal::TABLE {
-        decimal(out, refusal.place as u64);
-    }
+// Prints a space and a word as four upper-case hexadecimal digits.
+fn four(out: &mut Output, n: u16) {
+    spaced(out, (n / 256) as u8);
+    pair(out, (n % 256) as u8);
 }
 
 // Prints a space and a number in decimal.
 pub(crate) fn decimal(out: &mut Output, n: u64) {
+    character(out, b' ');
+    digits(out, n);
+}
+
+// Prints a number in decimal.
+pub(crate) fn digits(out: &mut Output, n: u64) {
     let mut digits = [0u8; 20];
     let count = io::decimal(n, &mut digits);
-    text(out, b" ");
     text(out, &digits[..count]);
 }
 
-// Prints a space and a byte as an upper-case hexadecimal pair.
-fn pair(out: &mut Output, byte: u8) {
-    let digits = [b' ', digit(byte / 16), digit(byte % 16)];
-    text(out, &digits);
+// Prints a space and a byte.
+fn spaced(out: &mut Output, byte: u8) {
+    character(out, b' ');
+    pair(out, byte);
 }
 
-// Writes the answers out, and tells whether that went well.
-pub(crate) fn write_out(out: &mut Output) -> bool {
+// Prints a byte as an upper-case hexadecimal pair.
+pub(crate) fn pair(out: &mut Output, byte: u8) {
+    character(out, digit(byte / 16));
+    character(out, digit(byte % 16));
+}
+
+// Prints a character.
+pub(crate) fn character(out: &mut Output, c: u8) {
+    let one = [c];
+    text(out, &one);
+}
+
+// Prints a text, which is shorter than the buffer; where there is no room for it, the answers before it are written out.
+pub(crate) fn text(out: &mut Output, text: &[u8]) {
+    let n = count(out);
+    if put(out, n, text) {
+        set_count(out, n + text.len());
+        return;
+    }
+    write_out(out);
+    if put(out, 0, text) {
+        set_count(out, text.len());
+    }
+}
+
+// Writes the answers out, unless an earlier writing failed; a failure is told on standard error.
+pub(crate) fn write_out(out: &mut Output) {
     let n = count(out);
     set_count(out, 0);
-    write_first(out, n)
+    if failed(out) {
+        return;
+    }
+    if !write_first(out, n) {
+        os::fail(b"bench: standard output");
+        out[FAILURE] = 1;
+    }
+}
+
+// Whether a writing failed.
+pub(crate) fn failed(out: &Output) -> bool {
+    out[FAILURE] == 1
 }
 
 // Writes the first characters out, and tells whether that went well.
@@ -98,7 +139,7 @@ fn write_first(out: &[u8], count: usize) -> bool {
 // Puts a text behind the first characters where there is room before the count, and tells whether there is.
 fn put(out: &mut [u8], count: usize, text: &[u8]) -> bool {
     let n = within(count, out);
-    if out.len() - n < text.len() + 2 {
+    if out.len() - n < text.len() + 3 {
         return false;
     }
     bytes::copy(text, &mut out[n..]);

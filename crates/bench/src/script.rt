@@ -7,9 +7,11 @@ use crate::buffers::Output;
 use crate::buffers::Room;
 use crate::buffers::Table;
 use crate::buffers::within;
+use crate::desk;
 use crate::desk::Desk;
 use crate::print;
 use libc::STDIN_FILENO;
+use master::state::State;
 ghost use Prim.Native.Nat.{_≤_};
 ghost use lib.ListN.{length};
 ghost use Rattle.io.specs.Counts.{Counts};
@@ -26,35 +28,25 @@ struct Part {
 // Runs the script to its end; nothing says that the input ends, so the turns count down from a number that no run uses up.
 pub(crate) fn run(
     text: &mut [u8],
+    desk: &mut Desk,
     table: &mut Table,
-    bytes: &mut Frames,
+    frames: &mut Frames,
     message: &mut Message,
     room: &mut Room,
     out: &mut Output,
 ) {
-    let mut desk = Desk::new();
+    desk::put(desk, State::fresh());
+    let mut kept: usize = 0;
+    let mut goes_on = true;
     let mut turns = u64::MAX;
-    while turns > 0 && desk.goes_on {
-        desk = turn(desk, text, table, bytes, message, room, out);
+    while turns > 0 && goes_on {
+        let part = read_part(text, kept);
+        let n = part.count;
+        kept = whole_lines(&mut text[..n], desk, table, frames, message, room, out);
+        print::write_out(out);
+        goes_on = part.goes_on && !print::failed(out);
         turns -= 1;
     }
-}
-
-// Reads a part, answers the lines that are whole then, and writes the answers out.
-fn turn(
-    desk: Desk,
-    text: &mut [u8],
-    table: &mut Table,
-    bytes: &mut Frames,
-    message: &mut Message,
-    room: &mut Room,
-    out: &mut Output,
-) -> Desk {
-    let part = read_part(text, desk.kept);
-    let n = part.count;
-    let mut after = whole_lines(desk, &mut text[..n], table, bytes, message, room, out);
-    after.goes_on = print::write_out(out) && part.goes_on;
-    after
 }
 
 // Reads once behind the characters that are kept; at the end of the input puts a newline there, which ends the last line.
@@ -62,17 +54,26 @@ fn read_part(text: &mut [u8], kept: usize) -> Part
     ensures { λ r. ⌜ Counts (r .count) (now (text .exit)) ⌝ }
 {
     let start = within(kept, text);
-    let more = read_some(&mut text[start..]);
-    if 0 < more {
-        return Part {
-            count: within(start + more, text),
-            goes_on: true,
-        };
+    let got = libc::read(STDIN_FILENO, &mut text[start..]);
+    if got < 0 {
+        os::fail(b"bench: standard input");
+        return first(text, 0, false);
     }
-    end_line(text, start);
+    if got == 0 {
+        end_line(text, start);
+        return first(text, start + 1, false);
+    }
+    let more = io::count(got, text);
+    first(text, start + more, true)
+}
+
+// The first characters of a text, so many, at most all.
+fn first(text: &[u8], count: usize, goes_on: bool) -> Part
+    ensures { λ r. ⌜ Counts (r .count) (now (text .entry)) ⌝ }
+{
     Part {
-        count: within(start + 1, text),
-        goes_on: false,
+        count: within(count, text),
+        goes_on,
     }
 }
 
@@ -83,35 +84,25 @@ fn end_line(text: &mut [u8], at: usize) {
     }
 }
 
-// Reads once, and tells how many characters came.
-fn read_some(text: &mut [u8]) -> usize
-    ensures { λ r. ⌜ r ≤ length (now (text .entry)) ⌝ }
-{
-    let got = libc::read(STDIN_FILENO, text);
-    io::count(got, text)
-}
-
-// Answers the whole lines of a text, and keeps what is left.
+// Answers the whole lines of a text until a writing fails, and tells how much is kept of the line that is left.
 fn whole_lines(
-    desk: Desk,
     text: &mut [u8],
+    desk: &mut Desk,
     table: &mut Table,
-    bytes: &mut Frames,
+    frames: &mut Frames,
     message: &mut Message,
     room: &mut Room,
     out: &mut Output,
-) -> Desk {
-    let mut now = desk;
+) -> usize {
     let mut used: usize = 0;
     let mut end = bytes::scan::find(text, 0, text.len(), b'\n');
-    while end < text.len() {
+    while end < text.len() && !print::failed(out) {
         let line = &text[used..end];
         used = end + 1;
-        now = answer::line(now, line, table, bytes, message, room, out);
+        answer::line(line, desk, table, frames, message, room, out);
         end = bytes::scan::find(text, used, text.len(), b'\n');
     }
-    now.kept = keep(text, used);
-    now
+    keep(text, used)
 }
 
 // Moves the line that is not whole yet to the front of the text, and tells how much of it is kept.

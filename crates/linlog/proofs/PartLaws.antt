@@ -108,11 +108,13 @@ pub few-kept : (log : Log) (kept out : List ℕ) (r : Log) (textAfter outAfter :
 unfolding lineKept keptOf
 few-kept log kept out r textAfter outAfter =
     ⊎-elim
+    (⊎-elim
     (λ came.
     let text : List ℕ = kept ++ came .part in
     let rest : List ℕ = drop (charactersOf (wholeLines [] text)) text in
     omega (arith, came .reports .kept, length-take keptLength rest, min-le-left keptLength (length rest)))
-    (λ ends. omega (arith, ends .none-kept))
+    (λ ends. omega (arith, ends .none-kept)))
+    (λ fails. omega (arith, fails .none-kept))
 
 -- of a text that was reported, what was kept is the last line of `inParts`
 ended-line : (u : List ℕ) → wholeLines [] (u ++ (10 ∷ [])) ≡ u ∷ [] → wholeLines [] (ended u) ≡ lastLine u

@@ -37,6 +37,12 @@ pub record Ends (log : Log) (kept out : List ℕ) (r : Log) (outAfter : List ℕ
   pub none-kept : r .kept ≡ 0
   pub over : r .«goes_on» ≡ false
 
--- one of the two
+-- the reading failed: no row is put, and nothing goes on
+pub record Fails (out : List ℕ) (r : Log) (outAfter : List ℕ) : Type 0 where
+  pub no-rows : outAfter ≡ out
+  pub none-kept : r .kept ≡ 0
+  pub over : r .«goes_on» ≡ false
+
+-- one of the three
 abbrev pub Goes : Log → List ℕ → List ℕ → Log → List ℕ → List ℕ → Type 0
-Goes log kept out r textAfter outAfter = Came log kept out r textAfter outAfter ⊎ Ends log kept out r outAfter
+Goes log kept out r textAfter outAfter = (Came log kept out r textAfter outAfter ⊎ Ends log kept out r outAfter) ⊎ Fails out r outAfter

@@ -1,5 +1,6 @@
 // The log program of document 01: judges the frames of a log on standard input, one a line, and prints a row for each.
 use buslog::report;
+use libc::STDERR_FILENO;
 use libc::STDIN_FILENO;
 use libc::STDOUT_FILENO;
 ghost use mathlib.Core.Path.{_≡_};
@@ -9,6 +10,12 @@ ghost use lib.ListN.{length, take};
 ghost use Rattle.buslog.specs.Row.{header, longestRow};
 ghost use Rattle.buslog.specs.Report.{builtIn, keptLength};
 ghost use Rattle.linlog.specs.Part.{Reports, Ends, Goes};
+
+// What a reading brought: how many characters, or a failure.
+struct Reading {
+    count: usize,
+    failed: bool,
+}
 
 // How far the log was reported.
 struct Log {
@@ -20,12 +27,37 @@ struct Log {
 }
 
 fn main() {
+    if 1 < os::arg_count() {
+        usage();
+        return;
+    }
     let header = header();
-    io::write_all(STDOUT_FILENO, &header);
+    if !write_out(&header) {
+        return;
+    }
     let mut text = [0u8; 16384];
     // The rows of so much text always fit: 33 characters for each of its characters.
     let mut out = [0u8; 540672];
     run(&mut text, &mut out);
+}
+
+// Says how the program is used, on standard error, where no row stands.
+fn usage() {
+    io::write_all(
+        STDERR_FILENO,
+        b"usage: linlog <LOG\n\
+        Reads a bus log from standard input, one frame a line, and judges each: line number, identifier, verdict.\n\
+        For example: printf '42 00 BD\\n42 00 BC\\n' | linlog\n",
+    );
+}
+
+// Writes text out and tells whether that went well; a failure is told on standard error.
+fn write_out(text: &[u8]) -> bool {
+    if io::write_all(STDOUT_FILENO, text) {
+        return true;
+    }
+    os::fail(b"linlog: standard output");
+    false
 }
 
 // The first line of the report.
@@ -58,25 +90,36 @@ fn run(text: &mut [u8], out: &mut [u8])
     }
 }
 
-// Reads once, and reports the lines that are whole then.
+// Reads once, and reports the lines that are whole then; after a failed reading nothing more is reported.
 fn part(log: Log, text: &mut [u8], out: &mut [u8]) -> Log
     requires { ⌜ (log .kept < length (now text)) × (longestRow * length (now text) ≤ length (now out)) ⌝ }
     ensures { λ r. ⌜ Goes log (take (log .kept) (now (text .entry))) (now (out .entry)) r (now (text .exit)) (now (out .exit)) ⌝ }
 {
     let kept = log.kept;
-    let more = read_some(&mut text[kept..]);
+    let reading = read_some(&mut text[kept..]);
+    if reading.failed {
+        return ended(log);
+    }
+    let more = reading.count;
     if more == 0 {
         return last(log, text, out);
     }
     whole_lines(log, text, kept + more, out)
 }
 
-// Reads once, and tells how many characters came.
-fn read_some(text: &mut [u8]) -> usize
-    ensures { λ r. ⌜ r ≤ length (now (text .entry)) ⌝ }
+// Reads once, and tells how many characters came; a failure is told on standard error.
+fn read_some(text: &mut [u8]) -> Reading
+    ensures { λ r. ⌜ r .count ≤ length (now (text .entry)) ⌝ }
 {
     let got = libc::read(STDIN_FILENO, text);
-    io::count(got, text)
+    let failed = got < 0;
+    if failed {
+        os::fail(b"linlog: standard input");
+    }
+    Reading {
+        count: io::count(got, text),
+        failed,
+    }
 }
 
 // Reports a last line that lacks its newline, if there is one.
@@ -100,7 +143,7 @@ fn whole_lines(log: Log, text: &mut [u8], n: usize, out: &mut [u8]) -> Log
     let table = table();
     let written = report::write(&table, log.number, &text[..n], out);
     let put = written.put;
-    let goes_on = io::write_all(STDOUT_FILENO, &out[..put]);
+    let goes_on = write_out(&out[..put]);
     Log {
         number: std::num::wrapping_add_u64(log.number, written.lines as u64),
         kept: report::keep(&mut text[..n], written.used),

@@ -26,14 +26,14 @@ slice-aggregate-write-2 c = sym (length-take-le _ (c .before .before .before .be
 write-requires : tie.Need-write-requires
 write-requires c κs = search needs
 
-slice-reshare-prefix-write-all : tie.Need-slice-reshare-prefix-write-all
-slice-reshare-prefix-write-all c = put-within _ _ _ _ _ _ _ (c .before .before .write .ensures)
+slice-reshare-prefix-write-out : tie.Need-slice-reshare-prefix-write-out
+slice-reshare-prefix-write-out c = put-within _ _ _ _ _ _ _ (c .before .before .write .ensures)
 
-slice-aggregate-write-all : tie.Need-slice-aggregate-write-all
-slice-aggregate-write-all c = sym (length-take-le _ _ (put-within _ _ _ _ _ _ _ (c .before .before .before .write .ensures)))
+slice-aggregate-write-out : tie.Need-slice-aggregate-write-out
+slice-aggregate-write-out c = sym (length-take-le _ _ (put-within _ _ _ _ _ _ _ (c .before .before .before .write .ensures)))
 
-write-all-requires : tie.Need-write-all-requires
-write-all-requires c κs = search needs
+write-out-requires : tie.Need-write-out-requires
+write-out-requires c κs = search needs
 
 wrapping-add-u64-requires : tie.Need-wrapping-add-u64-requires
 wrapping-add-u64-requires c κs = search needs
@@ -70,9 +70,9 @@ whole-lines-spec =
     slice-reshare-prefix-write
     slice-aggregate-write-2
     write-requires
-    slice-reshare-prefix-write-all
-    slice-aggregate-write-all
-    write-all-requires
+    slice-reshare-prefix-write-out
+    slice-aggregate-write-out
+    write-out-requires
     wrapping-add-u64-requires
     slice-relend-prefix-keep
     slice-aggregate-keep

@@ -1,8 +1,8 @@
 -- `bench::buffers::words_within` meets its contract: what it answers counts words at the front.
+use lib.Seq.{length-take-le}
 use mathlib.Core.Path.{sym}
 use native.Mathlib.Omega.{arith}
 use borrow.Author.Needs.{needs}
-use lib.Seq.{length-take-le}
 use Rattle.bench.proofs.buffers.words_within.Statement.{statement}
 use Rattle.bench.proofs.buffers.words_within.Tie as tie
 

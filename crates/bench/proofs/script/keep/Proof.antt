@@ -1,7 +1,7 @@
 -- `bench::script::keep` is safe and ends: each turn moves one character.
 use Prim.Native.Nat.{_≤_, _+_, _-_}
-use mathlib.Core.Path.{_≡_}
 use lib.ListN.{length}
+use mathlib.Core.Path.{_≡_}
 use borrow.Author.Needs.{needs}
 use Rattle.bench.proofs.script.keep.Statement.{statement}
 use Rattle.bench.proofs.script.keep.Tie as tie

@@ -1,24 +1,42 @@
 -- `bench::script::run` is safe and ends: the turns that are left fall.
-use mathlib.Core.Path.{_≡_}
 use lib.ListN.{length}
+use mathlib.Core.Path.{_≡_}
 use borrow.Author.Needs.{needs}
 use Rattle.bench.proofs.script.run.Statement.{statement}
 use Rattle.bench.proofs.script.run.Tie as tie
 
 abbrev Inv-loop : tie.InvT-loop
-Inv-loop text₀ table₀ bytes₀ message₀ room₀ out₀ desk₀ turns₀ text table bytes message room out desk turns = length text ≡ length text₀
+Inv-loop text₀ desk₀ table₀ frames₀ message₀ room₀ out₀ kept₀ goes-on₀ turns₀ text desk table frames message room out kept goes-on turns = length text ≡ length text₀
 
 abbrev μ-loop : tie.MeasureT-loop
-μ-loop text₀ table₀ bytes₀ message₀ room₀ out₀ desk₀ turns₀ text table bytes message room out desk turns = turns
+μ-loop text₀ desk₀ table₀ frames₀ message₀ room₀ out₀ kept₀ goes-on₀ turns₀ text desk table frames message room out kept goes-on turns = turns
 
-new-requires : tie.Need-new-requires Inv-loop μ-loop
-new-requires c κs = search needs
+fresh-requires : tie.Need-fresh-requires Inv-loop μ-loop
+fresh-requires c κs = search needs
+
+put-requires : tie.Need-put-requires Inv-loop μ-loop
+put-requires c κs = search needs
 
 loop-holds : tie.Need-loop-holds Inv-loop μ-loop
 loop-holds c = search needs
 
-turn-requires : tie.Need-turn-requires Inv-loop μ-loop
-turn-requires c κs = search needs
+read-part-requires : tie.Need-read-part-requires Inv-loop μ-loop
+read-part-requires c κs = search needs
+
+slice-relend-prefix-whole-lines : tie.Need-slice-relend-prefix-whole-lines Inv-loop μ-loop
+slice-relend-prefix-whole-lines c = search needs
+
+slice-aggregate-whole-lines : tie.Need-slice-aggregate-whole-lines Inv-loop μ-loop
+slice-aggregate-whole-lines c = search needs
+
+whole-lines-requires : tie.Need-whole-lines-requires Inv-loop μ-loop
+whole-lines-requires c κs = search needs
+
+write-out-requires : tie.Need-write-out-requires Inv-loop μ-loop
+write-out-requires c κs = search needs
+
+failed-requires : tie.Need-failed-requires Inv-loop μ-loop
+failed-requires c κs = search needs
 
 sub-turns : tie.Need-sub-turns Inv-loop μ-loop
 sub-turns c = search needs
@@ -47,9 +65,15 @@ run-spec =
     (tie.spec
     Inv-loop
     μ-loop
-    new-requires
+    fresh-requires
+    put-requires
     loop-holds
-    turn-requires
+    read-part-requires
+    slice-relend-prefix-whole-lines
+    slice-aggregate-whole-lines
+    whole-lines-requires
+    write-out-requires
+    failed-requires
     sub-turns
     loop-less
     loop-again

@@ -6,16 +6,19 @@ use Rattle.bench.proofs.script.whole_lines.Statement.{statement}
 use Rattle.bench.proofs.script.whole_lines.Tie as tie
 
 abbrev Inv-loop : tie.InvT-loop
-Inv-loop text table₀ bytes₀ message₀ room₀ out₀ now₀ used₀ end₀ table bytes message room out now used end = (used ≤ end) × (end ≤ length text)
+Inv-loop text desk₀ table₀ frames₀ message₀ room₀ out₀ used₀ end₀ desk table frames message room out used end = (used ≤ end) × (end ≤ length text)
 
 abbrev μ-loop : tie.MeasureT-loop
-μ-loop text table₀ bytes₀ message₀ room₀ out₀ now₀ used₀ end₀ table bytes message room out now used end = length text - end
+μ-loop text desk₀ table₀ frames₀ message₀ room₀ out₀ used₀ end₀ desk table frames message room out used end = length text - end
 
 find-requires : tie.Need-find-requires Inv-loop μ-loop
 find-requires c κs = search needs
 
 loop-holds : tie.Need-loop-holds Inv-loop μ-loop
 loop-holds c = search needs
+
+failed-requires : tie.Need-failed-requires Inv-loop μ-loop
+failed-requires c κs = search needs
 
 sub-line : tie.Need-sub-line Inv-loop μ-loop
 sub-line c = search needs
@@ -58,6 +61,7 @@ whole-lines-spec =
     μ-loop
     find-requires
     loop-holds
+    failed-requires
     sub-line
     part-line-start
     part-line-end

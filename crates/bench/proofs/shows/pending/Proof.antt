@@ -5,10 +5,10 @@ use Rattle.bench.proofs.shows.pending.Statement.{statement}
 use Rattle.bench.proofs.shows.pending.Tie as tie
 
 abbrev Inv-loop : tie.InvT-loop
-Inv-loop out₀ pending f₀ out f = f ≤ 60
+Inv-loop desk out₀ f₀ out f = f ≤ 60
 
 abbrev μ-loop : tie.MeasureT-loop
-μ-loop out₀ pending f₀ out f = 60 - f
+μ-loop desk out₀ f₀ out f = 60 - f
 
 slice-aggregate-text : tie.Need-slice-aggregate-text Inv-loop μ-loop
 slice-aggregate-text c = search needs
@@ -19,8 +19,11 @@ text-requires c κs = search needs
 loop-holds : tie.Need-loop-holds Inv-loop μ-loop
 loop-holds c = search needs
 
-array-read-if1 : tie.Need-array-read-if1 Inv-loop μ-loop
-array-read-if1 c = search needs
+mul-if1 : tie.Need-mul-if1 Inv-loop μ-loop
+mul-if1 c = search needs
+
+element-copy-out-if1 : tie.Need-element-copy-out-if1 Inv-loop μ-loop
+element-copy-out-if1 c = search needs
 
 decimal-requires : tie.Need-decimal-requires Inv-loop μ-loop
 decimal-requires c κs = search needs
@@ -46,7 +49,8 @@ pending-spec =
     slice-aggregate-text
     text-requires
     loop-holds
-    array-read-if1
+    mul-if1
+    element-copy-out-if1
     decimal-requires
     add-f
     loop-less
