@@ -1,13 +1,13 @@
 # The two commands: `make run` does the main job, `make test` passes all tests.
 .PHONY: run test benchmark clean
 
-# proves and builds the bench master, and runs the story of the mirror: the script with the answers beside its lines
+# proves and builds the bench master and the log program, and runs the story of the mirror: the script with its answers beside it
 run:
 	@mkdir -p build
-	@echo 'Proving and building the bench master; the first time takes some five minutes.' >&2
-	@rt check bench >build/run.log 2>&1 || { cat build/run.log; exit 1; }
-	@target/bin/bench <demo/mirror.txt >build/mirror.answers
-	@demo/show demo/mirror.txt build/mirror.answers
+	@echo 'Proving and building the programs; the first time takes some four minutes.' >&2
+	@{ rt check bench linlog 2>&1; echo $$? >build/run.status; } | tests/progress build/run.log 9 0 >&2
+	@[ "$$(cat build/run.status)" = 0 ] || { echo 'make run: not proved; build/run.log has what was said' >&2; exit 1; }
+	@demo/run
 
 test:
 	@tests/run

@@ -189,15 +189,33 @@ static bool answer_request(struct text text)
     return false;
 }
 
-int main(void)
+/* Answers every request of standard input, until it ends or an answer cannot be written. */
+static void answer_all(void)
 {
     static struct line line;
-    while (read_line(&line)) {
+    while (!ferror(stdout) && read_line(&line)) {
         struct text text = { line.bytes, line.bytes + line.length };
         if (line.length == 0 || line.bytes[0] == '#')
             continue;
         if (line.length > LINE_LENGTH_MAX || !answer_request(text))
             puts("?");
     }
-    return ferror(stdin) || fflush(stdout) != 0;
+}
+
+int main(int count, char **words)
+{
+    if (count > 1) {
+        fprintf(stderr, "usage: %s <REQUESTS\nAnswers pid, id, checksum and table lines of docs/SCRIPT.md.\n", words[0]);
+        return 2;
+    }
+    answer_all();
+    if (fflush(stdout) != 0 || ferror(stdout)) {
+        perror("linhost: standard output");
+        return 1;
+    }
+    if (ferror(stdin)) {
+        perror("linhost: standard input");
+        return 1;
+    }
+    return 0;
 }

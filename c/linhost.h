@@ -10,6 +10,10 @@
 #include <stddef.h>
 #include <stdint.h>
 
+#ifdef __cplusplus
+extern "C" {
+#endif
+
 /* Which checksum is wished for; identifiers 60 to 63 use classic whatever is wished. */
 enum { LIN_CLASSIC = 0, LIN_ENHANCED = 1 };
 
@@ -35,5 +39,9 @@ static inline uint8_t lin_value(uint16_t answer) { return (uint8_t)(answer & 0xF
 
 /* The refusal number of an answer, 0 for none. */
 static inline uint8_t lin_refusal(uint16_t answer) { return (uint8_t)(answer >> 8); }
+
+#ifdef __cplusplus
+}
+#endif
 
 #endif

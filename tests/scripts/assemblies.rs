@@ -115,8 +115,9 @@ fn frame(script: &mut Script, open: OpenMessage) {
     };
     let due = 32 + (open.counter & 15);
     let other = 32 + (open.counter.wrapping_add(1) & 15);
+    let border = random.one_of(&[0, 1, 6, 7, 15, 16, 31, 32, 47, 48, 48, 255]);
     let any = random.byte();
-    frame[1] = random.one_of(&[due, due, due, due, other, 16, 1, 6, 0, any]);
+    frame[1] = random.one_of(&[due, due, due, due, other, border, border, any]);
     if random.once_in(10) {
         frame.resize(random.one_of(&[0, 1, 7, 9, 16]), 0xEE);
     }

@@ -247,8 +247,11 @@ fn odd_line(random: &mut Random) -> Vec<u8> {
     .collect()
 }
 
-/// Long lines, with short ones between them.
+/// Long lines, with short ones between them, and two at the largest length.
 pub fn long_lines(script: &mut Script) {
+    for length in [LINE_LENGTH_MAX, LINE_LENGTH_MAX + 1] {
+        script.say(format!("pid {}5", "0".repeat(length - 5)));
+    }
     for _ in 0..script.random.between(3, 8) {
         let line = long_line(&mut script.random);
         script.say(line);

@@ -10,8 +10,8 @@ use crate::transfer::Open;
 /// Makes a fitting state and its neighbour, if the table has what the clause is about.
 type Clause = fn(&mut Random, &Table) -> Option<(State, State)>;
 
-/// The clauses of refusal 3; those with a case for each kind of slot come more often.
-const CLAUSES: [Clause; 20] = [
+/// The clauses of refusal 3; those with many cases come more often.
+const CLAUSES: [Clause; 21] = [
     requested_schedule,
     current_entry,
     wait_above_the_delay,
@@ -31,17 +31,21 @@ const CLAUSES: [Clause; 20] = [
     count_that_closes,
     message_length,
     message_without_a_frame,
+    message_without_a_frame,
     only_what_is_open_counts,
 ];
 
+/// Pairs of states at the borders of all clauses that the table has, in any order.
+pub fn pairs(random: &mut Random, table: &Table) -> Vec<(State, State)> {
+    let mut clauses = CLAUSES;
+    random.shuffle(&mut clauses);
+    let pairs = clauses.iter().map(|clause| clause(random, table));
+    pairs.flatten().collect()
+}
+
 /// A pair of states at the border of any clause that the table has.
-pub fn pair(random: &mut Random, table: &Table) -> (State, State) {
-    loop {
-        let clause = random.one_of(&CLAUSES);
-        if let Some(pair) = clause(random, table) {
-            return pair;
-        }
-    }
+pub fn pair(random: &mut Random, table: &Table) -> Option<(State, State)> {
+    pairs(random, table).pop()
 }
 
 /// A state and its neighbour, which is changed.
@@ -242,8 +246,12 @@ fn count_that_closes(random: &mut Random, table: &Table) -> Option<(State, State
 /// A message of the least or largest length is being sent, and one beyond it.
 fn message_length(random: &mut Random, table: &Table) -> Option<(State, State)> {
     let mut state = fitting(random, table);
-    let pairs = [(1, 0), (1, 0), (4_095, 4_096), (4_095, 65_535), (7, 4_103)];
-    let (length, beyond) = random.one_of(&pairs);
+    let (length, beyond) = match random.below(6) {
+        0..=1 => (1, 0),
+        2..=3 => (4_095, 4_096),
+        4 => (4_095, 65_535),
+        _ => (7, 4_103),
+    };
     let sending = |length| Message::Sending {
         nad: 1,
         length,
@@ -257,7 +265,7 @@ fn message_length(random: &mut Random, table: &Table) -> Option<(State, State)> 
 fn message_without_a_frame(random: &mut Random, table: &Table) -> Option<(State, State)> {
     let mut state = fitting(random, table);
     let any = random.between(1, 100);
-    let length = random.one_of(&[1, 5, 6, 6, 6, 7, 7, 11, 12, 17, 18, 95, 4_095, any, any]);
+    let length = random.one_of(&[6, 6, 6, 6, 7, 1, 5, 11, 12, 17, 18, 95, 4_095, any]);
     let sending = |next| Message::Sending {
         nad: 0,
         length,
@@ -265,8 +273,9 @@ fn message_without_a_frame(random: &mut Random, table: &Table) -> Option<(State,
     };
     let count = frame_count(length);
     state.message = sending(count - 1);
-    let beyond = beyond(random, count);
-    beside(state, |other| other.message = sending(beyond))
+    let any = beyond(random, count);
+    let next = random.one_of(&[count, count, any]);
+    beside(state, |other| other.message = sending(next))
 }
 
 /// Not a misfit: with nothing open any count, bytes and mark fit.

@@ -3,7 +3,7 @@
 use crate::diagnostic::Message;
 use crate::draft::Script;
 use crate::messages;
-use crate::misfits::pair;
+use crate::misfits::{pair, pairs};
 use crate::runs::{self, ahead, select};
 use crate::state::State;
 use crate::states::{fitting, set};
@@ -30,19 +30,15 @@ fn table(script: &mut Script) {
     }
 }
 
-/// A state that fits the table which is there, and a neighbour.
-fn states(script: &mut Script) -> Option<(State, State)> {
-    let table = script.table()?.clone();
-    Some(pair(&mut script.random, &table))
-}
-
 /// Pairs of states at the borders of refusal 3, with calls on both.
 pub fn state_borders(script: &mut Script) {
     table(script);
-    for _ in 0..script.random.between(5, 12) {
-        let Some((state, other)) = states(script) else {
-            return;
-        };
+    let Some(table) = script.table().cloned() else {
+        return;
+    };
+    let mut pairs = pairs(&mut script.random, &table);
+    pairs.truncate(script.random.between(6, 20));
+    for (state, other) in pairs {
         set(script, &state);
         if script.random.once_in(2) {
             calls_one_by_one(script, &state);
@@ -78,7 +74,10 @@ pub fn set_runs(script: &mut Script) {
 
 /// Sets a state that is far from the one that is there, makes some calls and mostly sets it back.
 pub fn disturb(script: &mut Script) {
-    let Some((state, other)) = states(script) else {
+    let Some(table) = script.table().cloned() else {
+        return;
+    };
+    let Some((state, other)) = pair(&mut script.random, &table) else {
         return;
     };
     let before = script.bench.master.state.clone();

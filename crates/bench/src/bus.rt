@@ -1,11 +1,13 @@
 // Bytes on the bus: protected identifiers and checksums, and the frames that the reassembler takes.
 use crate::buffers::LINE_BYTES;
-use crate::buffers::Room;
 use crate::buffers::within;
 use crate::desk;
 use crate::desk::Desk;
+use crate::desk::FORM;
 use crate::desk::ROOM_USED;
+use crate::desk::byte;
 use crate::desk::size;
+use crate::forms::Form;
 use crate::lists;
 use crate::lists::List;
 use crate::replies::Reply;
@@ -13,30 +15,31 @@ use wire::checksum;
 use wire::checksum::Model;
 use wire::identifier;
 
-// Builds a protected identifier.
-pub(crate) fn pid(id: u8) -> Reply {
-    Reply::made(*b"pid      ", identifier::build(id))
-}
-
-// Reads a protected identifier.
-pub(crate) fn id(protected: u8) -> Reply {
-    Reply::identifier(identifier::read(protected))
+// Answers the line at hand, a protected identifier built or read, or a checksum.
+pub(crate) fn answer(line: &[u8], desk: &Desk) -> Reply {
+    let n = byte(desk::first(desk));
+    match desk[FORM] {
+        Form::PID => Reply::pid(identifier::build(n)),
+        Form::ID => Reply::identifier(identifier::read(n)),
+        Form::CLASSIC => sum(n, Model::Classic, line, desk::list(desk)),
+        _ => sum(n, Model::Enhanced, line, desk::list(desk)),
+    }
 }
 
 // Makes the checksum of the bytes that end the line under an identifier.
-pub(crate) fn sum(id: u8, model: Model, line: &[u8], list: usize) -> Reply {
+fn sum(id: u8, model: Model, line: &[u8], list: usize) -> Reply {
     let mut data = [0u8; LINE_BYTES];
     let List::Of(count) = lists::pairs(line, list, &mut data) else {
         return Reply::malformed();
     };
     let n = within(count, &data);
-    Reply::made(*b"checksum ", checksum::of(id, model, &data[..n]))
+    Reply::checksum(checksum::of(id, model, &data[..n]))
 }
 
 // The reassembler takes a frame, the bytes that end the line.
-pub(crate) fn take(line: &[u8], list: usize, desk: &mut Desk, room: &mut Room) -> Reply {
+pub(crate) fn take(line: &[u8], desk: &mut Desk, room: &mut [u8]) -> Reply {
     let mut frame = [0u8; LINE_BYTES];
-    let List::Of(count) = lists::pairs(line, list, &mut frame) else {
+    let List::Of(count) = lists::pairs(line, desk::list(desk), &mut frame) else {
         return Reply::malformed();
     };
     let n = within(count, &frame);
@@ -45,8 +48,8 @@ pub(crate) fn take(line: &[u8], list: usize, desk: &mut Desk, room: &mut Room) -
 
 // The reassembler takes a frame.
 fn take_frame(desk: &mut Desk, frame: &[u8], room: &mut [u8]) -> Reply {
-    let n = within(size(desk[ROOM_USED]), room);
-    let taken = desk::reassembly(desk).take(frame, &mut room[..n]);
+    let end = within(size(desk[ROOM_USED]), room);
+    let taken = desk::reassembly(desk).take(frame, &mut room[..end]);
     let state = taken.state;
     let answer = taken.answer;
     desk::put_reassembly(desk, state);

@@ -3,47 +3,43 @@ use crate::buffers::LINE_BYTES;
 use crate::buffers::within;
 use crate::desk;
 use crate::desk::Desk;
+use crate::desk::FORM;
 use crate::desk::byte as byte_of;
 use crate::desk::word;
-use crate::forms::Line;
+use crate::forms::Form;
 use crate::lists;
 use crate::lists::List;
 use crate::replies::Reply;
 use master::start::FreshAnswer;
 use master::state::State;
 
-// Makes the call that a line is, on what is in use of each buffer.
+// Makes the call that the line at hand is, on what is in use of each buffer.
 pub(crate) fn make(
-    read: Line,
     line: &[u8],
     desk: &mut Desk,
     t: &[u16],
     frames: &mut [u8],
     lent: &[u8],
 ) -> Reply {
-    let form = read.form;
-    let list = read.list;
-    let numbers = read.numbers;
-    let n = numbers[0];
-    match form {
-        Line::TICK => tick(desk, t, frames, lent),
-        Line::BYTE => byte(desk, t, frames, n),
-        Line::WRITE => write(desk, t, frames, n, numbers[1]),
-        Line::WRITES => writes(desk, t, frames, n, line, list),
-        Line::READ => read_scalar(desk, t, frames, n),
-        Line::READS => read_array(desk, t, frames, n),
-        Line::FRESH => fresh(desk, t, frames),
-        _ => make_unlent(form, n, numbers[1], desk, t),
+    match desk[FORM] {
+        Form::TICK => tick(desk, t, frames, lent),
+        Form::BYTE => byte(desk, t, frames),
+        Form::WRITE => write(desk, t, frames),
+        Form::WRITES => writes(line, desk, t, frames),
+        Form::READ => read(desk, t, frames),
+        Form::READS => reads(desk, t, frames),
+        Form::FRESH => fresh(desk, t, frames),
+        _ => make_unlent(desk, t),
     }
 }
 
 // Makes a call that is lent no frame bytes.
-fn make_unlent(form: usize, n: u32, v: u32, desk: &mut Desk, t: &[u16]) -> Reply {
-    match form {
-        Line::AHEAD => ahead(desk, t, n),
-        Line::SELECT => select(desk, t, n),
-        Line::STATUS => status(desk, t),
-        Line::SEND => send(desk, t, n, v),
+fn make_unlent(desk: &mut Desk, t: &[u16]) -> Reply {
+    match desk[FORM] {
+        Form::AHEAD => ahead(desk, t),
+        Form::SELECT => select(desk, t),
+        Form::STATUS => status(desk, t),
+        Form::SEND => send(desk, t),
         _ => message(desk, t),
     }
 }
@@ -60,8 +56,9 @@ fn fresh(desk: &mut Desk, t: &[u16], frames: &mut [u8]) -> Reply {
 }
 
 // Writes a scalar.
-fn write(desk: &mut Desk, t: &[u16], frames: &mut [u8], s: u32, v: u32) -> Reply {
-    let wrote = desk::state(desk).write(t, frames, word(s), v);
+fn write(desk: &mut Desk, t: &[u16], frames: &mut [u8]) -> Reply {
+    let s = word(desk::first(desk));
+    let wrote = desk::state(desk).write(t, frames, s, desk::second(desk));
     let state = wrote.state;
     let answer = wrote.answer;
     desk::put(desk, state);
@@ -69,25 +66,19 @@ fn write(desk: &mut Desk, t: &[u16], frames: &mut [u8], s: u32, v: u32) -> Reply
 }
 
 // Writes an array, the bytes that end the line.
-fn writes(
-    desk: &mut Desk,
-    t: &[u16],
-    frames: &mut [u8],
-    s: u32,
-    line: &[u8],
-    list: usize,
-) -> Reply {
+fn writes(line: &[u8], desk: &mut Desk, t: &[u16], frames: &mut [u8]) -> Reply {
     let mut values = [0u8; LINE_BYTES];
-    let List::Of(count) = lists::pairs(line, list, &mut values) else {
+    let List::Of(count) = lists::pairs(line, desk::list(desk), &mut values) else {
         return Reply::malformed();
     };
     let n = within(count, &values);
-    write_array(desk, t, frames, s, &values[..n])
+    write_array(desk, t, frames, &values[..n])
 }
 
 // Writes an array.
-fn write_array(desk: &mut Desk, t: &[u16], frames: &mut [u8], s: u32, values: &[u8]) -> Reply {
-    let wrote = desk::state(desk).write_array(t, frames, word(s), values);
+fn write_array(desk: &mut Desk, t: &[u16], frames: &mut [u8], values: &[u8]) -> Reply {
+    let s = word(desk::first(desk));
+    let wrote = desk::state(desk).write_array(t, frames, s, values);
     let state = wrote.state;
     let answer = wrote.answer;
     desk::put(desk, state);
@@ -95,21 +86,22 @@ fn write_array(desk: &mut Desk, t: &[u16], frames: &mut [u8], s: u32, values: &[
 }
 
 // Reads a scalar.
-fn read_scalar(desk: &Desk, t: &[u16], frames: &[u8], s: u32) -> Reply {
-    Reply::read(desk::state(desk).read(t, frames, word(s)))
+fn read(desk: &Desk, t: &[u16], frames: &[u8]) -> Reply {
+    Reply::read(desk::state(desk).read(t, frames, word(desk::first(desk))))
 }
 
 // Reads an array.
-fn read_array(desk: &Desk, t: &[u16], frames: &[u8], s: u32) -> Reply {
-    let given = desk::state(desk).read_array(t, frames, word(s));
+fn reads(desk: &mut Desk, t: &[u16], frames: &[u8]) -> Reply {
+    let given = desk::state(desk).read_array(t, frames, word(desk::first(desk)));
     let answer = given.answer;
-    let bytes = given.bytes;
-    Reply::read_array(answer, bytes)
+    let eight = given.bytes;
+    desk::put_answer(desk, &eight);
+    Reply::read_array(answer)
 }
 
 // Asks for a schedule.
-fn select(desk: &mut Desk, t: &[u16], n: u32) -> Reply {
-    let chosen = desk::state(desk).select(t, word(n));
+fn select(desk: &mut Desk, t: &[u16]) -> Reply {
+    let chosen = desk::state(desk).select(t, word(desk::first(desk)));
     let state = chosen.state;
     let answer = chosen.answer;
     desk::put(desk, state);
@@ -126,13 +118,15 @@ fn tick(desk: &mut Desk, t: &[u16], frames: &[u8], lent: &[u8]) -> Reply {
 }
 
 // Takes one byte in.
-fn byte(desk: &mut Desk, t: &[u16], frames: &mut [u8], b: u32) -> Reply {
-    let took = desk::state(desk).byte_in(t, frames, byte_of(b));
+fn byte(desk: &mut Desk, t: &[u16], frames: &mut [u8]) -> Reply {
+    let b = byte_of(desk::first(desk));
+    let took = desk::state(desk).byte_in(t, frames, b);
     let state = took.state;
     let answer = took.answer;
     let response = took.response;
     desk::put(desk, state);
-    Reply::byte(answer, response)
+    desk::put_answer(desk, &response);
+    Reply::byte(answer)
 }
 
 // Reads the status.
@@ -145,8 +139,9 @@ fn status(desk: &mut Desk, t: &[u16]) -> Reply {
 }
 
 // Begins to send a message.
-fn send(desk: &mut Desk, t: &[u16], nad: u32, length: u32) -> Reply {
-    let sent = desk::state(desk).send(t, byte_of(nad), length);
+fn send(desk: &mut Desk, t: &[u16]) -> Reply {
+    let nad = byte_of(desk::first(desk));
+    let sent = desk::state(desk).send(t, nad, desk::second(desk));
     let state = sent.state;
     let answer = sent.answer;
     desk::put(desk, state);
@@ -159,6 +154,6 @@ fn message(desk: &Desk, t: &[u16]) -> Reply {
 }
 
 // Tells the number of pending members ahead of a frame.
-fn ahead(desk: &Desk, t: &[u16], f: u32) -> Reply {
-    Reply::ahead(desk::state(desk).number_ahead(t, word(f)))
+fn ahead(desk: &Desk, t: &[u16]) -> Reply {
+    Reply::ahead(desk::state(desk).number_ahead(t, word(desk::first(desk))))
 }

@@ -1,5 +1,5 @@
-// The desk: the master's state, the reassembler's, and how much of each buffer is in use, as numbers by name. A call takes the
-// state from here and puts the next one back; a `set` line puts a number.
+// The desk: the master's state, the reassembler's, how much of each buffer is in use, and the line at hand, as numbers by name. A
+// call takes the state from here and puts the next one back; a `set` line puts a number.
 use master::state::Current;
 use master::state::Message;
 use master::state::Opened;
@@ -12,7 +12,7 @@ use master::state::Transfer;
 use transport::reassembly::Message as Open;
 use transport::reassembly::Reassembly;
 
-pub(crate) const SIZE: usize = 96;
+pub(crate) const SIZE: usize = 128;
 
 pub(crate) type Desk = [u32; SIZE];
 
@@ -64,6 +64,16 @@ pub(crate) const MESSAGE_USED: usize = 90;
 
 pub(crate) const ROOM_USED: usize = 91;
 
+// The line at hand: which form it has, where its list begins, and its numbers and bytes.
+pub(crate) const FORM: usize = 96;
+
+pub(crate) const LIST: usize = 97;
+
+pub(crate) const NUMBERS: usize = 98;
+
+// The bytes of an answer.
+pub(crate) const ANSWER: usize = 110;
+
 // In the place of an entry or a schedule: none; in that of a frame: nothing is open, or a transfer that is of no frame.
 pub(crate) const NONE: u32 = 65536;
 
@@ -86,6 +96,30 @@ pub(crate) fn word(n: u32) -> u16 {
 // A number of 8 bits.
 pub(crate) fn byte(n: u32) -> u8 {
     (n % 256) as u8
+}
+
+// The first number of the line at hand.
+pub(crate) fn first(desk: &Desk) -> u32 {
+    desk[NUMBERS]
+}
+
+// The second number of the line at hand.
+pub(crate) fn second(desk: &Desk) -> u32 {
+    desk[NUMBERS + 1]
+}
+
+// Where the list of the line at hand begins.
+pub(crate) fn list(desk: &Desk) -> usize {
+    size(desk[LIST])
+}
+
+// Puts the bytes of an answer.
+pub(crate) fn put_answer(desk: &mut Desk, bytes: &[u8; 8]) {
+    let mut i: usize = 0;
+    while i < 8 {
+        desk[ANSWER + i] = wide(bytes[i]);
+        i += 1;
+    }
 }
 
 // A number as a size.

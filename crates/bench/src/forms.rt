@@ -1,18 +1,16 @@
 // The lines of a script. A form is written as a line is: a word is that word, a number stands for a number up to it, `HH` for a byte
 // as an upper-case hexadecimal pair, and `..` at the end for a list; `|` stands between forms.
 use crate::buffers::LONGEST_LINE;
+use crate::desk::Desk;
+use crate::desk::FORM;
+use crate::desk::LIST;
+use crate::desk::NUMBERS;
+use crate::desk::SIZE;
 use crate::fields;
 use crate::fields::Field;
 
-// The most numbers and bytes that stand before a list.
-pub(crate) const MOST: usize = 9;
-
-// A line that was read: which form it has, its numbers and bytes, and where its list begins.
-pub(crate) struct Line {
-    pub(crate) form: usize,
-    pub(crate) numbers: [u32; MOST],
-    pub(crate) list: usize,
-}
+// The forms by their names.
+pub(crate) struct Form {}
 
 // Whether a line has a form, and where its list begins then.
 enum Read {
@@ -20,48 +18,51 @@ enum Read {
     No,
 }
 
-impl Line {
-    // The forms by their names, in the order of the list below.
-    pub(crate) const TICK: usize = 0;
-    pub(crate) const BYTE: usize = 1;
-    pub(crate) const WRITE: usize = 2;
-    pub(crate) const WRITES: usize = 3;
-    pub(crate) const READ: usize = 4;
-    pub(crate) const READS: usize = 5;
-    pub(crate) const AHEAD: usize = 6;
-    pub(crate) const SELECT: usize = 7;
-    pub(crate) const FRESH: usize = 8;
-    pub(crate) const STATUS: usize = 9;
-    pub(crate) const SEND: usize = 10;
-    pub(crate) const MESSAGE: usize = 11;
-    pub(crate) const PENDING: usize = 12;
-    pub(crate) const FRAMES: usize = 13;
-    pub(crate) const OUT: usize = 14;
-    pub(crate) const STATE: usize = 15;
-    pub(crate) const TAKEN: usize = 16;
-    pub(crate) const ASSEMBLY: usize = 17;
-    pub(crate) const TABLE: usize = 18;
-    pub(crate) const BUFFER: usize = 19;
-    pub(crate) const LEND: usize = 20;
-    pub(crate) const ROOM: usize = 21;
-    pub(crate) const TAKE: usize = 22;
-    pub(crate) const PID: usize = 23;
-    pub(crate) const ID: usize = 24;
-    pub(crate) const CLASSIC: usize = 25;
-    pub(crate) const ENHANCED: usize = 26;
+impl Form {
+    // In the order of the list below.
+    pub(crate) const TICK: u32 = 0;
+    pub(crate) const BYTE: u32 = 1;
+    pub(crate) const WRITE: u32 = 2;
+    pub(crate) const WRITES: u32 = 3;
+    pub(crate) const READ: u32 = 4;
+    pub(crate) const READS: u32 = 5;
+    pub(crate) const AHEAD: u32 = 6;
+    pub(crate) const SELECT: u32 = 7;
+    pub(crate) const FRESH: u32 = 8;
+    pub(crate) const STATUS: u32 = 9;
+    pub(crate) const SEND: u32 = 10;
+    pub(crate) const MESSAGE: u32 = 11;
+    pub(crate) const PENDING: u32 = 12;
+    pub(crate) const FRAMES: u32 = 13;
+    pub(crate) const OUT: u32 = 14;
+    pub(crate) const STATE: u32 = 15;
+    pub(crate) const TAKEN: u32 = 16;
+    pub(crate) const ASSEMBLY: u32 = 17;
+    pub(crate) const TABLE: u32 = 18;
+    pub(crate) const BUFFER: u32 = 19;
+    pub(crate) const LEND: u32 = 20;
+    pub(crate) const ROOM: u32 = 21;
+    pub(crate) const TAKE: u32 = 22;
+    pub(crate) const PID: u32 = 23;
+    pub(crate) const ID: u32 = 24;
+    pub(crate) const CLASSIC: u32 = 25;
+    pub(crate) const ENHANCED: u32 = 26;
     // The first of the lines that set a part of the state.
-    pub(crate) const SETS: usize = 27;
+    pub(crate) const SETS: u32 = 27;
     // No form.
-    pub(crate) const NONE: usize = 100;
+    pub(crate) const NONE: u32 = 100;
 }
 
-// Reads a line as the first form that it has; one that is too long has none.
-pub(crate) fn of(line: &[u8]) -> Line {
+// Reads a line as the first form that it has, and puts the form, the numbers and the place of the list on the desk; a line that is
+// too long has no form.
+pub(crate) fn take(line: &[u8], desk: &mut Desk) {
+    desk[FORM] = Form::NONE;
     if LONGEST_LINE < line.len() {
-        return first(line, &[]);
+        return;
     }
-    first(
+    find(
         line,
+        desk,
         b"tick|byte HH|write 65535 4294967295|writes 65535 ..|read 65535|reads 65535|ahead 65535|select 65535|fresh|\
         status|send 255 4294967295|message|pending|frames|out|state|taken|assembly|table ..|buffer 512|lend ..|\
         room 4096|take ..|pid 255|id HH|checksum 255 classic ..|checksum 255 enhanced ..|\
@@ -70,36 +71,33 @@ pub(crate) fn of(line: &[u8]) -> Line {
         set bytes HH HH HH HH HH HH HH HH HH|set written 1|set message none|set message sending 255 65535 65535|\
         set message completed|set message failed|set status 1 1 1 HH|set pending 59 1|\
         set assembly none|set assembly 255 65535 65535 255",
-    )
+    );
 }
 
 // Reads a line as the first of some forms that it has.
-fn first(line: &[u8], forms: &[u8]) -> Line {
-    let mut numbers = [0u32; MOST];
-    let mut k: usize = 0;
+fn find(line: &[u8], desk: &mut Desk, forms: &[u8]) {
+    let mut k: u32 = 0;
     let mut at: usize = 0;
     while at < forms.len() {
         let end = bytes::scan::find(forms, at, forms.len(), b'|');
-        if let Read::At(list) = read_as(line, &forms[at..end], &mut numbers) {
-            return Line {
-                form: k,
-                numbers,
-                list,
-            };
+        if let Read::At(list) = read_as(line, &forms[at..end], desk) {
+            desk[FORM] = k;
+            desk[LIST] = (list % 65536) as u32;
+            return;
         }
-        k += 1;
+        k = next(k);
         at = end + 1;
-    }
-    Line {
-        form: Line::NONE,
-        numbers,
-        list: 0,
     }
 }
 
+// The number of the next form.
+fn next(k: u32) -> u32 {
+    if k < Form::NONE { k + 1 } else { k }
+}
+
 // Reads a line as one form, field by field.
-fn read_as(line: &[u8], form: &[u8], numbers: &mut [u32; MOST]) -> Read {
-    let mut n: usize = 0;
+fn read_as(line: &[u8], form: &[u8], desk: &mut Desk) -> Read {
+    let mut n: usize = NUMBERS;
     let mut place: usize = 0;
     let mut at: usize = 0;
     while at < form.len() {
@@ -115,7 +113,7 @@ fn read_as(line: &[u8], form: &[u8], numbers: &mut [u32; MOST]) -> Read {
         if let Field::Wrong = field {
             return Read::No;
         }
-        n = gathered(numbers, n, field);
+        n = gathered(desk, n, field);
         place = stop + 1;
         at = end + 1;
     }
@@ -125,14 +123,14 @@ fn read_as(line: &[u8], form: &[u8], numbers: &mut [u32; MOST]) -> Read {
     Read::At(place)
 }
 
-// Puts a number that a field has behind those before it, and tells how many there are then.
-fn gathered(numbers: &mut [u32; MOST], n: usize, field: Field) -> usize {
+// Puts a number that a field has at a place of the desk, and tells the next place.
+fn gathered(desk: &mut Desk, place: usize, field: Field) -> usize {
     let Field::Number(v) = field else {
-        return n;
+        return place;
     };
-    if n < MOST {
-        numbers[n] = v;
-        return n + 1;
+    if place < SIZE {
+        desk[place] = v;
+        return place + 1;
     }
-    n
+    place
 }

@@ -3,10 +3,12 @@
 use crate::buffers::OUTPUT_BYTES;
 use crate::buffers::Output;
 use crate::buffers::within;
+use crate::desk::ANSWER;
+use crate::desk::Desk;
+use crate::desk::byte as byte_of;
+use crate::desk::size;
 use crate::replies::Reply;
-use crate::replies::Rest;
 use libc::STDOUT_FILENO;
-use refusal::Refusal;
 ghost use Prim.Native.Nat.{_<_};
 
 // Where the count stands, its high byte and its low one, and where the failure.
@@ -16,40 +18,57 @@ const LOW: usize = OUTPUT_BYTES - 2;
 
 const FAILURE: usize = OUTPUT_BYTES - 1;
 
-// Prints an answer.
-pub(crate) fn reply(out: &mut Output, reply: Reply) {
-    let word = reply.word;
-    let rest = reply.rest;
-    let bytes = reply.bytes;
-    start(out, &word);
-    match rest {
-        Rest::Nothing => {}
-        Rest::Number(n) => decimal(out, n as u64),
-        Rest::Byte(b) => spaced(out, b),
-        Rest::Word(w) => four(out, w),
-        Rest::Bytes(count) => first_of(out, bytes, count),
-        Rest::Refused(refusal) => refused(out, refusal),
+// Prints an answer; where it has bytes, they are on the desk.
+pub(crate) fn reply(out: &mut Output, reply: Reply, desk: &Desk) {
+    let words = Reply::words();
+    word(out, &words, reply.word);
+    rest(out, reply.kind, reply.n, reply.place, desk);
+}
+
+// Prints what stands behind the word.
+fn rest(out: &mut Output, kind: u32, n: u32, place: u32, desk: &Desk) {
+    match kind {
+        Reply::NUMBER => number(out, n),
+        Reply::BYTE => spaced(out, byte_of(n)),
+        Reply::WORD => four(out, n),
+        Reply::LISTED => listed(out, desk, size(n)),
+        Reply::PLACED => placed(out, n, place),
+        _ => {}
     }
 }
 
-// Prints a word without the spaces behind it.
-fn start(out: &mut Output, word: &[u8]) {
-    let n = within(bytes::scan::find(word, 0, word.len(), b' '), word);
-    text(out, &word[..n]);
-}
-
-// Prints the first of eight bytes.
-fn first_of(out: &mut Output, eight: [u8; 8], count: usize) {
-    let n = within(count, &eight);
-    bytes(out, b"", &eight[..n]);
-}
-
-// Prints a refusal: its number, and the position that a fault of the table has.
-fn refused(out: &mut Output, refusal: Refusal) {
-    decimal(out, refusal.number as u64);
-    if refusal.number == Refusal::TABLE {
-        decimal(out, refusal.place as u64);
+// Prints one of some words.
+fn word(out: &mut Output, words: &[u8], k: u32) {
+    let mut n = k;
+    let mut at: usize = 0;
+    while 0 < n {
+        at = within(bytes::scan::find(words, at, words.len(), b' ') + 1, words);
+        n -= 1;
     }
+    let end = bytes::scan::find(words, at, words.len(), b' ');
+    text(out, &words[at..end]);
+}
+
+// Prints a space and a number.
+fn number(out: &mut Output, n: u32) {
+    decimal(out, n as u64);
+}
+
+// Prints the first bytes of the answer on the desk.
+fn listed(out: &mut Output, desk: &Desk, count: usize) {
+    let mut i: usize = 0;
+    while i < 8 {
+        if i < count {
+            spaced(out, byte_of(desk[ANSWER + i]));
+        }
+        i += 1;
+    }
+}
+
+// Prints a refusal's number and place.
+fn placed(out: &mut Output, n: u32, place: u32) {
+    number(out, n);
+    number(out, place);
 }
 
 // Prints a text and bytes as pairs, with a space before each.
@@ -63,9 +82,9 @@ pub(crate) fn bytes(out: &mut Output, name: &[u8], bytes: &[u8]) {
 }
 
 // Prints a space and a word as four upper-case hexadecimal digits.
-fn four(out: &mut Output, n: u16) {
-    spaced(out, (n / 256) as u8);
-    pair(out, (n % 256) as u8);
+fn four(out: &mut Output, n: u32) {
+    spaced(out, byte_of(n / 256));
+    pair(out, byte_of(n));
 }
 
 // Prints a space and a number in decimal.

@@ -1,12 +1,8 @@
 // The lines that set a part of the state, whether it fits the table or not.
 use crate::desk::*;
-use crate::forms::Line;
-use crate::forms::MOST;
+use crate::forms::Form;
 use crate::replies::Reply;
 ghost use Prim.Native.Nat.{_≤_};
-
-// How many such lines there are.
-const LINES: usize = 20;
 
 // What a line sets: a value at a place, and behind it so many of the line's numbers, from one of them on.
 struct Setting {
@@ -16,22 +12,23 @@ struct Setting {
     count: u8,
 }
 
-// Sets what a line says; a line that has no form is malformed.
-pub(crate) fn set(desk: &mut Desk, form: usize, numbers: &[u32; MOST]) -> Reply {
-    if form < Line::SETS || Line::SETS + LINES <= form {
+// Sets what the line at hand says; a line that has no form is malformed.
+pub(crate) fn set(desk: &mut Desk) -> Reply {
+    let form = desk[FORM];
+    if form < Form::SETS || Form::NONE <= form {
         return Reply::malformed();
     }
-    let setting = part(form - Line::SETS, numbers[0], numbers[1]);
+    let setting = part(form - Form::SETS, desk[NUMBERS], desk[NUMBERS + 1]);
     let place = setting.place;
-    if place < SIZE {
+    if place < NUMBERS {
         desk[place] = setting.value;
-        put_numbers(desk, place + 1, numbers, setting.from, setting.count);
+        put_numbers(desk, place + 1, setting.from, setting.count);
     }
-    Reply::word(*b"set      ")
+    Reply::set()
 }
 
 // What a line sets, by the order of the forms.
-fn part(k: usize, n: u32, b: u32) -> Setting {
+fn part(k: u32, n: u32, b: u32) -> Setting {
     match k {
         0 => one(WAIT, n),
         1 => one(ENTRY, n),
@@ -71,25 +68,23 @@ fn several(place: usize, value: u32, from: u8, count: u8) -> Setting {
     }
 }
 
-// Puts so many numbers, from one of them on, at a place.
-fn put_numbers(desk: &mut Desk, at: usize, numbers: &[u32; MOST], from: u8, count: u8)
-    requires { ⌜ at ≤ 96 ⌝ }
+// Puts so many of the line's numbers, from one of them on, at a place.
+fn put_numbers(desk: &mut Desk, at: usize, from: u8, count: u8)
+    requires { ⌜ at ≤ 98 ⌝ }
 {
     let mut i: u8 = 0;
     while i < count {
-        put(desk, at + i as usize, number(numbers, from as usize + i as usize));
+        copy(desk, at + i as usize, NUMBERS + from as usize + i as usize);
         i += 1;
     }
 }
 
-// One of the numbers.
-fn number(numbers: &[u32; MOST], k: usize) -> u32 {
-    if k < MOST { numbers[k] } else { 0 }
-}
-
-// Puts a number at a place.
-fn put(desk: &mut Desk, place: usize, n: u32) {
-    if place < SIZE {
-        desk[place] = n;
+// Copies a number from one place to another.
+fn copy(desk: &mut Desk, to: usize, from: usize) {
+    if SIZE <= from {
+        return;
+    }
+    if to < SIZE {
+        desk[to] = desk[from];
     }
 }

@@ -21,24 +21,23 @@ use crate::replies::Reply;
 use master::state::State;
 
 // Lays out a table, right or not, with frame bytes for its frames and a fresh state, and answers the table check.
-pub(crate) fn table(
-    line: &[u8],
-    list: usize,
-    desk: &mut Desk,
-    table: &mut Table,
-    frames: &mut Frames,
-) -> Reply {
+pub(crate) fn table(line: &[u8], desk: &mut Desk, table: &mut Table, frames: &mut Frames) -> Reply {
     let mut words = [0u16; LINE_WORDS];
-    let List::Of(count) = lists::words(line, list, &mut words) else {
+    let List::Of(count) = lists::words(line, desk::list(desk), &mut words) else {
         return Reply::malformed();
     };
     *table = words;
     *frames = [0u8; FRAME_BYTES];
     let n = words_within(count, &words);
+    lay(desk, &words[..n])
+}
+
+// Lays out the state and the number of frame bytes for a table.
+fn lay(desk: &mut Desk, t: &[u16]) -> Reply {
     desk::put(desk, State::fresh());
-    desk[WORDS_USED] = (n % 65536) as u32;
-    desk[FRAMES_USED] = frame_bytes(&words[..n]);
-    Reply::check(cluster::check(&words[..n]))
+    desk[WORDS_USED] = (t.len() % 65536) as u32;
+    desk[FRAMES_USED] = frame_bytes(t);
+    Reply::check(cluster::check(t))
 }
 
 // The frame bytes of a table: eight a frame, and none where the number of frames is missing or too large.
@@ -54,27 +53,29 @@ fn frame_bytes(t: &[u16]) -> u32 {
 }
 
 // Lays out the message that later ticks are lent.
-pub(crate) fn lend(line: &[u8], list: usize, desk: &mut Desk, message: &mut Message) -> Reply {
+pub(crate) fn lend(line: &[u8], desk: &mut Desk, message: &mut Message) -> Reply {
     let mut lent = [0u8; MESSAGE_BYTES];
-    let List::Of(n) = lists::pairs(line, list, &mut lent) else {
+    let List::Of(n) = lists::pairs(line, desk::list(desk), &mut lent) else {
         return Reply::malformed();
     };
     *message = lent;
     desk[MESSAGE_USED] = (n % 65536) as u32;
-    Reply::number(*b"lent     ", desk[MESSAGE_USED])
+    Reply::lent((n % 65536) as u32)
 }
 
 // Lays out so many frame bytes, all 0.
-pub(crate) fn buffer(n: u32, desk: &mut Desk, frames: &mut Frames) -> Reply {
+pub(crate) fn buffer(desk: &mut Desk, frames: &mut Frames) -> Reply {
+    let n = desk::first(desk);
     *frames = [0u8; FRAME_BYTES];
     desk[FRAMES_USED] = n;
-    Reply::number(*b"buffer   ", n)
+    Reply::buffer(n)
 }
 
 // Lays out so many bytes for the reassembler, all 0, with nothing open.
-pub(crate) fn room(n: u32, desk: &mut Desk, room: &mut Room) -> Reply {
+pub(crate) fn room(desk: &mut Desk, room: &mut Room) -> Reply {
+    let n = desk::first(desk);
     *room = [0u8; ROOM_BYTES];
     desk[ROOM_USED] = n;
     desk[ASSEMBLY] = 0;
-    Reply::number(*b"room     ", n)
+    Reply::room(n)
 }

@@ -6,7 +6,8 @@ use crate::buffers::within;
 use crate::desk;
 use crate::desk::*;
 use crate::print;
-use cluster::frames;
+use cluster::Verdict;
+use cluster::frames::count;
 use master::state::Opened;
 
 // Shows the frames whose pending bit is set.
@@ -37,7 +38,7 @@ pub(crate) fn sent(desk: &Desk, t: &[u16], out: &mut Output) {
 // How many bytes the master sends; none for a frame that is not in the table.
 fn sent_count(opened: Opened, t: &[u16]) -> usize {
     if let Opened::Frame(f) = opened {
-        if frames::count(t) <= f {
+        if !is_there(t, f) {
             return 0;
         }
     }
@@ -45,6 +46,14 @@ fn sent_count(opened: Opened, t: &[u16]) -> usize {
         return 0;
     }
     opened.length(t) as usize + 1
+}
+
+// Whether a frame is in the table; a table that is not right has none.
+fn is_there(t: &[u16], f: u16) -> bool {
+    match cluster::check(t) {
+        Verdict::Accepted => f < count(t),
+        Verdict::Refused(_) => false,
+    }
 }
 
 // Shows the whole state but the pending bits.

@@ -6,10 +6,10 @@ use Rattle.bench.proofs.forms.read_as.Statement.{statement}
 use Rattle.bench.proofs.forms.read_as.Tie as tie
 
 abbrev Inv-loop : tie.InvT-loop
-Inv-loop line form numbers₀ n₀ place₀ at₀ numbers n place at = (place ≤ length line + 1) × (at ≤ length form + 1)
+Inv-loop line form desk₀ n₀ place₀ at₀ desk n place at = (place ≤ length line + 1) × (at ≤ length form + 1)
 
 abbrev μ-loop : tie.MeasureT-loop
-μ-loop line form numbers₀ n₀ place₀ at₀ numbers n place at = length form - at
+μ-loop line form desk₀ n₀ place₀ at₀ desk n place at = length form - at
 
 loop-holds : tie.Need-loop-holds Inv-loop μ-loop
 loop-holds c = search needs

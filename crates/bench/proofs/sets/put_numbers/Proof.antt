@@ -5,31 +5,31 @@ use Rattle.bench.proofs.sets.put_numbers.Statement.{statement}
 use Rattle.bench.proofs.sets.put_numbers.Tie as tie
 
 abbrev Inv-loop : tie.InvT-loop
-Inv-loop desk₀ at numbers from count i₀ desk i = i ≤ count
+Inv-loop desk₀ at from count i₀ desk i = i ≤ count
 
 abbrev μ-loop : tie.MeasureT-loop
-μ-loop desk₀ at numbers from count i₀ desk i = count - i
+μ-loop desk₀ at from count i₀ desk i = count - i
 
 loop-holds : tie.Need-loop-holds Inv-loop μ-loop
 loop-holds c = search needs
 
-cast-put : tie.Need-cast-put Inv-loop μ-loop
-cast-put c = search needs
+cast-copy : tie.Need-cast-copy Inv-loop μ-loop
+cast-copy c = search needs
 
-add-put : tie.Need-add-put Inv-loop μ-loop
-add-put c = search needs
+add-copy : tie.Need-add-copy Inv-loop μ-loop
+add-copy c = search needs
 
-cast-number : tie.Need-cast-number Inv-loop μ-loop
-cast-number c = search needs
+add-copy-2 : tie.Need-add-copy-2 Inv-loop μ-loop
+add-copy-2 c = search needs
 
-add-number : tie.Need-add-number Inv-loop μ-loop
-add-number c = search needs
+cast-copy-2 : tie.Need-cast-copy-2 Inv-loop μ-loop
+cast-copy-2 c = search needs
 
-number-requires : tie.Need-number-requires Inv-loop μ-loop
-number-requires c κs = search needs
+add-copy-3 : tie.Need-add-copy-3 Inv-loop μ-loop
+add-copy-3 c = search needs
 
-put-requires : tie.Need-put-requires Inv-loop μ-loop
-put-requires c κs = search needs
+copy-requires : tie.Need-copy-requires Inv-loop μ-loop
+copy-requires c κs = search needs
 
 add-i : tie.Need-add-i Inv-loop μ-loop
 add-i c = search needs
@@ -50,12 +50,12 @@ put-numbers-spec =
     Inv-loop
     μ-loop
     loop-holds
-    cast-put
-    add-put
-    cast-number
-    add-number
-    number-requires
-    put-requires
+    cast-copy
+    add-copy
+    add-copy-2
+    cast-copy-2
+    add-copy-3
+    copy-requires
     add-i
     loop-less
     loop-again

@@ -1,15 +1,15 @@
--- `bench::forms::first` is safe and ends: each turn passes one form.
+-- `bench::forms::find` is safe and ends: each turn passes one form.
 use Prim.Native.Nat.{_≤_, _+_, _-_}
 use lib.ListN.{length}
 use borrow.Author.Needs.{needs}
-use Rattle.bench.proofs.forms.first.Statement.{statement}
-use Rattle.bench.proofs.forms.first.Tie as tie
+use Rattle.bench.proofs.forms.find.Statement.{statement}
+use Rattle.bench.proofs.forms.find.Tie as tie
 
 abbrev Inv-loop : tie.InvT-loop
-Inv-loop line forms numbers₀ k₀ at₀ numbers k at = (k ≤ at) × (at ≤ length forms + 1)
+Inv-loop line desk₀ forms k₀ at₀ desk k at = at ≤ length forms + 1
 
 abbrev μ-loop : tie.MeasureT-loop
-μ-loop line forms numbers₀ k₀ at₀ numbers k at = length forms - at
+μ-loop line desk₀ forms k₀ at₀ desk k at = length forms - at
 
 loop-holds : tie.Need-loop-holds Inv-loop μ-loop
 loop-holds c = search needs
@@ -32,14 +32,23 @@ read-as-requires c κs = search needs
 enum-known-list : tie.Need-enum-known-list Inv-loop μ-loop
 enum-known-list c = search needs
 
+element-write-desk : tie.Need-element-write-desk Inv-loop μ-loop
+element-write-desk c = search needs
+
+cast-desk : tie.Need-cast-desk Inv-loop μ-loop
+cast-desk c = search needs
+
+element-write-desk-2 : tie.Need-element-write-desk-2 Inv-loop μ-loop
+element-write-desk-2 c = search needs
+
 returns : tie.Need-returns Inv-loop μ-loop
 returns c = search needs
 
 enum-told : tie.Need-enum-told Inv-loop μ-loop
 enum-told c = search needs
 
-add-k : tie.Need-add-k Inv-loop μ-loop
-add-k c = search needs
+next-requires : tie.Need-next-requires Inv-loop μ-loop
+next-requires c κs = search needs
 
 add-at : tie.Need-add-at Inv-loop μ-loop
 add-at c = search needs
@@ -53,8 +62,8 @@ loop-again c = search needs
 returns-2 : tie.Need-returns-2 Inv-loop μ-loop
 returns-2 c = search needs
 
-pub first-spec : {M : Type 1} → statement M
-first-spec =
+pub find-spec : {M : Type 1} → statement M
+find-spec =
     tie.close
     (tie.spec
     Inv-loop
@@ -66,9 +75,12 @@ first-spec =
     part-read-as-end
     read-as-requires
     enum-known-list
+    element-write-desk
+    cast-desk
+    element-write-desk-2
     returns
     enum-told
-    add-k
+    next-requires
     add-at
     loop-less
     loop-again
