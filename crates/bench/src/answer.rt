@@ -79,13 +79,7 @@ fn reply(
 }
 
 // Makes a call of the master on what is in use of each buffer.
-fn call(
-    line: &[u8],
-    desk: &mut Desk,
-    table: &[u16],
-    frames: &mut [u8],
-    message: &[u8],
-) -> Reply {
+fn call(line: &[u8], desk: &mut Desk, table: &[u16], frames: &mut [u8], message: &[u8]) -> Reply {
     let words = words_within(size(desk[WORDS_USED]), table);
     let bytes = within(size(desk[FRAMES_USED]), frames);
     let lent = within(size(desk[MESSAGE_USED]), message);

@@ -165,12 +165,20 @@ fn plan(desk: &Desk) -> Plan {
 
 // The current entry.
 fn current(n: u32) -> Current {
-    if n == NONE { Current::None } else { Current::Entry(word(n)) }
+    if n == NONE {
+        Current::None
+    } else {
+        Current::Entry(word(n))
+    }
 }
 
 // The requested schedule.
 fn requested(n: u32) -> Requested {
-    if n == NONE { Requested::None } else { Requested::Schedule(word(n)) }
+    if n == NONE {
+        Requested::None
+    } else {
+        Requested::Schedule(word(n))
+    }
 }
 
 // The transfer record.

@@ -21,31 +21,57 @@ enum Read {
 impl Form {
     // In the order of the list below.
     pub(crate) const TICK: u32 = 0;
+
     pub(crate) const BYTE: u32 = 1;
+
     pub(crate) const WRITE: u32 = 2;
+
     pub(crate) const WRITES: u32 = 3;
+
     pub(crate) const READ: u32 = 4;
+
     pub(crate) const READS: u32 = 5;
+
     pub(crate) const AHEAD: u32 = 6;
+
     pub(crate) const SELECT: u32 = 7;
+
     pub(crate) const FRESH: u32 = 8;
+
     pub(crate) const STATUS: u32 = 9;
+
     pub(crate) const SEND: u32 = 10;
+
     pub(crate) const MESSAGE: u32 = 11;
+
     pub(crate) const PENDING: u32 = 12;
+
     pub(crate) const FRAMES: u32 = 13;
+
     pub(crate) const OUT: u32 = 14;
+
     pub(crate) const STATE: u32 = 15;
+
     pub(crate) const TAKEN: u32 = 16;
+
     pub(crate) const ASSEMBLY: u32 = 17;
+
     pub(crate) const TABLE: u32 = 18;
+
     pub(crate) const BUFFER: u32 = 19;
+
     pub(crate) const LEND: u32 = 20;
+
     pub(crate) const ROOM: u32 = 21;
+
     pub(crate) const TAKE: u32 = 22;
+
     pub(crate) const PID: u32 = 23;
+
     pub(crate) const ID: u32 = 24;
+
     pub(crate) const CLASSIC: u32 = 25;
+
     pub(crate) const ENHANCED: u32 = 26;
     // The first of the lines that set a part of the state.
     pub(crate) const SETS: u32 = 27;

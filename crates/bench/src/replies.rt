@@ -32,44 +32,81 @@ impl Reply {
 
     // What stands behind the word: nothing, a number, a byte, four hexadecimal digits, so many bytes, a number and a place.
     pub(crate) const ALONE: u32 = 0;
+
     pub(crate) const NUMBER: u32 = 1;
+
     pub(crate) const BYTE: u32 = 2;
+
     pub(crate) const WORD: u32 = 3;
+
     pub(crate) const LISTED: u32 = 4;
+
     pub(crate) const PLACED: u32 = 5;
     // The words by their numbers.
     const MALFORMED: u32 = 0;
+
     const REFUSED: u32 = 1;
+
     const SET: u32 = 2;
+
     const ACCEPTED: u32 = 3;
+
     const FRESH: u32 = 4;
+
     const WRITTEN: u32 = 5;
+
     const VALUE: u32 = 6;
+
     const BYTES: u32 = 7;
+
     const SELECTED: u32 = 8;
+
     const WAITING: u32 = 9;
+
     const IDLE: u32 = 10;
+
     const SILENT: u32 = 11;
+
     const OPEN: u32 = 12;
+
     const MORE: u32 = 13;
+
     const SUCCESS: u32 = 14;
+
     const FAILURE: u32 = 15;
+
     const RESPONSE: u32 = 16;
+
     const STATUS: u32 = 17;
+
     const SENDING: u32 = 18;
+
     const NONE: u32 = 19;
+
     const COMPLETED: u32 = 20;
+
     const FAILED: u32 = 21;
+
     const AHEAD: u32 = 22;
+
     const IGNORED: u32 = 23;
+
     const STARTED: u32 = 24;
+
     const DONE: u32 = 25;
+
     const BROKEN: u32 = 26;
+
     const PID: u32 = 27;
+
     const ID: u32 = 28;
+
     const CHECKSUM: u32 = 29;
+
     const LENT: u32 = 30;
+
     const BUFFER: u32 = 31;
+
     const ROOM: u32 = 32;
 
     // A word alone.
@@ -161,7 +198,11 @@ impl Reply {
     // An array read.
     pub(crate) fn read_array(answer: ArrayAnswer) -> Reply {
         match answer {
-            ArrayAnswer::Bytes(count) => Reply::of(Reply::BYTES, Reply::LISTED, (count % 256) as u32),
+            ArrayAnswer::Bytes(count) => Reply::of(
+                Reply::BYTES,
+                Reply::LISTED,
+                (count % 256) as u32,
+            ),
             ArrayAnswer::Refused(refusal) => Reply::refused(refusal),
         }
     }

@@ -60,7 +60,12 @@ fn is_there(t: &[u16], f: u16) -> bool {
 pub(crate) fn state(desk: &Desk, out: &mut Output) {
     pattern(out, b"state wait N entry E request E open", desk, WAIT);
     opened(desk, out);
-    pattern(out, b" count N bytes H H H H H H H H H written N message", desk, COUNT);
+    pattern(
+        out,
+        b" count N bytes H H H H H H H H H written N message",
+        desk,
+        COUNT,
+    );
     message(desk, out);
     pattern(out, b" status N N N H", desk, ERROR);
 }

@@ -226,9 +226,7 @@ fn schedule(t: &[u16], n: u16) {
 }
 
 fn all_lists(t: &[u16]) {
-    show::text(
-        b"the next member of a list that is not there, from members 0 to 4 on\n",
-    );
+    show::text(b"the next member of a list that is not there, from members 0 to 4 on\n");
     list(t, 2);
     list(t, 65535);
 }
