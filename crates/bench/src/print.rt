@@ -20,9 +20,15 @@ const FAILURE: usize = OUTPUT_BYTES - 1;
 
 // Prints an answer; where it has bytes, they are on the desk.
 pub(crate) fn reply(out: &mut Output, reply: Reply, desk: &Desk) {
-    let words = Reply::words();
-    word(out, &words, reply.word);
+    let word = reply.word;
+    start(out, &word);
     rest(out, reply.kind, reply.n, reply.place, desk);
+}
+
+// Prints a word without the spaces behind it.
+fn start(out: &mut Output, word: &[u8]) {
+    let n = within(bytes::scan::find(word, 0, word.len(), b' '), word);
+    text(out, &word[..n]);
 }
 
 // Prints what stands behind the word.
@@ -35,18 +41,6 @@ fn rest(out: &mut Output, kind: u32, n: u32, place: u32, desk: &Desk) {
         Reply::PLACED => placed(out, n, place),
         _ => {}
     }
-}
-
-// Prints one of some words.
-fn word(out: &mut Output, words: &[u8], k: u32) {
-    let mut n = k;
-    let mut at: usize = 0;
-    while 0 < n {
-        at = within(bytes::scan::find(words, at, words.len(), b' ') + 1, words);
-        n -= 1;
-    }
-    let end = bytes::scan::find(words, at, words.len(), b' ');
-    text(out, &words[at..end]);
 }
 
 // Prints a space and a number.

@@ -13,7 +13,6 @@ use crate::print;
 use libc::STDIN_FILENO;
 use master::state::State;
 ghost use Prim.Native.Nat.{_≤_};
-ghost use lib.ListN.{length};
 ghost use Rattle.io.specs.Counts.{Counts};
 
 // The most characters that are kept of a line that is not whole yet: one more than a right line has.
