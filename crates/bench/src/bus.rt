@@ -4,6 +4,8 @@ use crate::buffers::within;
 use crate::desk;
 use crate::desk::Desk;
 use crate::desk::FORM;
+use crate::desk::LIST;
+use crate::desk::NUMBERS;
 use crate::desk::ROOM_USED;
 use crate::desk::byte;
 use crate::desk::size;
@@ -17,12 +19,12 @@ use wire::identifier;
 
 // Answers the line at hand, a protected identifier built or read, or a checksum.
 pub(crate) fn answer(line: &[u8], desk: &Desk) -> Reply {
-    let n = byte(desk::first(desk));
+    let n = byte(desk[NUMBERS]);
     match desk[FORM] {
-        Form::PID => Reply::pid(identifier::build(n)),
+        Form::PID => Reply::made(*b"pid      ", identifier::build(n)),
         Form::ID => Reply::identifier(identifier::read(n)),
-        Form::CLASSIC => sum(n, Model::Classic, line, desk::list(desk)),
-        _ => sum(n, Model::Enhanced, line, desk::list(desk)),
+        Form::CLASSIC => sum(n, Model::Classic, line, size(desk[LIST])),
+        _ => sum(n, Model::Enhanced, line, size(desk[LIST])),
     }
 }
 
@@ -33,13 +35,13 @@ fn sum(id: u8, model: Model, line: &[u8], list: usize) -> Reply {
         return Reply::malformed();
     };
     let n = within(count, &data);
-    Reply::checksum(checksum::of(id, model, &data[..n]))
+    Reply::made(*b"checksum ", checksum::of(id, model, &data[..n]))
 }
 
 // The reassembler takes a frame, the bytes that end the line.
 pub(crate) fn take(line: &[u8], desk: &mut Desk, room: &mut [u8]) -> Reply {
     let mut frame = [0u8; LINE_BYTES];
-    let List::Of(count) = lists::pairs(line, desk::list(desk), &mut frame) else {
+    let List::Of(count) = lists::pairs(line, size(desk[LIST]), &mut frame) else {
         return Reply::malformed();
     };
     let n = within(count, &frame);

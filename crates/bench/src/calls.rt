@@ -4,7 +4,10 @@ use crate::buffers::within;
 use crate::desk;
 use crate::desk::Desk;
 use crate::desk::FORM;
+use crate::desk::LIST;
+use crate::desk::NUMBERS;
 use crate::desk::byte as byte_of;
+use crate::desk::size;
 use crate::desk::word;
 use crate::forms::Form;
 use crate::lists;
@@ -57,8 +60,8 @@ fn fresh(desk: &mut Desk, t: &[u16], frames: &mut [u8]) -> Reply {
 
 // Writes a scalar.
 fn write(desk: &mut Desk, t: &[u16], frames: &mut [u8]) -> Reply {
-    let s = word(desk::first(desk));
-    let wrote = desk::state(desk).write(t, frames, s, desk::second(desk));
+    let s = word(desk[NUMBERS]);
+    let wrote = desk::state(desk).write(t, frames, s, desk[NUMBERS + 1]);
     let state = wrote.state;
     let answer = wrote.answer;
     desk::put(desk, state);
@@ -68,7 +71,7 @@ fn write(desk: &mut Desk, t: &[u16], frames: &mut [u8]) -> Reply {
 // Writes an array, the bytes that end the line.
 fn writes(line: &[u8], desk: &mut Desk, t: &[u16], frames: &mut [u8]) -> Reply {
     let mut values = [0u8; LINE_BYTES];
-    let List::Of(count) = lists::pairs(line, desk::list(desk), &mut values) else {
+    let List::Of(count) = lists::pairs(line, size(desk[LIST]), &mut values) else {
         return Reply::malformed();
     };
     let n = within(count, &values);
@@ -77,7 +80,7 @@ fn writes(line: &[u8], desk: &mut Desk, t: &[u16], frames: &mut [u8]) -> Reply {
 
 // Writes an array.
 fn write_array(desk: &mut Desk, t: &[u16], frames: &mut [u8], values: &[u8]) -> Reply {
-    let s = word(desk::first(desk));
+    let s = word(desk[NUMBERS]);
     let wrote = desk::state(desk).write_array(t, frames, s, values);
     let state = wrote.state;
     let answer = wrote.answer;
@@ -87,12 +90,12 @@ fn write_array(desk: &mut Desk, t: &[u16], frames: &mut [u8], values: &[u8]) -> 
 
 // Reads a scalar.
 fn read(desk: &Desk, t: &[u16], frames: &[u8]) -> Reply {
-    Reply::read(desk::state(desk).read(t, frames, word(desk::first(desk))))
+    Reply::read(desk::state(desk).read(t, frames, word(desk[NUMBERS])))
 }
 
 // Reads an array.
 fn reads(desk: &mut Desk, t: &[u16], frames: &[u8]) -> Reply {
-    let given = desk::state(desk).read_array(t, frames, word(desk::first(desk)));
+    let given = desk::state(desk).read_array(t, frames, word(desk[NUMBERS]));
     let answer = given.answer;
     let eight = given.bytes;
     desk::put_answer(desk, &eight);
@@ -101,7 +104,7 @@ fn reads(desk: &mut Desk, t: &[u16], frames: &[u8]) -> Reply {
 
 // Asks for a schedule.
 fn select(desk: &mut Desk, t: &[u16]) -> Reply {
-    let chosen = desk::state(desk).select(t, word(desk::first(desk)));
+    let chosen = desk::state(desk).select(t, word(desk[NUMBERS]));
     let state = chosen.state;
     let answer = chosen.answer;
     desk::put(desk, state);
@@ -119,7 +122,7 @@ fn tick(desk: &mut Desk, t: &[u16], frames: &[u8], lent: &[u8]) -> Reply {
 
 // Takes one byte in.
 fn byte(desk: &mut Desk, t: &[u16], frames: &mut [u8]) -> Reply {
-    let b = byte_of(desk::first(desk));
+    let b = byte_of(desk[NUMBERS]);
     let took = desk::state(desk).byte_in(t, frames, b);
     let state = took.state;
     let answer = took.answer;
@@ -140,8 +143,8 @@ fn status(desk: &mut Desk, t: &[u16]) -> Reply {
 
 // Begins to send a message.
 fn send(desk: &mut Desk, t: &[u16]) -> Reply {
-    let nad = byte_of(desk::first(desk));
-    let sent = desk::state(desk).send(t, nad, desk::second(desk));
+    let nad = byte_of(desk[NUMBERS]);
+    let sent = desk::state(desk).send(t, nad, desk[NUMBERS + 1]);
     let state = sent.state;
     let answer = sent.answer;
     desk::put(desk, state);
@@ -155,5 +158,5 @@ fn message(desk: &Desk, t: &[u16]) -> Reply {
 
 // Tells the number of pending members ahead of a frame.
 fn ahead(desk: &Desk, t: &[u16]) -> Reply {
-    Reply::ahead(desk::state(desk).number_ahead(t, word(desk::first(desk))))
+    Reply::ahead(desk::state(desk).number_ahead(t, word(desk[NUMBERS])))
 }

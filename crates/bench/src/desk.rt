@@ -98,21 +98,6 @@ pub(crate) fn byte(n: u32) -> u8 {
     (n % 256) as u8
 }
 
-// The first number of the line at hand.
-pub(crate) fn first(desk: &Desk) -> u32 {
-    desk[NUMBERS]
-}
-
-// The second number of the line at hand.
-pub(crate) fn second(desk: &Desk) -> u32 {
-    desk[NUMBERS + 1]
-}
-
-// Where the list of the line at hand begins.
-pub(crate) fn list(desk: &Desk) -> usize {
-    size(desk[LIST])
-}
-
 // Puts the bytes of an answer.
 pub(crate) fn put_answer(desk: &mut Desk, bytes: &[u8; 8]) {
     let mut i: usize = 0;

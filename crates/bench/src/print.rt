@@ -34,18 +34,13 @@ fn start(out: &mut Output, word: &[u8]) {
 // Prints what stands behind the word.
 fn rest(out: &mut Output, kind: u32, n: u32, place: u32, desk: &Desk) {
     match kind {
-        Reply::NUMBER => number(out, n),
+        Reply::NUMBER => decimal(out, n),
         Reply::BYTE => spaced(out, byte_of(n)),
         Reply::WORD => four(out, n),
         Reply::LISTED => listed(out, desk, size(n)),
         Reply::PLACED => placed(out, n, place),
         _ => {}
     }
-}
-
-// Prints a space and a number.
-fn number(out: &mut Output, n: u32) {
-    decimal(out, n as u64);
 }
 
 // Prints the first bytes of the answer on the desk.
@@ -61,8 +56,8 @@ fn listed(out: &mut Output, desk: &Desk, count: usize) {
 
 // Prints a refusal's number and place.
 fn placed(out: &mut Output, n: u32, place: u32) {
-    number(out, n);
-    number(out, place);
+    decimal(out, n);
+    decimal(out, place);
 }
 
 // Prints a text and bytes as pairs, with a space before each.
@@ -82,15 +77,15 @@ fn four(out: &mut Output, n: u32) {
 }
 
 // Prints a space and a number in decimal.
-pub(crate) fn decimal(out: &mut Output, n: u64) {
+pub(crate) fn decimal(out: &mut Output, n: u32) {
     character(out, b' ');
     digits(out, n);
 }
 
 // Prints a number in decimal.
-pub(crate) fn digits(out: &mut Output, n: u64) {
+pub(crate) fn digits(out: &mut Output, n: u32) {
     let mut digits = [0u8; 20];
-    let count = io::decimal(n, &mut digits);
+    let count = io::decimal(n as u64, &mut digits);
     text(out, &digits[..count]);
 }
 

@@ -38,12 +38,12 @@ impl Reply {
     pub(crate) const PLACED: u32 = 5;
 
     // A word alone.
-    fn alone(word: [u8; 9]) -> Reply {
+    pub(crate) fn alone(word: [u8; 9]) -> Reply {
         Reply::of(word, Reply::ALONE, 0)
     }
 
     // A word and what stands behind it.
-    fn of(word: [u8; 9], kind: u32, n: u32) -> Reply {
+    pub(crate) fn of(word: [u8; 9], kind: u32, n: u32) -> Reply {
         Reply {
             word,
             kind,
@@ -69,26 +69,6 @@ impl Reply {
     // The line is none of the script's.
     pub(crate) fn malformed() -> Reply {
         Reply::alone(*b"?        ")
-    }
-
-    // A part of the state was set.
-    pub(crate) fn set() -> Reply {
-        Reply::alone(*b"set      ")
-    }
-
-    // So many bytes were lent.
-    pub(crate) fn lent(n: u32) -> Reply {
-        Reply::of(*b"lent     ", Reply::NUMBER, n)
-    }
-
-    // So many frame bytes were laid out.
-    pub(crate) fn buffer(n: u32) -> Reply {
-        Reply::of(*b"buffer   ", Reply::NUMBER, n)
-    }
-
-    // So many bytes were laid out for the reassembler.
-    pub(crate) fn room(n: u32) -> Reply {
-        Reply::of(*b"room     ", Reply::NUMBER, n)
     }
 
     // The table check.
@@ -217,7 +197,7 @@ impl Reply {
     }
 
     // A byte that was made.
-    fn made(word: [u8; 9], answer: Made) -> Reply {
+    pub(crate) fn made(word: [u8; 9], answer: Made) -> Reply {
         match answer {
             Made::Byte(byte) => Reply::of(word, Reply::BYTE, byte as u32),
             Made::Refused(refusal) => Reply::refused(refusal),
@@ -230,15 +210,5 @@ impl Reply {
             Made::Byte(id) => Reply::of(*b"id       ", Reply::NUMBER, id as u32),
             Made::Refused(refusal) => Reply::refused(refusal),
         }
-    }
-
-    // A protected identifier that was built.
-    pub(crate) fn pid(answer: Made) -> Reply {
-        Reply::made(*b"pid      ", answer)
-    }
-
-    // A checksum.
-    pub(crate) fn checksum(answer: Made) -> Reply {
-        Reply::made(*b"checksum ", answer)
     }
 }

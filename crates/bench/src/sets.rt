@@ -24,7 +24,7 @@ pub(crate) fn set(desk: &mut Desk) -> Reply {
         desk[place] = setting.value;
         put_numbers(desk, place + 1, setting.from, setting.count);
     }
-    Reply::set()
+    Reply::alone(*b"set      ")
 }
 
 // What a line sets, by the order of the forms.

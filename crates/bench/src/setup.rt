@@ -12,9 +12,12 @@ use crate::desk;
 use crate::desk::ASSEMBLY;
 use crate::desk::Desk;
 use crate::desk::FRAMES_USED;
+use crate::desk::LIST;
 use crate::desk::MESSAGE_USED;
+use crate::desk::NUMBERS;
 use crate::desk::ROOM_USED;
 use crate::desk::WORDS_USED;
+use crate::desk::size;
 use crate::lists;
 use crate::lists::List;
 use crate::replies::Reply;
@@ -23,7 +26,7 @@ use master::state::State;
 // Lays out a table, right or not, with frame bytes for its frames and a fresh state, and answers the table check.
 pub(crate) fn table(line: &[u8], desk: &mut Desk, table: &mut Table, frames: &mut Frames) -> Reply {
     let mut words = [0u16; LINE_WORDS];
-    let List::Of(count) = lists::words(line, desk::list(desk), &mut words) else {
+    let List::Of(count) = lists::words(line, size(desk[LIST]), &mut words) else {
         return Reply::malformed();
     };
     *table = words;
@@ -55,27 +58,27 @@ fn frame_bytes(t: &[u16]) -> u32 {
 // Lays out the message that later ticks are lent.
 pub(crate) fn lend(line: &[u8], desk: &mut Desk, message: &mut Message) -> Reply {
     let mut lent = [0u8; MESSAGE_BYTES];
-    let List::Of(n) = lists::pairs(line, desk::list(desk), &mut lent) else {
+    let List::Of(n) = lists::pairs(line, size(desk[LIST]), &mut lent) else {
         return Reply::malformed();
     };
     *message = lent;
     desk[MESSAGE_USED] = (n % 65536) as u32;
-    Reply::lent((n % 65536) as u32)
+    Reply::of(*b"lent     ", Reply::NUMBER, desk[MESSAGE_USED])
 }
 
 // Lays out so many frame bytes, all 0.
 pub(crate) fn buffer(desk: &mut Desk, frames: &mut Frames) -> Reply {
-    let n = desk::first(desk);
+    let n = desk[NUMBERS];
     *frames = [0u8; FRAME_BYTES];
     desk[FRAMES_USED] = n;
-    Reply::buffer(n)
+    Reply::of(*b"buffer   ", Reply::NUMBER, n)
 }
 
 // Lays out so many bytes for the reassembler, all 0, with nothing open.
 pub(crate) fn room(desk: &mut Desk, room: &mut Room) -> Reply {
-    let n = desk::first(desk);
+    let n = desk[NUMBERS];
     *room = [0u8; ROOM_BYTES];
     desk[ROOM_USED] = n;
     desk[ASSEMBLY] = 0;
-    Reply::room(n)
+    Reply::of(*b"room     ", Reply::NUMBER, n)
 }

@@ -16,7 +16,7 @@ pub(crate) fn pending(desk: &Desk, out: &mut Output) {
     let mut f: usize = 0;
     while f < FRAMES {
         if desk[f] == 1 {
-            print::decimal(out, f as u64);
+            print::decimal(out, (f % 65536) as u32);
         }
         f += 1;
     }
@@ -116,7 +116,7 @@ fn by(out: &mut Output, c: u8, desk: &Desk, place: usize) -> usize {
     }
     let n = desk[place];
     match c {
-        b'N' => number(out, n),
+        b'N' => print::digits(out, n),
         b'E' => or_none(out, n),
         b'H' => print::pair(out, desk::byte(n)),
         _ => {
@@ -132,11 +132,6 @@ fn or_none(out: &mut Output, n: u32) {
     if n == NONE {
         print::text(out, b"none");
     } else {
-        number(out, n);
+        print::digits(out, n);
     }
-}
-
-// Prints a number.
-fn number(out: &mut Output, n: u32) {
-    print::digits(out, n as u64);
 }

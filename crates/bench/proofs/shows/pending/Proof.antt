@@ -25,6 +25,9 @@ mul-if1 c = search needs
 element-copy-out-if1 : tie.Need-element-copy-out-if1 Inv-loop μ-loop
 element-copy-out-if1 c = search needs
 
+cast-decimal : tie.Need-cast-decimal Inv-loop μ-loop
+cast-decimal c = search needs
+
 decimal-requires : tie.Need-decimal-requires Inv-loop μ-loop
 decimal-requires c κs = search needs
 
@@ -51,6 +54,7 @@ pending-spec =
     loop-holds
     mul-if1
     element-copy-out-if1
+    cast-decimal
     decimal-requires
     add-f
     loop-less
