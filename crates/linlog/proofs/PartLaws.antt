@@ -1,13 +1,14 @@
 -- A part of a log is reported and kept, and a last line is reported: the two equations of `inParts`.
 use Prim.Native.Nat.{ℕ, suc, _+_, _*_, _%_, _^_, _≤_, _<_}
 use mathlib.Core.Path.{_≡_, refl, sym, ap, _∙_}
-use mathlib.Core.Bool.{false}
+use mathlib.Core.Bool.{true, false}
 use mathlib.Core.List.{List, [], _∷_, _++_, append-assoc}
-use mathlib.Core.Logic.{⊎-elim}
 use native.Mathlib.Omega.{arith}
-use native.Mathlib.Nat.{min-le-left, min-le-right}
+use native.Mathlib.Nat.{min-le-left}
 use lib.ListN.{length, take, drop, set, length-take, take-append-drop}
 use lib.Seq.{take-at, take-append-add, set-split, length-take-le}
+use Rattle.wire.proofs.Tests.{whether}
+use Rattle.signal.proofs.Inside.{order}
 use Rattle.buslog.specs.declared.report.Written.{Written}
 use Rattle.buslog.specs.Row.{longestRow}
 use Rattle.buslog.specs.Lines.{wholeLines, lastLine}
@@ -16,7 +17,8 @@ use Rattle.buslog.proofs.Example.{built-in-right}
 use Rattle.buslog.proofs.ReportLaws.{part-reported}
 use Rattle.buslog.proofs.PartLaws.{kept-line}
 use Rattle.linlog.specs.declared.Log.{Log}
-use Rattle.linlog.specs.Part.{lineKept, Reports, Came, ended, Ends, Goes}
+use Rattle.linlog.specs.declared.Reading.{Reading}
+use Rattle.linlog.specs.Part.{lineKept, Reports, ended, Ends, Fails, Goes, Turns}
 
 -- ---- one part
 
@@ -90,31 +92,51 @@ module _ (log r : Log) (text out : List ℕ) where
         over = e .1;
       }
 
-  -- what was read leaves what was kept
-  pub input-ended : (now : List ℕ) {after : List ℕ} → take (log .kept) now ≡ take (log .kept) text → Ends log (take (log .kept) now) out r after
-      → Ends log (take (log .kept) text) out r after
-  input-ended now same ends = rw same at ends
+-- ---- what a reading brings about, by its three cases
 
-  -- what was read stands behind what was kept
-  pub part-came : (now : List ℕ) (more : ℕ) {textAfter after : List ℕ} → log .kept ≤ length text → take (log .kept) now ≡ take (log .kept) text
-      → Reports log (take (log .kept + more) now) out r textAfter after → Came log (take (log .kept) text) out r textAfter after
-  part-came now more h same reports =
-      let there : log .kept ≤ length now =
-      omega (arith, length-take-le (log .kept) text h, ap length same, length-take (log .kept) now, min-le-right (log .kept) (length now)) in
-      record { part = take more (drop (log .kept) now); reports = rw (part-behind now (log .kept) more there, same) at reports }
+module _ (log : Log) (reading : Reading) (text out : List ℕ) (r : Log) (textAfter outAfter : List ℕ) where
+  pub goes-failed : reading .failed ≡ true → Fails out r outAfter → Goes log reading text out r textAfter outAfter
+  goes-failed bad fails =
+      record {
+        failed = λ _. fails;
+        over = λ good _. let z : _≡_ {A = ℕ} 0 1 = cc in absurd (omega arith);
+        came = λ good _. let z : _≡_ {A = ℕ} 0 1 = cc in absurd (omega arith);
+      }
+
+  pub goes-over : reading .failed ≡ false → reading .count ≡ 0 → Ends log (take (log .kept) text) out r outAfter
+      → Goes log reading text out r textAfter outAfter
+  goes-over good none ends =
+      record {
+        failed = λ bad. let z : _≡_ {A = ℕ} 0 1 = cc in absurd (omega arith);
+        over = λ _ _. ends;
+        came = λ _ some. absurd (omega arith);
+      }
+
+  pub goes-on : reading .failed ≡ false → 1 ≤ reading .count → log .kept ≤ length text
+      → Reports log (take (log .kept + reading .count) text) out r textAfter outAfter → Goes log reading text out r textAfter outAfter
+  goes-on good some h reports =
+      record {
+        failed = λ bad. let z : _≡_ {A = ℕ} 0 1 = cc in absurd (omega arith);
+        over = λ _ none. absurd (omega arith);
+        came = λ _ _. rw (part-behind text (log .kept) (reading .count) h) at reports;
+      }
 
 -- at most 30 characters are kept
-pub few-kept : (log : Log) (kept out : List ℕ) (r : Log) (textAfter outAfter : List ℕ) → Goes log kept out r textAfter outAfter → r .kept ≤ keptLength
+pub few-kept : (log : Log) (text out : List ℕ) (r : Log) (textAfter outAfter : List ℕ) → Turns log text out r textAfter outAfter → r .kept ≤ keptLength
 unfolding lineKept keptOf
-few-kept log kept out r textAfter outAfter =
-    ⊎-elim
-    (⊎-elim
-    (λ came.
-    let text : List ℕ = kept ++ came .part in
-    let rest : List ℕ = drop (charactersOf (wholeLines [] text)) text in
-    omega (arith, came .reports .kept, length-take keptLength rest, min-le-left keptLength (length rest)))
-    (λ ends. omega (arith, ends .none-kept)))
-    (λ fails. omega (arith, fails .none-kept))
+few-kept log text out r textAfter outAfter t =
+    whether
+    (t .reading .failed)
+    (λ bad. omega (arith, t .goes .failed bad .none-kept))
+    (λ good.
+    order
+    (t .reading .count)
+    1
+    (λ none. omega (arith, t .goes .over good (omega arith) .none-kept))
+    (λ some.
+    let part : List ℕ = take (log .kept) (t .now) ++ take (t .reading .count) (drop (log .kept) (t .now)) in
+    let rest : List ℕ = drop (charactersOf (wholeLines [] part)) part in
+    omega (arith, t .goes .came good some .kept, length-take keptLength rest, min-le-left keptLength (length rest))))
 
 -- of a text that was reported, what was kept is the last line of `inParts`
 ended-line : (u : List ℕ) → wholeLines [] (u ++ (10 ∷ [])) ≡ u ∷ [] → wholeLines [] (ended u) ≡ lastLine u

@@ -5,11 +5,11 @@ use libc::STDIN_FILENO;
 use libc::STDOUT_FILENO;
 ghost use mathlib.Core.Path.{_≡_};
 ghost use mathlib.Core.Bool.{false};
-ghost use Prim.Native.Nat.{_≤_, _<_, _*_};
+ghost use Prim.Native.Nat.{_≤_, _<_, _+_, _*_};
 ghost use lib.ListN.{length, take};
 ghost use Rattle.buslog.specs.Row.{header, longestRow};
 ghost use Rattle.buslog.specs.Report.{builtIn, keptLength};
-ghost use Rattle.linlog.specs.Part.{Reports, Ends, Goes};
+ghost use Rattle.linlog.specs.Part.{Reports, Ends, Goes, Turns};
 
 // What a reading brought: how many characters, or a failure.
 struct Reading {
@@ -85,22 +85,31 @@ fn run(text: &mut [u8], out: &mut [u8])
     };
     let mut turns = u64::MAX;
     while turns > 0 && log.goes_on {
-        log = part(log, text, out);
+        log = turn(log, text, out);
         turns -= 1;
     }
 }
 
-// Reads once, and reports the lines that are whole then; after a failed reading nothing more is reported.
-fn part(log: Log, text: &mut [u8], out: &mut [u8]) -> Log
+// Reads once behind what was kept, and reports what the reading brought.
+fn turn(log: Log, text: &mut [u8], out: &mut [u8]) -> Log
     requires { ⌜ (log .kept < length (now text)) × (longestRow * length (now text) ≤ length (now out)) ⌝ }
-    ensures { λ r. ⌜ Goes log (take (log .kept) (now (text .entry))) (now (out .entry)) r (now (text .exit)) (now (out .exit)) ⌝ }
+    ensures { λ r. ⌜ Turns log (now (text .entry)) (now (out .entry)) r (now (text .exit)) (now (out .exit)) ⌝ }
 {
     let kept = log.kept;
     let reading = read_some(&mut text[kept..]);
+    part(log, text, reading, out)
+}
+
+// Reports the lines that are whole after a reading, the last line where it brought nothing, and nothing more where it failed.
+fn part(log: Log, text: &mut [u8], reading: Reading, out: &mut [u8]) -> Log
+    requires { ⌜ (log .kept < length (now text)) × (log .kept + reading .count ≤ length (now text)) × (longestRow * length (now text) ≤ length (now out)) ⌝ }
+    ensures { λ r. ⌜ Goes log reading (now (text .entry)) (now (out .entry)) r (now (text .exit)) (now (out .exit)) ⌝ }
+{
+    let kept = log.kept;
+    let more = reading.count;
     if reading.failed {
         return ended(log);
     }
-    let more = reading.count;
     if more == 0 {
         return last(log, text, out);
     }

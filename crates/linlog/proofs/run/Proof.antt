@@ -17,8 +17,8 @@ abbrev μ-loop : tie.MeasureT-loop
 loop-holds : tie.Need-loop-holds Inv-loop μ-loop
 loop-holds c = (refl, refl, omega arith)
 
-part-requires : tie.Need-part-requires Inv-loop μ-loop
-part-requires c κs =
+turn-requires : tie.Need-turn-requires Inv-loop μ-loop
+turn-requires c κs =
     let now = c .before .before .before .before .loop .inv in
     let asked = c .before .before .before .before .before .before .before .pre in
     (omega (arith, now .0, now .2, asked .0), omega (arith, now .0, now .1, asked .1))
@@ -32,8 +32,8 @@ loop-less c = omega arith
 loop-again : tie.Need-loop-again Inv-loop μ-loop
 loop-again c =
     let now = c .before .before .before .before .before .before .before .before .before .loop .inv in
-    let part = c .before .before .before .before .part in
-    (part .kept .1 .0 ∙ now .0, part .kept .1 .1 .0 ∙ now .1, few-kept _ _ _ _ _ _ (part .ensures))
+    let turn = c .before .before .before .before .turn in
+    (turn .kept .1 .0 ∙ now .0, turn .kept .1 .1 .0 ∙ now .1, few-kept _ _ _ _ _ _ (turn .ensures))
 
 same-length : tie.Need-same-length Inv-loop μ-loop
 same-length c = c .before .before .loop .inv .0
@@ -60,7 +60,7 @@ run-spec =
     Inv-loop
     μ-loop
     loop-holds
-    part-requires
+    turn-requires
     sub-turns
     loop-less
     loop-again
