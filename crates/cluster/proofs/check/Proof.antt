@@ -5,29 +5,17 @@ use borrow.Author.Needs.{needs}
 use Rattle.cluster.proofs.check.Statement.{statement}
 use Rattle.cluster.proofs.check.Tie as tie
 
-judge-requires : tie.Need-judge-requires
-judge-requires c κs = search needs
-
-enum-known-refusal : tie.Need-enum-known-refusal
-enum-known-refusal c = search needs
-
 returns : tie.Need-returns
 returns c =
     let t = c .before .before .before .before .before .args .t .now in
     let refused = sym (c .before .before .before .judge .ensures) ∙ c .before .refusal .given .1 in
     rw (judged-sections t, refused)
 
-enum-told : tie.Need-enum-told
-enum-told c = search needs
-
 judge-requires-2 : tie.Need-judge-requires-2
 judge-requires-2 c κs =
     let t = c .before .before .before .before .args .t .now in
     let counts = header-passed t (sym (c .before .before .judge .ensures) ∙ c .enum-told .given .1) in
     counts .0
-
-enum-known-refusal-2 : tie.Need-enum-known-refusal-2
-enum-known-refusal-2 c = search needs
 
 returns-2 : tie.Need-returns-2
 returns-2 c =
@@ -36,17 +24,11 @@ returns-2 c =
     let refused = sym (c .before .before .before .judge2 .ensures) ∙ c .before .refusal2 .given .1 in
     rw (judged-sections t, header, refused)
 
-enum-told-2 : tie.Need-enum-told-2
-enum-told-2 c = search needs
-
 judge-requires-3 : tie.Need-judge-requires-3
 judge-requires-3 c κs =
     let t = c .before .before .before .before .before .before .before .args .t .now in
     let counts = header-passed t (sym (c .before .before .before .before .before .judge .ensures) ∙ c .before .before .before .enum-told .given .1) in
     ((counts .0, counts .1), frames-passed t (sym (c .before .before .judge2 .ensures) ∙ c .enum-told2 .given .1))
-
-enum-known-refusal-3 : tie.Need-enum-known-refusal-3
-enum-known-refusal-3 c = search needs
 
 returns-3 : tie.Need-returns-3
 returns-3 c =
@@ -56,17 +38,11 @@ returns-3 c =
     let refused = sym (c .before .before .before .judge3 .ensures) ∙ c .before .refusal3 .given .1 in
     rw (judged-sections t, header, frames, refused)
 
-enum-told-3 : tie.Need-enum-told-3
-enum-told-3 c = search needs
-
 judge-requires-4 : tie.Need-judge-requires-4
 judge-requires-4 c κs =
     let t = c .before .before .before .before .before .before .before .before .before .before .args .t .now in
     let counts = header-passed t (sym (c .before .before .before .before .before .before .before .before .judge .ensures) ∙ c .before .before .before .before .before .before .enum-told .given .1) in
     (counts .0, counts .1, counts .2)
-
-enum-known-refusal-4 : tie.Need-enum-known-refusal-4
-enum-known-refusal-4 c = search needs
 
 returns-4 : tie.Need-returns-4
 returns-4 c =
@@ -77,17 +53,11 @@ returns-4 c =
     let refused = sym (c .before .before .before .judge4 .ensures) ∙ c .before .refusal4 .given .1 in
     rw (judged-sections t, header, frames, signals, refused)
 
-enum-told-4 : tie.Need-enum-told-4
-enum-told-4 c = search needs
-
 judge-requires-5 : tie.Need-judge-requires-5
 judge-requires-5 c κs =
     let t = c .before .before .before .before .before .before .before .before .before .before .before .before .before .args .t .now in
     let counts = header-passed t (sym (c .before .before .before .before .before .before .before .before .before .before .before .judge .ensures) ∙ c .before .before .before .before .before .before .before .before .before .enum-told .given .1) in
     counts
-
-enum-known-refusal-5 : tie.Need-enum-known-refusal-5
-enum-known-refusal-5 c = search needs
 
 returns-5 : tie.Need-returns-5
 returns-5 c =
@@ -98,12 +68,6 @@ returns-5 c =
     let members = sym (c .before .before .before .before .before .before .judge4 .ensures) ∙ c .before .before .before .before .enum-told4 .given .1 in
     let refused = sym (c .before .before .before .judge5 .ensures) ∙ c .before .refusal5 .given .1 in
     rw (judged-sections t, header, frames, signals, members, refused)
-
-enum-told-5 : tie.Need-enum-told-5
-enum-told-5 c = search needs
-
-surplus-requires : tie.Need-surplus-requires
-surplus-requires c κs = search needs
 
 returns-6 : tie.Need-returns-6
 returns-6 c =
@@ -118,26 +82,7 @@ returns-6 c =
 pub check-spec : {M : Type 1} → statement M
 check-spec =
     tie.close
-    (tie.spec
-    judge-requires
-    enum-known-refusal
-    returns
-    enum-told
-    judge-requires-2
-    enum-known-refusal-2
-    returns-2
-    enum-told-2
-    judge-requires-3
-    enum-known-refusal-3
-    returns-3
-    enum-told-3
-    judge-requires-4
-    enum-known-refusal-4
-    returns-4
-    enum-told-4
-    judge-requires-5
-    enum-known-refusal-5
-    returns-5
-    enum-told-5
-    surplus-requires
-    returns-6)
+    (tie.spec (λ c κs. search needs) (λ c. search needs) returns (λ c. search needs) judge-requires-2
+    (λ c. search needs) returns-2 (λ c. search needs) judge-requires-3 (λ c. search needs) returns-3
+    (λ c. search needs) judge-requires-4 (λ c. search needs) returns-4 (λ c. search needs) judge-requires-5
+    (λ c. search needs) returns-5 (λ c. search needs) (λ c κs. search needs) returns-6)

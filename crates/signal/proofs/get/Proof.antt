@@ -7,15 +7,6 @@ use Rattle.signal.specs.Signal.{getScalar}
 use Rattle.signal.proofs.get.Statement.{statement}
 use Rattle.signal.proofs.get.Tie as tie
 
-cast-get-at : tie.Need-cast-get-at
-cast-get-at c = search needs
-
-scalar-width-requires : tie.Need-scalar-width-requires
-scalar-width-requires c κs = search needs
-
-get-at-requires : tie.Need-get-at-requires
-get-at-requires c κs = search needs
-
 returns : tie.Need-returns
 unfolding getScalar
 returns c =
@@ -24,4 +15,4 @@ returns c =
     rw (e, c .before .scalar-width .ensures) at (c .get-at .ensures)
 
 pub get-spec : {M : Type 1} → statement M
-get-spec = tie.close (tie.spec cast-get-at scalar-width-requires get-at-requires returns)
+get-spec = tie.close (tie.spec (λ c. search needs) (λ c κs. search needs) (λ c κs. search needs) returns)

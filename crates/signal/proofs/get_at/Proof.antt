@@ -8,21 +8,6 @@ use Rattle.signal.proofs.Windows.{get-window}
 use Rattle.signal.proofs.get_at.Statement.{statement}
 use Rattle.signal.proofs.get_at.Tie as tie
 
-window-requires : tie.Need-window-requires
-window-requires c κs = search needs
-
-power-requires : tie.Need-power-requires
-power-requires c κs = search needs
-
-div-result : tie.Need-div-result
-div-result c = search needs
-
-power-requires-2 : tie.Need-power-requires-2
-power-requires-2 c κs = search needs
-
-rem-result : tie.Need-rem-result
-rem-result c = search needs
-
 cast-result : tie.Need-cast-result
 cast-result c =
     omega (
@@ -40,11 +25,5 @@ returns c =
 pub get-at-spec : {M : Type 1} → statement M
 get-at-spec =
     tie.close
-    (tie.spec
-    window-requires
-    power-requires
-    div-result
-    power-requires-2
-    rem-result
-    cast-result
-    returns)
+    (tie.spec (λ c κs. search needs) (λ c κs. search needs) (λ c. search needs) (λ c κs. search needs)
+    (λ c. search needs) cast-result returns)

@@ -8,9 +8,6 @@ use lib.Pow.{shl-exact, pow-pos}
 use Rattle.signal.proofs.power.Statement.{statement}
 use Rattle.signal.proofs.power.Tie as tie
 
-shl-result : tie.Need-shl-result
-shl-result c = search needs
-
 returns : tie.Need-returns
 returns c =
     let n = c .args .n in
@@ -18,4 +15,4 @@ returns c =
     (e, rw e (pow-pos n))
 
 pub power-spec : {M : Type 1} → statement M
-power-spec = tie.close (tie.spec shl-result returns)
+power-spec = tie.close (tie.spec (λ c. search needs) returns)

@@ -7,18 +7,6 @@ use Rattle.signal.specs.Signal.{putScalar}
 use Rattle.signal.proofs.put.Statement.{statement}
 use Rattle.signal.proofs.put.Tie as tie
 
-cast-put-at : tie.Need-cast-put-at
-cast-put-at c = search needs
-
-scalar-width-requires : tie.Need-scalar-width-requires
-scalar-width-requires c κs = search needs
-
-put-at-requires : tie.Need-put-at-requires
-put-at-requires c κs = search needs
-
-same-length : tie.Need-same-length
-same-length c = search needs
-
 returns : tie.Need-returns
 unfolding putScalar
 returns c =
@@ -28,4 +16,4 @@ returns c =
 
 pub put-spec : {M : Type 1} → statement M
 put-spec =
-    tie.close (tie.spec cast-put-at scalar-width-requires put-at-requires same-length returns)
+    tie.close (tie.spec (λ c. search needs) (λ c κs. search needs) (λ c κs. search needs) (λ c. search needs) returns)

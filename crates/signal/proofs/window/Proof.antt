@@ -4,33 +4,6 @@ use Rattle.signal.proofs.Windows.{window-is}
 use Rattle.signal.proofs.window.Statement.{statement}
 use Rattle.signal.proofs.window.Tie as tie
 
-byte-requires : tie.Need-byte-requires
-byte-requires c κs = search needs
-
-add-byte : tie.Need-add-byte
-add-byte c = search needs
-
-byte-requires-2 : tie.Need-byte-requires-2
-byte-requires-2 c κs = search needs
-
-mul-result : tie.Need-mul-result
-mul-result c = search needs
-
-add-result : tie.Need-add-result
-add-result c = search needs
-
-add-byte-2 : tie.Need-add-byte-2
-add-byte-2 c = search needs
-
-byte-requires-3 : tie.Need-byte-requires-3
-byte-requires-3 c κs = search needs
-
-mul-result-2 : tie.Need-mul-result-2
-mul-result-2 c = search needs
-
-add-result-2 : tie.Need-add-result-2
-add-result-2 c = search needs
-
 returns : tie.Need-returns
 returns c =
     rw (c .before .before .byte .ensures .0, c .before .byte2 .ensures .0, c .byte3 .ensures .0)
@@ -39,14 +12,6 @@ returns c =
 pub window-spec : {M : Type 1} → statement M
 window-spec =
     tie.close
-    (tie.spec
-    byte-requires
-    add-byte
-    byte-requires-2
-    mul-result
-    add-result
-    add-byte-2
-    byte-requires-3
-    mul-result-2
-    add-result-2
+    (tie.spec (λ c κs. search needs) (λ c. search needs) (λ c κs. search needs) (λ c. search needs)
+    (λ c. search needs) (λ c. search needs) (λ c κs. search needs) (λ c. search needs) (λ c. search needs)
     returns)

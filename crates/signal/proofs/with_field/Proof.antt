@@ -26,35 +26,11 @@ fits : (c : tie.After-power4) →
     < 2 ^ 24
 fits c = rw (returns c) (number-below 24 _)
 
-field-end-requires : tie.Need-field-end-requires
-field-end-requires c κs = search needs
-
-power-requires : tie.Need-power-requires
-power-requires c κs = search needs
-
-power-requires-2 : tie.Need-power-requires-2
-power-requires-2 c κs = search needs
-
-rem-result : tie.Need-rem-result
-rem-result c = search needs
-
-power-requires-3 : tie.Need-power-requires-3
-power-requires-3 c κs = search needs
-
-rem-result-2 : tie.Need-rem-result-2
-rem-result-2 c = search needs
-
-power-requires-4 : tie.Need-power-requires-4
-power-requires-4 c κs = search needs
-
 mul-result : tie.Need-mul-result
 mul-result c = omega (arith, fits c)
 
 add-result : tie.Need-add-result
 add-result c = omega (arith, fits c)
-
-div-result : tie.Need-div-result
-div-result c = search needs
 
 mul-result-2 : tie.Need-mul-result-2
 mul-result-2 c = omega (arith, fits c)
@@ -65,17 +41,6 @@ add-result-2 c = omega (arith, fits c)
 pub with-field-spec : {M : Type 1} → statement M
 with-field-spec =
     tie.close
-    (tie.spec
-    field-end-requires
-    power-requires
-    power-requires-2
-    rem-result
-    power-requires-3
-    rem-result-2
-    power-requires-4
-    mul-result
-    add-result
-    div-result
-    mul-result-2
-    add-result-2
-    returns)
+    (tie.spec (λ c κs. search needs) (λ c κs. search needs) (λ c κs. search needs) (λ c. search needs)
+    (λ c κs. search needs) (λ c. search needs) (λ c κs. search needs) mul-result add-result (λ c. search needs)
+    mul-result-2 add-result-2 returns)

@@ -5,15 +5,6 @@ use Rattle.buslog.proofs.Judging.{judge-refused, judge-accepted}
 use Rattle.buslog.proofs.judge.judge.Statement.{statement}
 use Rattle.buslog.proofs.judge.judge.Tie as tie
 
-check-requires : tie.Need-check-requires
-check-requires c κs = search needs
-
-enum-known-refusal : tie.Need-enum-known-refusal
-enum-known-refusal c = search needs
-
-enum-told : tie.Need-enum-told
-enum-told c = search needs
-
 of-line-requires : tie.Need-of-line-requires
 of-line-requires c κs = sym (c .before .before .check .ensures) ∙ c .enum-told .given .1
 
@@ -26,4 +17,4 @@ returns-2 c = judge-accepted _ _ _ (sym (c .before .before .before .check .ensur
 pub judge-spec : {M : Type 1} → statement M
 judge-spec =
     tie.close
-    (tie.spec check-requires enum-known-refusal enum-told of-line-requires returns returns-2)
+    (tie.spec (λ c κs. search needs) (λ c. search needs) (λ c. search needs) of-line-requires returns returns-2)

@@ -11,25 +11,10 @@ use Rattle.cluster.proofs.FrameLaws.{frame-length-low, frame-length-high}
 use Rattle.buslog.proofs.judge.of_identifier.Statement.{statement}
 use Rattle.buslog.proofs.judge.of_identifier.Tie as tie
 
-of-known-requires : tie.Need-of-known-requires
-of-known-requires c κs = search needs
-
 returns : tie.Need-returns
 returns c =
     c .of-known .ensures
     ∙ diagnostic _ _ _ (⊎-elim (λ w. rw (eq-eqb _ 60 (w .taken))) (λ w. rw (ne-eqb _ 60 (w .0 .left), w .1 .taken)) (c .before .if1 .came))
-
-frame-with-requires : tie.Need-frame-with-requires
-frame-with-requires c κs = search needs
-
-count-requires : tie.Need-count-requires
-count-requires c κs = search needs
-
-length-requires : tie.Need-length-requires
-length-requires c κs = search needs
-
-model-requires : tie.Need-model-requires
-model-requires c κs = search needs
 
 of-known-requires-2 : tie.Need-of-known-requires-2
 of-known-requires-2 c κs =
@@ -51,13 +36,5 @@ returns-3 c = unlisted _ _ _ (rw (ne-eqb _ 60 (c .before .before .before .before
 pub of-identifier-spec : {M : Type 1} → statement M
 of-identifier-spec =
     tie.close
-    (tie.spec
-    of-known-requires
-    returns
-    frame-with-requires
-    count-requires
-    length-requires
-    model-requires
-    of-known-requires-2
-    returns-2
-    returns-3)
+    (tie.spec (λ c κs. search needs) returns (λ c κs. search needs) (λ c κs. search needs) (λ c κs. search needs)
+    (λ c κs. search needs) of-known-requires-2 returns-2 returns-3)

@@ -10,23 +10,11 @@ use Rattle.wire.proofs.AnswerLaws.{summed, not-summed}
 use Rattle.buslog.proofs.judge.of_known.Statement.{statement}
 use Rattle.buslog.proofs.judge.of_known.Tie as tie
 
-add-if1 : tie.Need-add-if1
-add-if1 c = search needs
-
 returns : tie.Need-returns
 returns c = other-length _ _ (c .before .before .args .wish) (c .before .before .args .rest .now) (c .if1 .taken)
 
 slice-aggregate-of : tie.Need-slice-aggregate-of
 slice-aggregate-of c = sym (length-take-le _ (c .before .before .before .args .rest .now) (omega arith))
-
-of-requires : tie.Need-of-requires
-of-requires c κs = search needs
-
-enum-known-sum : tie.Need-enum-known-sum
-enum-known-sum c = search needs
-
-shared-slice-read-if2 : tie.Need-shared-slice-read-if2
-shared-slice-read-if2 c = search needs
 
 returns-2 : tie.Need-returns-2
 returns-2 c =
@@ -35,9 +23,6 @@ returns-2 c =
     let l : length (take (a .length) (a .rest .now)) ≡ a .length = length-take-le (a .length) (a .rest .now) (omega arith) in
     let e = summed (a .id) (a .wish) (take (a .length) (a .rest .now)) (c .before .before .before .sum .given .0 .0) (omega arith, omega arith, omega arith) (sym (c .before .before .before .before .before .of .ensures) ∙ c .before .before .before .sum .given .1) in
     right-sum _ _ (a .wish) (a .rest .now) _ h e (c .if2 .taken)
-
-enum-told : tie.Need-enum-told
-enum-told c = search needs
 
 returns-3 : tie.Need-returns-3
 returns-3 c =
@@ -57,14 +42,5 @@ returns-4 c =
 pub of-known-spec : {M : Type 1} → statement M
 of-known-spec =
     tie.close
-    (tie.spec
-    add-if1
-    returns
-    slice-aggregate-of
-    of-requires
-    enum-known-sum
-    shared-slice-read-if2
-    returns-2
-    enum-told
-    returns-3
-    returns-4)
+    (tie.spec (λ c. search needs) returns slice-aggregate-of (λ c κs. search needs) (λ c. search needs)
+    (λ c. search needs) returns-2 (λ c. search needs) returns-3 returns-4)

@@ -7,9 +7,6 @@ use Rattle.buslog.proofs.Judging.{no-bytes, by-bytes}
 use Rattle.buslog.proofs.judge.of_line.Statement.{statement}
 use Rattle.buslog.proofs.judge.of_line.Tie as tie
 
-read-requires : tie.Need-read-requires
-read-requires c κs = search needs
-
 returns : tie.Need-returns
 returns c = no-bytes _ _ (sym (c .before .before .read .ensures .front) ∙ rw (c .if1 .taken))
 
@@ -28,10 +25,5 @@ returns-2 c = c .of-bytes .ensures ∙ by-bytes _ _ _ (c .before .before .before
 pub of-line-spec : {M : Type 1} → statement M
 of-line-spec =
     tie.close
-    (tie.spec
-    read-requires
-    returns
-    array-share-prefix-bytes
-    slice-aggregate-of-bytes
-    of-bytes-requires
+    (tie.spec (λ c κs. search needs) returns array-share-prefix-bytes slice-aggregate-of-bytes of-bytes-requires
     returns-2)

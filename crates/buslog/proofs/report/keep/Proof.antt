@@ -8,32 +8,8 @@ use Rattle.buslog.proofs.Keeping.{kept-within, kept-length, kept-none, 
 use Rattle.buslog.proofs.report.keep.Statement.{statement}
 use Rattle.buslog.proofs.report.keep.Tie as tie
 
-kept-length-requires : tie.Need-kept-length-requires
-kept-length-requires c κs = search needs
-
 returns : tie.Need-returns
 returns c = kept-none _ _ _ (c .before .kept-length .ensures) (c .if1 .taken)
-
-add-copy : tie.Need-add-copy
-add-copy c = search needs
-
-sub-copy : tie.Need-sub-copy
-sub-copy c = search needs
-
-part-copy-start : tie.Need-part-copy-start
-part-copy-start c = search needs
-
-part-copy-end : tie.Need-part-copy-end
-part-copy-end c = search needs
-
-slice-aggregate-copy : tie.Need-slice-aggregate-copy
-slice-aggregate-copy c = search needs
-
-copy-requires : tie.Need-copy-requires
-copy-requires c κs = search needs
-
-array-share-prefix-line : tie.Need-array-share-prefix-line
-array-share-prefix-line c = search needs
 
 slice-aggregate-copy-2 : tie.Need-slice-aggregate-copy-2
 slice-aggregate-copy-2 c =
@@ -50,26 +26,12 @@ copy-requires-2 c κs =
       kept-within (c .before .before .before .before .before .before .before .before .before .before .args .text .now) (c .before .before .before .before .before .before .before .before .before .before .args .from) _ (c .before .before .before .before .before .before .before .before .kept-length .ensures),
     )
 
-same-length : tie.Need-same-length
-same-length c = search needs
-
 returns-2 : tie.Need-returns-2
 returns-2 c = rw (← through (c .before .before .before .before .before .before .before .before .before .before .before .before .before .args .text .now) (c .before .before .before .before .before .before .before .before .before .before .before .before .before .args .from) _ (c .before .before .before .before .before .before .before .before .before .before .before .kept-length .ensures) _ _ _ refl (c .before .before .before .before .before .before .copy .ensures .1)) (copied _ _ (c .before .before .copy2 .ensures .0) (c .before .before .copy2 .ensures .1))
 
 pub keep-spec : {M : Type 1} → statement M
 keep-spec =
     tie.close
-    (tie.spec
-    kept-length-requires
-    returns
-    add-copy
-    sub-copy
-    part-copy-start
-    part-copy-end
-    slice-aggregate-copy
-    copy-requires
-    array-share-prefix-line
-    slice-aggregate-copy-2
-    copy-requires-2
-    same-length
-    returns-2)
+    (tie.spec (λ c κs. search needs) returns (λ c. search needs) (λ c. search needs) (λ c. search needs)
+    (λ c. search needs) (λ c. search needs) (λ c κs. search needs) (λ c. search needs) slice-aggregate-copy-2
+    copy-requires-2 (λ c. search needs) returns-2)

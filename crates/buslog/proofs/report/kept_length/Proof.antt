@@ -10,9 +10,6 @@ use Rattle.buslog.proofs.report.kept_length.Tie as tie
 returns : tie.Need-returns
 returns c = let e : c .before .args .length - c .before .args .from ≡ 0 = omega arith in rw e
 
-sub-rest : tie.Need-sub-rest
-sub-rest c = search needs
-
 returns-2 : tie.Need-returns-2
 returns-2 c = sym (min-eq-right (omega arith))
 
@@ -20,4 +17,4 @@ returns-3 : tie.Need-returns-3
 returns-3 c = sym (min-eq-left (omega arith))
 
 pub kept-length-spec : {M : Type 1} → statement M
-kept-length-spec = tie.close (tie.spec returns sub-rest returns-2 returns-3)
+kept-length-spec = tie.close (tie.spec returns (λ c. search needs) returns-2 returns-3)

@@ -4,12 +4,9 @@ use Rattle.cluster.specs.Table.{entryCount}
 use Rattle.cluster.proofs.entries.count.Statement.{statement}
 use Rattle.cluster.proofs.entries.count.Tie as tie
 
-word-requires : tie.Need-word-requires
-word-requires c κs = search needs
-
 returns : tie.Need-returns
 unfolding entryCount
 returns c = cc
 
 pub count-spec : {M : Type 1} → statement M
-count-spec = tie.close (tie.spec word-requires returns)
+count-spec = tie.close (tie.spec (λ c κs. search needs) returns)

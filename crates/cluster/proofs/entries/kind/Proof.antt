@@ -4,18 +4,9 @@ use Rattle.cluster.specs.Table.{entryKind}
 use Rattle.cluster.proofs.entries.kind.Statement.{statement}
 use Rattle.cluster.proofs.entries.kind.Tie as tie
 
-entry-at-requires : tie.Need-entry-at-requires
-entry-at-requires c κs = search needs
-
-add-word : tie.Need-add-word
-add-word c = search needs
-
-word-requires : tie.Need-word-requires
-word-requires c κs = search needs
-
 returns : tie.Need-returns
 unfolding entryKind
 returns c = cc
 
 pub kind-spec : {M : Type 1} → statement M
-kind-spec = tie.close (tie.spec entry-at-requires add-word word-requires returns)
+kind-spec = tie.close (tie.spec (λ c κs. search needs) (λ c. search needs) (λ c κs. search needs) returns)

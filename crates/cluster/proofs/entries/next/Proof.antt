@@ -10,27 +10,6 @@ use borrow.Author.Needs.{needs}
 use Rattle.cluster.proofs.entries.next.Statement.{statement}
 use Rattle.cluster.proofs.entries.next.Tie as tie
 
-schedule-requires : tie.Need-schedule-requires
-schedule-requires c κs = search needs
-
-count-requires : tie.Need-count-requires
-count-requires c κs = search needs
-
-add-if2 : tie.Need-add-if2
-add-if2 c = search needs
-
-count-requires-2 : tie.Need-count-requires-2
-count-requires-2 c κs = search needs
-
-add-schedule : tie.Need-add-schedule
-add-schedule c = search needs
-
-schedule-requires-2 : tie.Need-schedule-requires-2
-schedule-requires-2 c κs = search needs
-
-add-result : tie.Need-add-result
-add-result c = search needs
-
 returns : tie.Need-returns
 returns c =
     let t = c .before .before .before .before .before .before .before .before .args .t .now in
@@ -39,9 +18,6 @@ returns c =
     let k = sym (c .before .schedule2 .ensures) ∙ c .if3 .taken ∙ s in
     rw (add-one e)
     (sym (next-behind t e (omega arith) (rw (add-one e) at k)))
-
-first-requires : tie.Need-first-requires
-first-requires c κs = search needs
 
 returns-2 : tie.Need-returns-2
 returns-2 c =
@@ -58,14 +34,5 @@ returns-2 c =
 pub next-spec : {M : Type 1} → statement M
 next-spec =
     tie.close
-    (tie.spec
-    schedule-requires
-    count-requires
-    add-if2
-    count-requires-2
-    add-schedule
-    schedule-requires-2
-    add-result
-    returns
-    first-requires
-    returns-2)
+    (tie.spec (λ c κs. search needs) (λ c κs. search needs) (λ c. search needs) (λ c κs. search needs)
+    (λ c. search needs) (λ c κs. search needs) (λ c. search needs) returns (λ c κs. search needs) returns-2)

@@ -14,9 +14,6 @@ returns-2 : tie.Need-returns-2
 unfolding entrySeen leading
 returns-2 c = simp (not-false (c .before .before .before .args .up) (c .before .before .if1 .left), lt-leb _ _ (c .if2 .taken))
 
-target-right-requires : tie.Need-target-right-requires
-target-right-requires c κs = search needs
-
 returns-3 : tie.Need-returns-3
 unfolding entrySeen leading
 returns-3 c =
@@ -53,4 +50,4 @@ returns-6 c =
 pub right-words-spec : {M : Type 1} → statement M
 right-words-spec =
     tie.close
-    (tie.spec returns returns-2 target-right-requires returns-3 returns-4 returns-5 returns-6)
+    (tie.spec returns returns-2 (λ c κs. search needs) returns-3 returns-4 returns-5 returns-6)

@@ -4,15 +4,9 @@ use Rattle.cluster.specs.Table.{entrySchedule}
 use Rattle.cluster.proofs.entries.schedule.Statement.{statement}
 use Rattle.cluster.proofs.entries.schedule.Tie as tie
 
-entry-at-requires : tie.Need-entry-at-requires
-entry-at-requires c κs = search needs
-
-word-requires : tie.Need-word-requires
-word-requires c κs = search needs
-
 returns : tie.Need-returns
 unfolding entrySchedule
 returns c = cc
 
 pub schedule-spec : {M : Type 1} → statement M
-schedule-spec = tie.close (tie.spec entry-at-requires word-requires returns)
+schedule-spec = tie.close (tie.spec (λ c κs. search needs) (λ c κs. search needs) returns)

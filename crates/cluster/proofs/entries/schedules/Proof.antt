@@ -7,21 +7,6 @@ use borrow.Author.Needs.{needs}
 use Rattle.cluster.proofs.entries.schedules.Statement.{statement}
 use Rattle.cluster.proofs.entries.schedules.Tie as tie
 
-count-requires : tie.Need-count-requires
-count-requires c κs = search needs
-
-sub-schedule : tie.Need-sub-schedule
-sub-schedule c = search needs
-
-schedule-requires : tie.Need-schedule-requires
-schedule-requires c κs = search needs
-
-cast-result : tie.Need-cast-result
-cast-result c = search needs
-
-add-result : tie.Need-add-result
-add-result c = search needs
-
 returns : tie.Need-returns
 unfolding scheduleCount
 returns c = (sym (counted-none _ _ (sym (c .before .count .ensures) ∙ c .if1 .taken)), omega arith)
@@ -33,11 +18,5 @@ returns-2 c = (rw (← (c .before .before .count .ensures), counted-last _ _ (c 
 pub schedules-spec : {M : Type 1} → statement M
 schedules-spec =
     tie.close
-    (tie.spec
-    count-requires
-    sub-schedule
-    schedule-requires
-    cast-result
-    add-result
-    returns
-    returns-2)
+    (tie.spec (λ c κs. search needs) (λ c. search needs) (λ c κs. search needs) (λ c. search needs)
+    (λ c. search needs) returns returns-2)

@@ -5,12 +5,9 @@ use borrow.Author.Needs.{needs}
 use Rattle.cluster.proofs.frames.classic.Statement.{statement}
 use Rattle.cluster.proofs.frames.classic.Tie as tie
 
-flags-requires : tie.Need-flags-requires
-flags-requires c κs = search needs
-
 returns : tie.Need-returns
 unfolding classic bit
 returns c = simp (c .flags .ensures)
 
 pub classic-spec : {M : Type 1} → statement M
-classic-spec = tie.close (tie.spec flags-requires returns)
+classic-spec = tie.close (tie.spec (λ c κs. search needs) returns)

@@ -4,15 +4,9 @@ use Rattle.cluster.specs.Table.{identifier}
 use Rattle.cluster.proofs.frames.identifier.Statement.{statement}
 use Rattle.cluster.proofs.frames.identifier.Tie as tie
 
-frame-at-requires : tie.Need-frame-at-requires
-frame-at-requires c κs = search needs
-
-word-requires : tie.Need-word-requires
-word-requires c κs = search needs
-
 returns : tie.Need-returns
 unfolding identifier
 returns c = cc
 
 pub identifier-spec : {M : Type 1} → statement M
-identifier-spec = tie.close (tie.spec frame-at-requires word-requires returns)
+identifier-spec = tie.close (tie.spec (λ c κs. search needs) (λ c κs. search needs) returns)

@@ -4,18 +4,9 @@ use Rattle.cluster.specs.Table.{frameLength}
 use Rattle.cluster.proofs.frames.length.Statement.{statement}
 use Rattle.cluster.proofs.frames.length.Tie as tie
 
-frame-at-requires : tie.Need-frame-at-requires
-frame-at-requires c κs = search needs
-
-add-word : tie.Need-add-word
-add-word c = search needs
-
-word-requires : tie.Need-word-requires
-word-requires c κs = search needs
-
 returns : tie.Need-returns
 unfolding frameLength
 returns c = cc
 
 pub length-spec : {M : Type 1} → statement M
-length-spec = tie.close (tie.spec frame-at-requires add-word word-requires returns)
+length-spec = tie.close (tie.spec (λ c κs. search needs) (λ c. search needs) (λ c κs. search needs) returns)

@@ -3,9 +3,6 @@ use borrow.Author.Needs.{needs}
 use Rattle.cluster.proofs.frames.model.Statement.{statement}
 use Rattle.cluster.proofs.frames.model.Tie as tie
 
-classic-requires : tie.Need-classic-requires
-classic-requires c κs = search needs
-
 returns : tie.Need-returns
 returns c = rw (← c .before .classic .ensures, c .if1 .taken)
 
@@ -13,4 +10,4 @@ returns-2 : tie.Need-returns-2
 returns-2 c = rw (← c .before .classic .ensures, c .if1 .left)
 
 pub model-spec : {M : Type 1} → statement M
-model-spec = tie.close (tie.spec classic-requires returns returns-2)
+model-spec = tie.close (tie.spec (λ c κs. search needs) returns returns-2)

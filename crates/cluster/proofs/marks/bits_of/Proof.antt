@@ -5,12 +5,6 @@ use borrow.Author.Needs.{needs}
 use Rattle.cluster.proofs.marks.bits_of.Statement.{statement}
 use Rattle.cluster.proofs.marks.bits_of.Tie as tie
 
-mul-result : tie.Need-mul-result
-mul-result c = search needs
-
-shared-slice-read-result : tie.Need-shared-slice-read-result
-shared-slice-read-result c = search needs
-
 returns : tie.Need-returns
 returns c = refl
 
@@ -18,4 +12,4 @@ returns-2 : tie.Need-returns-2
 returns-2 c = sym (List·getD-eq-default (c .before .args .marks .now) 0 (c .if1 .left))
 
 pub bits-of-spec : {M : Type 1} → statement M
-bits-of-spec = tie.close (tie.spec mul-result shared-slice-read-result returns returns-2)
+bits-of-spec = tie.close (tie.spec (λ c. search needs) (λ c. search needs) returns returns-2)

@@ -6,9 +6,6 @@ use borrow.Author.Needs.{needs}
 use Rattle.cluster.proofs.marks.is_marked.Statement.{statement}
 use Rattle.cluster.proofs.marks.is_marked.Tie as tie
 
-shared-slice-read-result : tie.Need-shared-slice-read-result
-shared-slice-read-result c = search needs
-
 returns : tie.Need-returns
 returns c = refl
 
@@ -16,4 +13,4 @@ returns-2 : tie.Need-returns-2
 returns-2 c = sym (List·getD-eq-default (c .before .args .marks .now) false (c .if1 .left))
 
 pub is-marked-spec : {M : Type 1} → statement M
-is-marked-spec = tie.close (tie.spec shared-slice-read-result returns returns-2)
+is-marked-spec = tie.close (tie.spec (λ c. search needs) returns returns-2)

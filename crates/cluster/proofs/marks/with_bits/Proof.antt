@@ -6,18 +6,6 @@ use Rattle.cluster.proofs.Taken.{field-put}
 use Rattle.cluster.proofs.marks.with_bits.Statement.{statement}
 use Rattle.cluster.proofs.marks.with_bits.Tie as tie
 
-ones-requires : tie.Need-ones-requires
-ones-requires c κs = search needs
-
-cast-result : tie.Need-cast-result
-cast-result c = search needs
-
-cast-result-2 : tie.Need-cast-result-2
-cast-result-2 c = search needs
-
-shl-result : tie.Need-shl-result
-shl-result c = search needs
-
 add-result : tie.Need-add-result
 add-result c = rw (c .ones .ensures) (fits-under _ _ (2 ^ 64) (field-put (c .before .args .taken) (c .before .args .offset) (c .before .args .width) (omega arith) (omega arith) (c .before .pre .1) .0) tt)
 
@@ -26,4 +14,5 @@ returns c = rw (c .ones .ensures) (field-put (c .before .args .taken) (c .before
 
 pub with-bits-spec : {M : Type 1} → statement M
 with-bits-spec =
-    tie.close (tie.spec ones-requires cast-result cast-result-2 shl-result add-result returns)
+    tie.close (tie.spec (λ c κs. search needs) (λ c. search needs) (λ c. search needs) (λ c. search needs) add-result
+    returns)

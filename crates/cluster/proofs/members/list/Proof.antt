@@ -4,15 +4,9 @@ use Rattle.cluster.specs.Table.{memberList}
 use Rattle.cluster.proofs.members.list.Statement.{statement}
 use Rattle.cluster.proofs.members.list.Tie as tie
 
-member-at-requires : tie.Need-member-at-requires
-member-at-requires c κs = search needs
-
-word-requires : tie.Need-word-requires
-word-requires c κs = search needs
-
 returns : tie.Need-returns
 unfolding memberList
 returns c = cc
 
 pub list-spec : {M : Type 1} → statement M
-list-spec = tie.close (tie.spec member-at-requires word-requires returns)
+list-spec = tie.close (tie.spec (λ c κs. search needs) (λ c κs. search needs) returns)

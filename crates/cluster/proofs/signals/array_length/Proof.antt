@@ -5,12 +5,6 @@ use borrow.Author.Needs.{needs}
 use Rattle.cluster.proofs.signals.array_length.Statement.{statement}
 use Rattle.cluster.proofs.signals.array_length.Tie as tie
 
-width-requires : tie.Need-width-requires
-width-requires c κs = search needs
-
-cast-bytes : tie.Need-cast-bytes
-cast-bytes c = search needs
-
 returns : tie.Need-returns
 unfolding arrayLength
 returns c = (omega arith, omega arith)
@@ -20,4 +14,4 @@ unfolding arrayLength
 returns-2 c = (omega arith, omega arith)
 
 pub array-length-spec : {M : Type 1} → statement M
-array-length-spec = tie.close (tie.spec width-requires cast-bytes returns returns-2)
+array-length-spec = tie.close (tie.spec (λ c κs. search needs) (λ c. search needs) returns returns-2)

@@ -4,12 +4,9 @@ use Rattle.cluster.specs.Table.{isArray}
 use Rattle.cluster.proofs.signals.is_array.Statement.{statement}
 use Rattle.cluster.proofs.signals.is_array.Tie as tie
 
-kind-requires : tie.Need-kind-requires
-kind-requires c κs = search needs
-
 returns : tie.Need-returns
 unfolding isArray
 returns c = cc
 
 pub is-array-spec : {M : Type 1} → statement M
-is-array-spec = tie.close (tie.spec kind-requires returns)
+is-array-spec = tie.close (tie.spec (λ c κs. search needs) returns)

@@ -18,18 +18,12 @@ returns-2 : tie.Need-returns-2
 unfolding signalSeen leading
 returns-2 c = simp (lt-ltb _ _ (c .before .before .if1 .left), lt-leb _ _ (c .if2 .taken))
 
-offset-right-requires : tie.Need-offset-right-requires
-offset-right-requires c κs = search needs
-
 returns-3 : tie.Need-returns-3
 unfolding signalSeen leading
 returns-3 c =
     let frame = lt-ltb _ _ (c .before .before .before .before .before .if1 .left) in
     let kind = le-leb _ _ (c .before .before .before .if2 .left) in
     simp (frame, kind, sym (c .before .offset-right .ensures) ∙ not-true (c .before .offset-right .result) (c .if3 .taken))
-
-width-right-requires : tie.Need-width-right-requires
-width-right-requires c κs = search needs
 
 returns-4 : tie.Need-returns-4
 unfolding signalSeen leading
@@ -85,15 +79,5 @@ returns-7 c =
 pub right-words-spec : {M : Type 1} → statement M
 right-words-spec =
     tie.close
-    (tie.spec
-    returns
-    returns-2
-    offset-right-requires
-    returns-3
-    width-right-requires
-    returns-4
-    are-free-requires
-    returns-5
-    start-limit-requires
-    returns-6
-    returns-7)
+    (tie.spec returns returns-2 (λ c κs. search needs) returns-3 (λ c κs. search needs) returns-4
+    are-free-requires returns-5 start-limit-requires returns-6 returns-7)

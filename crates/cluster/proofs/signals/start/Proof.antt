@@ -4,18 +4,9 @@ use Rattle.cluster.specs.Table.{signalStart}
 use Rattle.cluster.proofs.signals.start.Statement.{statement}
 use Rattle.cluster.proofs.signals.start.Tie as tie
 
-signal-at-requires : tie.Need-signal-at-requires
-signal-at-requires c κs = search needs
-
-add-word : tie.Need-add-word
-add-word c = search needs
-
-word-requires : tie.Need-word-requires
-word-requires c κs = search needs
-
 returns : tie.Need-returns
 unfolding signalStart
 returns c = cc
 
 pub start-spec : {M : Type 1} → statement M
-start-spec = tie.close (tie.spec signal-at-requires add-word word-requires returns)
+start-spec = tie.close (tie.spec (λ c κs. search needs) (λ c. search needs) (λ c κs. search needs) returns)

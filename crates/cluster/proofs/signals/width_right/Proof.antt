@@ -8,14 +8,8 @@ use borrow.Author.Needs.{needs}
 use Rattle.cluster.proofs.signals.width_right.Statement.{statement}
 use Rattle.cluster.proofs.signals.width_right.Tie as tie
 
-add-if1 : tie.Need-add-if1
-add-if1 c = search needs
-
 returns : tie.Need-returns
 returns c = simp (lt-leb _ _ (c .if1 .taken), and-false)
-
-whole-bytes-requires : tie.Need-whole-bytes-requires
-whole-bytes-requires c κs = search needs
 
 returns-2 : tie.Need-returns-2
 returns-2 c = rw (le-leb _ _ (c .before .before .if1 .left), c .before .if2 .taken) (c .whole-bytes .ensures ∙ sym (and-true _))
@@ -30,4 +24,4 @@ returns-4 c = rw (c .before .if2 .left, le-leb _ _ (c .before .before .if1 .left
 
 pub width-right-spec : {M : Type 1} → statement M
 width-right-spec =
-    tie.close (tie.spec add-if1 returns whole-bytes-requires returns-2 returns-3 returns-4)
+    tie.close (tie.spec (λ c. search needs) returns (λ c κs. search needs) returns-2 returns-3 returns-4)

@@ -7,12 +7,6 @@ use borrow.Author.Needs.{needs}
 use Rattle.cluster.proofs.table.due.Statement.{statement}
 use Rattle.cluster.proofs.table.due.Tie as tie
 
-mul-result : tie.Need-mul-result
-mul-result c = search needs
-
-shared-slice-read-result : tie.Need-shared-slice-read-result
-shared-slice-read-result c = search needs
-
 cast-result : tie.Need-cast-result
 cast-result c = omega (arith, c .shared-slice-known .given (c .before .before .args .i))
 
@@ -25,4 +19,4 @@ unfolding due
 returns-2 c = (simp (le-ltb _ _ (c .if1 .left)), omega arith)
 
 pub due-spec : {M : Type 1} → statement M
-due-spec = tie.close (tie.spec mul-result shared-slice-read-result cast-result returns returns-2)
+due-spec = tie.close (tie.spec (λ c. search needs) (λ c. search needs) cast-result returns returns-2)

@@ -9,24 +9,6 @@ use borrow.Author.Needs.{needs}
 use Rattle.cluster.proofs.table.judge.Statement.{statement}
 use Rattle.cluster.proofs.table.judge.Tie as tie
 
-due-requires : tie.Need-due-requires
-due-requires c κs = search needs
-
-due-requires-2 : tie.Need-due-requires-2
-due-requires-2 c κs = search needs
-
-due-requires-3 : tie.Need-due-requires-3
-due-requires-3 c κs = search needs
-
-due-requires-4 : tie.Need-due-requires-4
-due-requires-4 c κs = search needs
-
-right-words-requires : tie.Need-right-words-requires
-right-words-requires c κs = search needs
-
-fault-requires : tie.Need-fault-requires
-fault-requires c κs = search needs
-
 returns : tie.Need-returns
 unfolding headerSeen
 returns c =
@@ -47,12 +29,5 @@ returns-2 c =
 pub judge-spec : {M : Type 1} → statement M
 judge-spec =
     tie.close
-    (tie.spec
-    due-requires
-    due-requires-2
-    due-requires-3
-    due-requires-4
-    right-words-requires
-    fault-requires
-    returns
-    returns-2)
+    (tie.spec (λ c κs. search needs) (λ c κs. search needs) (λ c κs. search needs) (λ c κs. search needs)
+    (λ c κs. search needs) (λ c κs. search needs) returns returns-2)

@@ -9,15 +9,6 @@ use borrow.Author.Needs.{needs}
 use Rattle.cluster.proofs.table.surplus.Statement.{statement}
 use Rattle.cluster.proofs.table.surplus.Tie as tie
 
-word-requires : tie.Need-word-requires
-word-requires c κs = search needs
-
-entry-at-requires : tie.Need-entry-at-requires
-entry-at-requires c κs = search needs
-
-fault-requires : tie.Need-fault-requires
-fault-requires c κs = search needs
-
 returns : tie.Need-returns
 unfolding surplus size entryCount
 returns c =
@@ -34,4 +25,4 @@ returns-2 c =
 
 pub surplus-spec : {M : Type 1} → statement M
 surplus-spec =
-    tie.close (tie.spec word-requires entry-at-requires fault-requires returns returns-2)
+    tie.close (tie.spec (λ c κs. search needs) (λ c κs. search needs) (λ c κs. search needs) returns returns-2)

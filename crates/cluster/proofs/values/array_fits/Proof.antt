@@ -4,12 +4,9 @@ use Rattle.cluster.specs.Values.{arrayFits}
 use Rattle.cluster.proofs.values.array_fits.Statement.{statement}
 use Rattle.cluster.proofs.values.array_fits.Tie as tie
 
-array-length-requires : tie.Need-array-length-requires
-array-length-requires c κs = search needs
-
 returns : tie.Need-returns
 unfolding arrayFits
 returns c = cc
 
 pub array-fits-spec : {M : Type 1} → statement M
-array-fits-spec = tie.close (tie.spec array-length-requires returns)
+array-fits-spec = tie.close (tie.spec (λ c κs. search needs) returns)

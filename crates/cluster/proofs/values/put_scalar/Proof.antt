@@ -4,25 +4,11 @@ use Rattle.cluster.specs.Values.{withScalar}
 use Rattle.cluster.proofs.values.put_scalar.Statement.{statement}
 use Rattle.cluster.proofs.values.put_scalar.Tie as tie
 
-place-requires : tie.Need-place-requires
-place-requires c κs = search needs
-
-width-requires : tie.Need-width-requires
-width-requires c κs = search needs
-
-cast-put : tie.Need-cast-put
-cast-put c = search needs
-
-put-requires : tie.Need-put-requires
-put-requires c κs = search needs
-
-same-length : tie.Need-same-length
-same-length c = search needs
-
 returns : tie.Need-returns
 unfolding withScalar
 returns c = cc
 
 pub put-scalar-spec : {M : Type 1} → statement M
 put-scalar-spec =
-    tie.close (tie.spec place-requires width-requires cast-put put-requires same-length returns)
+    tie.close (tie.spec (λ c κs. search needs) (λ c κs. search needs) (λ c. search needs) (λ c κs. search needs)
+    (λ c. search needs) returns)

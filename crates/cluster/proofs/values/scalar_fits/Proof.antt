@@ -6,21 +6,12 @@ use Rattle.cluster.proofs.ValueSteps.{fits-wide, limit-below}
 use Rattle.cluster.proofs.values.scalar_fits.Statement.{statement}
 use Rattle.cluster.proofs.values.scalar_fits.Tie as tie
 
-width-requires : tie.Need-width-requires
-width-requires c κs = search needs
-
 returns : tie.Need-returns
 returns c = fits-wide _ _ _ _ (c .before .width .ensures) (omega arith) (omega arith)
-
-cast-result : tie.Need-cast-result
-cast-result c = search needs
-
-shl-result : tie.Need-shl-result
-shl-result c = search needs
 
 returns-2 : tie.Need-returns-2
 unfolding valueFits
 returns-2 c = rw (limit-below (c .before .width .result) (omega arith), c .before .width .ensures)
 
 pub scalar-fits-spec : {M : Type 1} → statement M
-scalar-fits-spec = tie.close (tie.spec width-requires returns cast-result shl-result returns-2)
+scalar-fits-spec = tie.close (tie.spec (λ c κs. search needs) returns (λ c. search needs) (λ c. search needs) returns-2)

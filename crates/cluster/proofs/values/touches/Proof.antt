@@ -4,12 +4,9 @@ use Rattle.cluster.specs.Values.{touches}
 use Rattle.cluster.proofs.values.touches.Statement.{statement}
 use Rattle.cluster.proofs.values.touches.Tie as tie
 
-frame-requires : tie.Need-frame-requires
-frame-requires c κs = search needs
-
 returns : tie.Need-returns
 unfolding touches
 returns c = rw (c .frame .ensures)
 
 pub touches-spec : {M : Type 1} → statement M
-touches-spec = tie.close (tie.spec frame-requires returns)
+touches-spec = tie.close (tie.spec (λ c κs. search needs) returns)

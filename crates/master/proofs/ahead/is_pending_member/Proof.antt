@@ -7,15 +7,6 @@ use Rattle.cluster.proofs.MemberLaws.{member-frame-below}
 use Rattle.master.proofs.ahead.is_pending_member.Statement.{statement}
 use Rattle.master.proofs.ahead.is_pending_member.Tie as tie
 
-list-requires : tie.Need-list-requires
-list-requires c κs = search needs
-
-frame-requires : tie.Need-frame-requires
-frame-requires c κs = search needs
-
-cast-result : tie.Need-cast-result
-cast-result c = search needs
-
 array-read-result : tie.Need-array-read-result
 array-read-result c =
     let a = c .before .before .before .before .args in
@@ -31,4 +22,5 @@ returns-2 c = rw (← c .before .list .ensures, ne-eqb _ _ (c .if1 .left))
 pub is-pending-member-spec : {M : Type 1} → statement M
 is-pending-member-spec =
     tie.close
-    (tie.spec list-requires frame-requires cast-result array-read-result returns returns-2)
+    (tie.spec (λ c κs. search needs) (λ c κs. search needs) (λ c. search needs) array-read-result returns
+    returns-2)

@@ -9,18 +9,6 @@ use Rattle.master.proofs.Nine.{stored}
 use Rattle.master.proofs.byte.store.Statement.{statement}
 use Rattle.master.proofs.byte.store.Tie as tie
 
-mul-at : tie.Need-mul-at
-mul-at c = search needs
-
-add-end : tie.Need-add-end
-add-end c = search needs
-
-sub-fill : tie.Need-sub-fill
-sub-fill c = search needs
-
-part-fill-start : tie.Need-part-fill-start
-part-fill-start c = search needs
-
 part-fill-end : tie.Need-part-fill-end
 part-fill-end c = omega (arith, c .before .pre .0, c .before .pre .1)
 
@@ -29,9 +17,6 @@ fill-requires c κs =
     let a = c .before .before .args in
     let asked = c .before .before .pre in
     omega (arith, length-take-le (a .n) (drop (8 * a .f) (a .bytes .now)) (simp length-drop (omega (arith, asked .0, asked .1))), asked .1)
-
-same-length : tie.Need-same-length
-same-length c = search needs
 
 returns : tie.Need-returns
 returns c =
@@ -43,12 +28,5 @@ returns c =
 pub store-spec : {M : Type 1} → statement M
 store-spec =
     tie.close
-    (tie.spec
-    mul-at
-    add-end
-    sub-fill
-    part-fill-start
-    part-fill-end
-    fill-requires
-    same-length
-    returns)
+    (tie.spec (λ c. search needs) (λ c. search needs) (λ c. search needs) (λ c. search needs) part-fill-end
+    fill-requires (λ c. search needs) returns)

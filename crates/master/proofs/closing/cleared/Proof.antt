@@ -8,12 +8,9 @@ returns : tie.Need-returns
 unfolding clearedBit
 returns c = rw (c .if1 .taken)
 
-array-write-next : tie.Need-array-write-next
-array-write-next c = search needs
-
 returns-2 : tie.Need-returns-2
 unfolding clearedBit
 returns-2 c = rw (c .if1 .left)
 
 pub cleared-spec : {M : Type 1} → statement M
-cleared-spec = tie.close (tie.spec returns array-write-next returns-2)
+cleared-spec = tie.close (tie.spec returns (λ c. search needs) returns-2)

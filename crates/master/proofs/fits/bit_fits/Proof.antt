@@ -9,15 +9,9 @@ returns : tie.Need-returns
 unfolding bitFits
 returns c = rw (not-true (c .before .before .args .bit) (c .if1 .taken))
 
-count-requires : tie.Need-count-requires
-count-requires c κs = search needs
-
 returns-2 : tie.Need-returns-2
 unfolding bitFits
 returns-2 c = rw (not-false (c .before .before .before .before .args .bit) (c .before .before .if1 .left), ← c .before .count .ensures, le-ltb _ _ (c .if2 .taken))
-
-published-requires : tie.Need-published-requires
-published-requires c κs = search needs
 
 returns-3 : tie.Need-returns-3
 unfolding bitFits
@@ -26,4 +20,4 @@ returns-3 c =
     rw (not-false (a .bit) (c .before .before .before .if1 .left), ← c .before .before .count .ensures, lt-ltb _ _ (c .before .if2 .left), c .published .ensures)
 
 pub bit-fits-spec : {M : Type 1} → statement M
-bit-fits-spec = tie.close (tie.spec returns count-requires returns-2 published-requires returns-3)
+bit-fits-spec = tie.close (tie.spec returns (λ c κs. search needs) returns-2 (λ c κs. search needs) returns-3)

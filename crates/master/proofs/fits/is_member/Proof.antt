@@ -4,12 +4,6 @@ use borrow.Author.Tests.{eq-eqb, ne-eqb}
 use Rattle.master.proofs.fits.is_member.Statement.{statement}
 use Rattle.master.proofs.fits.is_member.Tie as tie
 
-list-requires : tie.Need-list-requires
-list-requires c κs = search needs
-
-frame-requires : tie.Need-frame-requires
-frame-requires c κs = search needs
-
 returns : tie.Need-returns
 returns c = rw (← c .before .before .list .ensures, eq-eqb _ _ (c .before .if1 .taken), c .frame .ensures)
 
@@ -17,4 +11,4 @@ returns-2 : tie.Need-returns-2
 returns-2 c = rw (← c .before .list .ensures, ne-eqb _ _ (c .if1 .left))
 
 pub is-member-spec : {M : Type 1} → statement M
-is-member-spec = tie.close (tie.spec list-requires frame-requires returns returns-2)
+is-member-spec = tie.close (tie.spec (λ c κs. search needs) (λ c κs. search needs) returns returns-2)

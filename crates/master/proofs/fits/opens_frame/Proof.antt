@@ -5,18 +5,9 @@ use Rattle.master.specs.Fits.{entryOpens}
 use Rattle.master.proofs.fits.opens_frame.Statement.{statement}
 use Rattle.master.proofs.fits.opens_frame.Tie as tie
 
-kind-requires : tie.Need-kind-requires
-kind-requires c κs = search needs
-
-target-requires : tie.Need-target-requires
-target-requires c κs = search needs
-
 returns : tie.Need-returns
 unfolding entryOpens
 returns c = rw (← c .before .before .kind .ensures, ← c .before .target .ensures, eq-eqb _ _ (c .if1 .taken))
-
-list-has-requires : tie.Need-list-has-requires
-list-has-requires c κs = search needs
 
 returns-2 : tie.Need-returns-2
 unfolding entryOpens
@@ -29,4 +20,4 @@ returns-3 c = rw (← c .before .before .before .kind .ensures, ← c .before .b
 pub opens-frame-spec : {M : Type 1} → statement M
 opens-frame-spec =
     tie.close
-    (tie.spec kind-requires target-requires returns list-has-requires returns-2 returns-3)
+    (tie.spec (λ c κs. search needs) (λ c κs. search needs) returns (λ c κs. search needs) returns-2 returns-3)

@@ -5,12 +5,6 @@ use Rattle.master.specs.Fits.{entryOpens}
 use Rattle.master.proofs.fits.opens_request.Statement.{statement}
 use Rattle.master.proofs.fits.opens_request.Tie as tie
 
-kind-requires : tie.Need-kind-requires
-kind-requires c κs = search needs
-
-is-sending-requires : tie.Need-is-sending-requires
-is-sending-requires c κs = search needs
-
 returns : tie.Need-returns
 unfolding entryOpens
 returns c = rw (← c .before .before .kind .ensures, eq-eqb _ _ (c .before .if1 .taken), c .is-sending .ensures)
@@ -20,4 +14,4 @@ unfolding entryOpens
 returns-2 c = rw (← c .before .kind .ensures, ne-eqb _ _ (c .if1 .left))
 
 pub opens-request-spec : {M : Type 1} → statement M
-opens-request-spec = tie.close (tie.spec kind-requires is-sending-requires returns returns-2)
+opens-request-spec = tie.close (tie.spec (λ c κs. search needs) (λ c κs. search needs) returns returns-2)

@@ -5,15 +5,6 @@ use Rattle.wire.proofs.AnswerLaws.{not-summed, summed}
 use Rattle.master.proofs.opened.checksum_byte.Statement.{statement}
 use Rattle.master.proofs.opened.checksum_byte.Tie as tie
 
-of-requires : tie.Need-of-requires
-of-requires c κs = search needs
-
-enum-known-byte : tie.Need-enum-known-byte
-enum-known-byte c = search needs
-
-enum-known-refusal : tie.Need-enum-known-refusal
-enum-known-refusal c = search needs
-
 returns : tie.Need-returns
 returns c =
     let a = c .before .before .before .before .before .args in
@@ -28,4 +19,4 @@ returns-2 c =
 
 pub checksum-byte-spec : {M : Type 1} → statement M
 checksum-byte-spec =
-    tie.close (tie.spec of-requires enum-known-byte enum-known-refusal returns returns-2)
+    tie.close (tie.spec (λ c κs. search needs) (λ c. search needs) (λ c. search needs) returns returns-2)

@@ -9,29 +9,8 @@ use Rattle.master.specs.declared.state.Opened.the-variants.{Frame}
 use Rattle.master.proofs.opened.frame_copy.Statement.{statement}
 use Rattle.master.proofs.opened.frame_copy.Tie as tie
 
-published-requires : tie.Need-published-requires
-published-requires c κs = search needs
-
 returns : tie.Need-returns
 returns c = rw (← c .before .published .ensures, not-true (c .before .published .result) (c .if1 .taken))
-
-mul-at : tie.Need-mul-at
-mul-at c = search needs
-
-length-requires : tie.Need-length-requires
-length-requires c κs = search needs
-
-cast-end : tie.Need-cast-end
-cast-end c = search needs
-
-add-end : tie.Need-add-end
-add-end c = search needs
-
-sub-copied : tie.Need-sub-copied
-sub-copied c = search needs
-
-part-copied-start : tie.Need-part-copied-start
-part-copied-start c = search needs
 
 part-copied-end : tie.Need-part-copied-end
 part-copied-end c =
@@ -57,15 +36,5 @@ returns-2 c =
 pub frame-copy-spec : {M : Type 1} → statement M
 frame-copy-spec =
     tie.close
-    (tie.spec
-    published-requires
-    returns
-    mul-at
-    length-requires
-    cast-end
-    add-end
-    sub-copied
-    part-copied-start
-    part-copied-end
-    copied-requires
-    returns-2)
+    (tie.spec (λ c κs. search needs) returns (λ c. search needs) (λ c κs. search needs) (λ c. search needs)
+    (λ c. search needs) (λ c. search needs) (λ c. search needs) part-copied-end copied-requires returns-2)

@@ -5,15 +5,6 @@ use Rattle.wire.proofs.AnswerLaws.{built, not-refused}
 use Rattle.master.proofs.opened.protected_byte.Statement.{statement}
 use Rattle.master.proofs.opened.protected_byte.Tie as tie
 
-build-requires : tie.Need-build-requires
-build-requires c κs = search needs
-
-enum-known-byte : tie.Need-enum-known-byte
-enum-known-byte c = search needs
-
-enum-known-refusal : tie.Need-enum-known-refusal
-enum-known-refusal c = search needs
-
 returns : tie.Need-returns
 returns c = built (c .before .before .before .before .args .id) (c .before .byte .given .0 .0) (c .before .before .before .before .pre) (sym (c .before .before .before .build .ensures) ∙ c .before .byte .given .1)
 
@@ -22,4 +13,4 @@ returns-2 c = absurd (not-refused (c .before .before .before .before .args .id) 
 
 pub protected-byte-spec : {M : Type 1} → statement M
 protected-byte-spec =
-    tie.close (tie.spec build-requires enum-known-byte enum-known-refusal returns returns-2)
+    tie.close (tie.spec (λ c κs. search needs) (λ c. search needs) (λ c. search needs) returns returns-2)

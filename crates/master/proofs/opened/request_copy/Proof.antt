@@ -9,18 +9,6 @@ use Rattle.master.specs.declared.state.Opened.the-variants.{Request}
 use Rattle.master.proofs.opened.request_copy.Statement.{statement}
 use Rattle.master.proofs.opened.request_copy.Tie as tie
 
-request-data-requires : tie.Need-request-data-requires
-request-data-requires c κs = search needs
-
-sub-copied : tie.Need-sub-copied
-sub-copied c = search needs
-
-part-copied-start : tie.Need-part-copied-start
-part-copied-start c = search needs
-
-part-copied-end : tie.Need-part-copied-end
-part-copied-end c = search needs
-
 copied-requires : tie.Need-copied-requires
 unfolding openIdentifier
 copied-requires c κs =
@@ -38,10 +26,5 @@ returns c =
 pub request-copy-spec : {M : Type 1} → statement M
 request-copy-spec =
     tie.close
-    (tie.spec
-    request-data-requires
-    sub-copied
-    part-copied-start
-    part-copied-end
-    copied-requires
+    (tie.spec (λ c κs. search needs) (λ c. search needs) (λ c. search needs) (λ c. search needs) copied-requires
     returns)

@@ -4,21 +4,6 @@ use Rattle.master.specs.Transfers.{requestData}
 use Rattle.master.proofs.opened.request_data.Statement.{statement}
 use Rattle.master.proofs.opened.request_data.Tie as tie
 
-enum-told : tie.Need-enum-told
-enum-told c = search needs
-
-enum-known-message : tie.Need-enum-known-message
-enum-known-message c = search needs
-
-frame-requires : tie.Need-frame-requires
-frame-requires c κs = search needs
-
-enum-told-2 : tie.Need-enum-told-2
-enum-told-2 c = search needs
-
-enum-told-3 : tie.Need-enum-told-3
-enum-told-3 c = search needs
-
 returns : tie.Need-returns
 unfolding requestData
 returns c = rw (c .enum-told .given .1)
@@ -38,13 +23,5 @@ returns-4 c = rw (c .enum-told3 .given .1)
 pub request-data-spec : {M : Type 1} → statement M
 request-data-spec =
     tie.close
-    (tie.spec
-    enum-told
-    enum-known-message
-    frame-requires
-    enum-told-2
-    enum-told-3
-    returns
-    returns-2
-    returns-3
-    returns-4)
+    (tie.spec (λ c. search needs) (λ c. search needs) (λ c κs. search needs) (λ c. search needs)
+    (λ c. search needs) returns returns-2 returns-3 returns-4)

@@ -3,9 +3,6 @@ use borrow.Author.Needs.{needs}
 use Rattle.master.proofs.tick.request_slot.Statement.{statement}
 use Rattle.master.proofs.tick.request_slot.Tie as tie
 
-is-sending-requires : tie.Need-is-sending-requires
-is-sending-requires c κs = search needs
-
 returns : tie.Need-returns
 returns c = rw (← c .before .is-sending .ensures, c .if1 .taken)
 
@@ -13,4 +10,4 @@ returns-2 : tie.Need-returns-2
 returns-2 c = rw (← c .before .is-sending .ensures, c .if1 .left)
 
 pub request-slot-spec : {M : Type 1} → statement M
-request-slot-spec = tie.close (tie.spec is-sending-requires returns returns-2)
+request-slot-spec = tie.close (tie.spec (λ c κs. search needs) returns returns-2)

@@ -5,25 +5,13 @@ use Rattle.master.specs.Tick.{slotOpens}
 use Rattle.master.proofs.tick.slot_opens.Statement.{statement}
 use Rattle.master.proofs.tick.slot_opens.Tie as tie
 
-kind-requires : tie.Need-kind-requires
-kind-requires c κs = search needs
-
-target-requires : tie.Need-target-requires
-target-requires c κs = search needs
-
 returns : tie.Need-returns
 unfolding slotOpens
 returns c = rw (← c .before .before .kind .ensures, ← c .before .target .ensures, eq-eqb _ _ (c .if1 .taken))
 
-first-pending-requires : tie.Need-first-pending-requires
-first-pending-requires c κs = search needs
-
 returns-2 : tie.Need-returns-2
 unfolding slotOpens
 returns-2 c = rw (← c .before .before .before .before .kind .ensures, ← c .before .before .before .target .ensures, ne-eqb _ _ (c .before .before .if1 .left), eq-eqb _ _ (c .before .if2 .taken), c .first-pending .ensures)
-
-request-slot-requires : tie.Need-request-slot-requires
-request-slot-requires c κs = search needs
 
 returns-3 : tie.Need-returns-3
 unfolding slotOpens
@@ -39,12 +27,5 @@ returns-4 c = rw (← c .before .before .before .before .kind .ensures, ← c .b
 pub slot-opens-spec : {M : Type 1} → statement M
 slot-opens-spec =
     tie.close
-    (tie.spec
-    kind-requires
-    target-requires
-    returns
-    first-pending-requires
-    returns-2
-    request-slot-requires
-    returns-3
-    returns-4)
+    (tie.spec (λ c κs. search needs) (λ c κs. search needs) returns (λ c κs. search needs) returns-2
+    (λ c κs. search needs) returns-3 returns-4)

@@ -6,21 +6,9 @@ use Rattle.master.specs.Write.{writable}
 use Rattle.master.proofs.write.writable.Statement.{statement}
 use Rattle.master.proofs.write.writable.Tie as tie
 
-count-requires : tie.Need-count-requires
-count-requires c κs = search needs
-
-refused-requires : tie.Need-refused-requires
-refused-requires c κs = search needs
-
 returns : tie.Need-returns
 unfolding writable
 returns c = rw (← c .before .before .count .ensures, le-ltb _ _ (c .before .if1 .taken), c .refused .ensures)
-
-published-requires : tie.Need-published-requires
-published-requires c κs = search needs
-
-refused-requires-2 : tie.Need-refused-requires-2
-refused-requires-2 c κs = search needs
 
 returns-2 : tie.Need-returns-2
 unfolding writable
@@ -28,12 +16,6 @@ returns-2 c =
     let count = c .before .before .before .before .count in
     let published = c .before .before .published in
     rw (← count .ensures, lt-ltb _ _ (c .before .before .before .if1 .left), ← published .ensures, not-true (published .result) (c .before .if2 .taken), c .refused2 .ensures)
-
-is-array-requires : tie.Need-is-array-requires
-is-array-requires c κs = search needs
-
-refused-requires-3 : tie.Need-refused-requires-3
-refused-requires-3 c κs = search needs
 
 returns-3 : tie.Need-returns-3
 unfolding writable
@@ -44,9 +26,6 @@ returns-3 c =
     let published = c .before .before .before .before .published in
     let is-array = c .before .before .is-array in
     rw (← count .ensures, lt-ltb _ _ (if1 .left), ← published .ensures, not-false (published .result) (c .before .before .before .if2 .left), ← is-array .ensures, not-true (Bool·beq (is-array .result) (a .array)) (c .before .if3 .taken), c .refused3 .ensures)
-
-refused-requires-4 : tie.Need-refused-requires-4
-refused-requires-4 c κs = search needs
 
 returns-4 : tie.Need-returns-4
 unfolding writable
@@ -71,16 +50,5 @@ returns-5 c =
 pub writable-spec : {M : Type 1} → statement M
 writable-spec =
     tie.close
-    (tie.spec
-    count-requires
-    refused-requires
-    returns
-    published-requires
-    refused-requires-2
-    returns-2
-    is-array-requires
-    refused-requires-3
-    returns-3
-    refused-requires-4
-    returns-4
-    returns-5)
+    (tie.spec (λ c κs. search needs) (λ c κs. search needs) returns (λ c κs. search needs) (λ c κs. search needs)
+    returns-2 (λ c κs. search needs) (λ c κs. search needs) returns-3 (λ c κs. search needs) returns-4 returns-5)

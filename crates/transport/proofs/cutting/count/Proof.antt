@@ -8,15 +8,6 @@ use borrow.Author.Needs.{needs}
 use Rattle.transport.proofs.cutting.count.Statement.{statement}
 use Rattle.transport.proofs.cutting.count.Tie as tie
 
-cast-if2 : tie.Need-cast-if2
-cast-if2 c = search needs
-
-frames-requires : tie.Need-frames-requires
-frames-requires c κs = search needs
-
-of-requires : tie.Need-of-requires
-of-requires c κs = search needs
-
 returns : tie.Need-returns
 unfolding countOf
 returns c =
@@ -28,4 +19,4 @@ unfolding countOf
 returns-2 c = ⊎-elim (λ w. simp (le-leb _ _ (w .0 .taken), w .1 .left, c .of .ensures)) (λ w. simp (lt-leb _ _ (w .left), c .of .ensures)) (c .before .if1 .came)
 
 pub count-spec : {M : Type 1} → statement M
-count-spec = tie.close (tie.spec cast-if2 frames-requires of-requires returns returns-2)
+count-spec = tie.close (tie.spec (λ c. search needs) (λ c κs. search needs) (λ c κs. search needs) returns returns-2)

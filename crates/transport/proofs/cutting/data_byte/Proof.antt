@@ -6,9 +6,6 @@ use Rattle.transport.proofs.Bytes.{any-default}
 use Rattle.transport.proofs.cutting.data_byte.Statement.{statement}
 use Rattle.transport.proofs.cutting.data_byte.Tie as tie
 
-shared-slice-read-result : tie.Need-shared-slice-read-result
-shared-slice-read-result c = search needs
-
 returns : tie.Need-returns
 returns c = any-default (c .before .before .args .message .now) (c .before .before .args .i) 0 255 (search needs)
 
@@ -16,4 +13,4 @@ returns-2 : tie.Need-returns-2
 returns-2 c = sym (List·getD-eq-default (c .before .args .message .now) 255 (c .if1 .left))
 
 pub data-byte-spec : {M : Type 1} → statement M
-data-byte-spec = tie.close (tie.spec shared-slice-read-result returns returns-2)
+data-byte-spec = tie.close (tie.spec (λ c. search needs) returns returns-2)

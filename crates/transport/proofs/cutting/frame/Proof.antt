@@ -6,23 +6,8 @@ use borrow.Author.Needs.{needs}
 use Rattle.transport.proofs.cutting.frame.Statement.{statement}
 use Rattle.transport.proofs.cutting.frame.Tie as tie
 
-count-requires : tie.Need-count-requires
-count-requires c κs = search needs
-
-enum-known-refusal : tie.Need-enum-known-refusal
-enum-known-refusal c = search needs
-
-without-frame-requires : tie.Need-without-frame-requires
-without-frame-requires c κs = search needs
-
-enum-known-frames : tie.Need-enum-known-frames
-enum-known-frames c = search needs
-
 frame-bytes-requires : tie.Need-frame-bytes-requires
 frame-bytes-requires c κs = counted-high _ _ (sym (c .before .before .before .before .count .ensures) ∙ c .before .before .frames .given .1)
-
-without-frame-requires-2 : tie.Need-without-frame-requires-2
-without-frame-requires-2 c κs = search needs
 
 returns : tie.Need-returns
 returns c = c .without-frame .ensures ∙ sym (cut-refused _ _ _ _ (sym (c .before .before .before .before .count .ensures) ∙ c .before .before .refusal .given .1))
@@ -42,13 +27,5 @@ returns-3 c =
 pub frame-spec : {M : Type 1} → statement M
 frame-spec =
     tie.close
-    (tie.spec
-    count-requires
-    enum-known-refusal
-    without-frame-requires
-    enum-known-frames
-    frame-bytes-requires
-    without-frame-requires-2
-    returns
-    returns-2
-    returns-3)
+    (tie.spec (λ c κs. search needs) (λ c. search needs) (λ c κs. search needs) (λ c. search needs)
+    frame-bytes-requires (λ c κs. search needs) returns returns-2 returns-3)

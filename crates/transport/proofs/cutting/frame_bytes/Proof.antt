@@ -7,25 +7,13 @@ use Rattle.transport.proofs.CuttingLaws.{frame-single, frame-first}
 use Rattle.transport.proofs.cutting.frame_bytes.Statement.{statement}
 use Rattle.transport.proofs.cutting.frame_bytes.Tie as tie
 
-sub-next-frame : tie.Need-sub-next-frame
-sub-next-frame c = search needs
-
-next-frame-requires : tie.Need-next-frame-requires
-next-frame-requires c κs = search needs
-
 returns : tie.Need-returns
 returns c = later-frame _ _ _ _ (c .before .if1 .taken) (c .next-frame .ensures)
-
-single-frame-requires : tie.Need-single-frame-requires
-single-frame-requires c κs = search needs
 
 returns-2 : tie.Need-returns-2
 returns-2 c =
     let e : c .before .before .before .before .args .k ≡ 0 = omega arith in
     rw e (c .single-frame .ensures ∙ sym (frame-single _ _ (c .before .if2 .taken)))
-
-first-frame-requires : tie.Need-first-frame-requires
-first-frame-requires c κs = search needs
 
 returns-3 : tie.Need-returns-3
 returns-3 c =
@@ -35,11 +23,5 @@ returns-3 c =
 pub frame-bytes-spec : {M : Type 1} → statement M
 frame-bytes-spec =
     tie.close
-    (tie.spec
-    sub-next-frame
-    next-frame-requires
-    returns
-    single-frame-requires
-    returns-2
-    first-frame-requires
-    returns-3)
+    (tie.spec (λ c. search needs) (λ c κs. search needs) returns (λ c κs. search needs) returns-2
+    (λ c κs. search needs) returns-3)

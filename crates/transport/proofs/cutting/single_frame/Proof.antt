@@ -4,15 +4,9 @@ use Rattle.transport.specs.Cutting.{singleFrame}
 use Rattle.transport.proofs.cutting.single_frame.Statement.{statement}
 use Rattle.transport.proofs.cutting.single_frame.Tie as tie
 
-cast-with-six : tie.Need-cast-with-six
-cast-with-six c = search needs
-
-with-six-requires : tie.Need-with-six-requires
-with-six-requires c κs = search needs
-
 returns : tie.Need-returns
 unfolding singleFrame
 returns c = c .with-six .ensures
 
 pub single-frame-spec : {M : Type 1} → statement M
-single-frame-spec = tie.close (tie.spec cast-with-six with-six-requires returns)
+single-frame-spec = tie.close (tie.spec (λ c. search needs) (λ c κs. search needs) returns)

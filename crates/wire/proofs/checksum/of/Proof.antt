@@ -10,18 +10,6 @@ use Rattle.wire.proofs.Sums.{sum-covered}
 use Rattle.wire.proofs.checksum.of.Statement.{statement}
 use Rattle.wire.proofs.checksum.of.Tie as tie
 
-start-requires : tie.Need-start-requires
-start-requires c κs = search needs
-
-sum-requires : tie.Need-sum-requires
-sum-requires c κs = search needs
-
-sub-t12 : tie.Need-sub-t12
-sub-t12 c = search needs
-
-refused-requires : tie.Need-refused-requires
-refused-requires c κs = search needs
-
 returns : tie.Need-returns
 unfolding checksumOf checksumByte inverted
 returns c =
@@ -44,4 +32,5 @@ returns-2 c =
     (c .before .if1 .came)
 
 pub of-spec : {M : Type 1} → statement M
-of-spec = tie.close (tie.spec start-requires sum-requires sub-t12 refused-requires returns returns-2)
+of-spec = tie.close (tie.spec (λ c κs. search needs) (λ c κs. search needs) (λ c. search needs) (λ c κs. search needs) returns
+    returns-2)

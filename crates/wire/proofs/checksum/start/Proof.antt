@@ -12,15 +12,6 @@ returns : tie.Need-returns
 unfolding modelOf covered sum
 returns c = simp (le-ltb (c .before .args .id) 60 (omega arith))
 
-enum-told : tie.Need-enum-told
-enum-told c = search needs
-
-enum-told-2 : tie.Need-enum-told-2
-enum-told-2 c = search needs
-
-protected-byte-requires : tie.Need-protected-byte-requires
-protected-byte-requires c κs = search needs
-
 returns-2 : tie.Need-returns-2
 unfolding modelOf covered sum
 returns-2 c = simp (lt-ltb (c .before .before .before .args .id) 60 (omega arith), c .enum-told .given .1)
@@ -37,4 +28,4 @@ returns-3 c =
 
 pub start-spec : {M : Type 1} → statement M
 start-spec =
-    tie.close (tie.spec returns enum-told enum-told-2 protected-byte-requires returns-2 returns-3)
+    tie.close (tie.spec returns (λ c. search needs) (λ c. search needs) (λ c κs. search needs) returns-2 returns-3)

@@ -7,18 +7,6 @@ use Rattle.wire.specs.Checksum.{withCarry}
 use Rattle.wire.proofs.checksum.with_carry.Statement.{statement}
 use Rattle.wire.proofs.checksum.with_carry.Tie as tie
 
-add-added : tie.Need-add-added
-add-added c = search needs
-
-sub-result : tie.Need-sub-result
-sub-result c = search needs
-
-cast-result : tie.Need-cast-result
-cast-result c = search needs
-
-cast-result-2 : tie.Need-cast-result-2
-cast-result-2 c = search needs
-
 returns : tie.Need-returns
 unfolding withCarry
 returns c = simp (le-ltb (c .before .args .sum + c .before .args .byte) 256 (omega arith))
@@ -29,4 +17,4 @@ returns-2 c = simp (lt-ltb (c .before .args .sum + c .before .args .byte) 256 (o
 
 pub with-carry-spec : {M : Type 1} → statement M
 with-carry-spec =
-    tie.close (tie.spec add-added sub-result cast-result cast-result-2 returns returns-2)
+    tie.close (tie.spec (λ c. search needs) (λ c. search needs) (λ c. search needs) (λ c. search needs) returns returns-2)

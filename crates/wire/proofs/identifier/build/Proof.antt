@@ -6,12 +6,6 @@ use Rattle.wire.specs.Identifier.{protectedOf}
 use Rattle.wire.proofs.identifier.build.Statement.{statement}
 use Rattle.wire.proofs.identifier.build.Tie as tie
 
-protected-byte-requires : tie.Need-protected-byte-requires
-protected-byte-requires c κs = search needs
-
-refused-requires : tie.Need-refused-requires
-refused-requires c κs = search needs
-
 returns : tie.Need-returns
 unfolding protectedOf
 returns c = simp (lt-ltb (c .before .before .args .id) 64 (omega arith), c .protected-byte .ensures)
@@ -21,4 +15,4 @@ unfolding protectedOf
 returns-2 c = simp (le-ltb (c .before .before .args .id) 64 (omega arith), c .refused .ensures)
 
 pub build-spec : {M : Type 1} → statement M
-build-spec = tie.close (tie.spec protected-byte-requires refused-requires returns returns-2)
+build-spec = tie.close (tie.spec (λ c κs. search needs) (λ c κs. search needs) returns returns-2)

@@ -26,25 +26,11 @@ all-right : allBelow 64 right ≡ true
 unfolding right computed protectedByte p0 p1 bit xor
 all-right = refl
 
-sub-p1 : tie.Need-sub-p1
-sub-p1 c = search needs
-
-mul-result : tie.Need-mul-result
-mul-result c = search needs
-
-add-result : tie.Need-add-result
-add-result c = search needs
-
-mul-result-2 : tie.Need-mul-result-2
-mul-result-2 c = search needs
-
-add-result-2 : tie.Need-add-result-2
-add-result-2 c = search needs
-
 returns : tie.Need-returns
 unfolding right computed
 returns c = eqb-true _ _ (below 64 right all-right (c .args .id) (c .pre))
 
 pub protected-byte-spec : {M : Type 1} → statement M
 protected-byte-spec =
-    tie.close (tie.spec sub-p1 mul-result add-result mul-result-2 add-result-2 returns)
+    tie.close (tie.spec (λ c. search needs) (λ c. search needs) (λ c. search needs) (λ c. search needs) (λ c. search needs)
+    returns)

@@ -9,12 +9,6 @@ use Rattle.wire.proofs.IdentifierLaws.{parity-built}
 use Rattle.wire.proofs.identifier.read.Statement.{statement}
 use Rattle.wire.proofs.identifier.read.Tie as tie
 
-protected-byte-requires : tie.Need-protected-byte-requires
-protected-byte-requires c κs = search needs
-
-refused-requires : tie.Need-refused-requires
-refused-requires c κs = search needs
-
 returns : tie.Need-returns
 unfolding readOf
 returns c =
@@ -32,4 +26,4 @@ returns-2 c =
     )
 
 pub read-spec : {M : Type 1} → statement M
-read-spec = tie.close (tie.spec protected-byte-requires refused-requires returns returns-2)
+read-spec = tie.close (tie.spec (λ c κs. search needs) (λ c κs. search needs) returns returns-2)

@@ -4,15 +4,6 @@ use Rattle.master.specs.Fits.{entryThere}
 use Rattle.master.proofs.state.Current.is_there.Statement.{statement}
 use Rattle.master.proofs.state.Current.is_there.Tie as tie
 
-enum-told : tie.Need-enum-told
-enum-told c = search needs
-
-enum-known-self : tie.Need-enum-known-self
-enum-known-self c = search needs
-
-count-requires : tie.Need-count-requires
-count-requires c κs = search needs
-
 returns : tie.Need-returns
 unfolding entryThere
 returns c = rw (c .enum-told .given .1)
@@ -22,4 +13,4 @@ unfolding entryThere
 returns-2 c = rw (c .before .before .self .given .1, c .count .ensures)
 
 pub is-there-spec : {M : Type 1} → statement M
-is-there-spec = tie.close (tie.spec enum-told enum-known-self count-requires returns returns-2)
+is-there-spec = tie.close (tie.spec (λ c. search needs) (λ c. search needs) (λ c κs. search needs) returns returns-2)

@@ -4,15 +4,6 @@ use Rattle.master.specs.Plan.{entryDue}
 use Rattle.master.proofs.state.Current.next.Statement.{statement}
 use Rattle.master.proofs.state.Current.next.Tie as tie
 
-enum-told : tie.Need-enum-told
-enum-told c = search needs
-
-enum-known-self : tie.Need-enum-known-self
-enum-known-self c = search needs
-
-next-requires : tie.Need-next-requires
-next-requires c κs = search needs
-
 returns : tie.Need-returns
 unfolding entryDue
 returns c = rw (c .enum-told .given .1)
@@ -22,4 +13,4 @@ unfolding entryDue
 returns-2 c = rw (c .before .before .self .given .1, c .next .ensures)
 
 pub next-spec : {M : Type 1} → statement M
-next-spec = tie.close (tie.spec enum-told enum-known-self next-requires returns returns-2)
+next-spec = tie.close (tie.spec (λ c. search needs) (λ c. search needs) (λ c κs. search needs) returns returns-2)

@@ -4,20 +4,8 @@ use Rattle.master.specs.Message.{moved}
 use Rattle.master.proofs.state.Message.moved.Statement.{statement}
 use Rattle.master.proofs.state.Message.moved.Tie as tie
 
-enum-told : tie.Need-enum-told
-enum-told c = search needs
-
-enum-known-self : tie.Need-enum-known-self
-enum-known-self c = search needs
-
 moved-requires : tie.Need-moved-requires
 moved-requires c κs = rw (c .before .self .given .1) at (c .before .before .before .pre)
-
-enum-told-2 : tie.Need-enum-told-2
-enum-told-2 c = search needs
-
-enum-told-3 : tie.Need-enum-told-3
-enum-told-3 c = search needs
 
 returns : tie.Need-returns
 unfolding moved
@@ -38,13 +26,5 @@ returns-4 c = rw (c .enum-told3 .given .1)
 pub moved-spec : {M : Type 1} → statement M
 moved-spec =
     tie.close
-    (tie.spec
-    enum-told
-    enum-known-self
-    moved-requires
-    enum-told-2
-    enum-told-3
-    returns
-    returns-2
-    returns-3
-    returns-4)
+    (tie.spec (λ c. search needs) (λ c. search needs) moved-requires (λ c. search needs) (λ c. search needs)
+    returns returns-2 returns-3 returns-4)

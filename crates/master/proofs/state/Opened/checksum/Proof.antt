@@ -4,18 +4,6 @@ use Rattle.master.specs.Transfers.{openChecksum}
 use Rattle.master.proofs.state.Opened.checksum.Statement.{statement}
 use Rattle.master.proofs.state.Opened.checksum.Tie as tie
 
-identifier-requires : tie.Need-identifier-requires
-identifier-requires c κs = search needs
-
-cast-checksum-byte : tie.Need-cast-checksum-byte
-cast-checksum-byte c = search needs
-
-model-requires : tie.Need-model-requires
-model-requires c κs = search needs
-
-checksum-byte-requires : tie.Need-checksum-byte-requires
-checksum-byte-requires c κs = search needs
-
 returns : tie.Need-returns
 unfolding openChecksum
 returns c = rw (c .checksum-byte .ensures, c .before .before .identifier .ensures, c .before .model .ensures)
@@ -23,4 +11,4 @@ returns c = rw (c .checksum-byte .ensures, c .before .before .identifier .ensure
 pub checksum-spec : {M : Type 1} → statement M
 checksum-spec =
     tie.close
-    (tie.spec identifier-requires cast-checksum-byte model-requires checksum-byte-requires returns)
+    (tie.spec (λ c κs. search needs) (λ c. search needs) (λ c κs. search needs) (λ c κs. search needs) returns)

@@ -9,20 +9,8 @@ use Rattle.master.specs.Byte.{checksumRight}
 use Rattle.master.proofs.state.Opened.checksum_right.Statement.{statement}
 use Rattle.master.proofs.state.Opened.checksum_right.Tie as tie
 
-length-requires : tie.Need-length-requires
-length-requires c κs = search needs
-
-cast-n : tie.Need-cast-n
-cast-n c = search needs
-
 array-read-result : tie.Need-array-read-result
 array-read-result c = omega (arith, c .length .ensures, c .before .before .pre .2)
-
-sub-checksum : tie.Need-sub-checksum
-sub-checksum c = search needs
-
-part-checksum-start : tie.Need-part-checksum-start
-part-checksum-start c = search needs
 
 part-checksum-end : tie.Need-part-checksum-end
 part-checksum-end c = omega (arith, c .before .length .ensures, c .before .before .before .pre .2)
@@ -43,12 +31,5 @@ returns c = rw (c .checksum .ensures, c .before .before .before .length .ensures
 pub checksum-right-spec : {M : Type 1} → statement M
 checksum-right-spec =
     tie.close
-    (tie.spec
-    length-requires
-    cast-n
-    array-read-result
-    sub-checksum
-    part-checksum-start
-    part-checksum-end
-    checksum-requires
-    returns)
+    (tie.spec (λ c κs. search needs) (λ c. search needs) array-read-result (λ c. search needs)
+    (λ c. search needs) part-checksum-end checksum-requires returns)

@@ -4,15 +4,9 @@ use Rattle.master.specs.Transfers.{copied}
 use Rattle.master.proofs.state.Opened.copied.Statement.{statement}
 use Rattle.master.proofs.state.Opened.copied.Tie as tie
 
-checksum-requires : tie.Need-checksum-requires
-checksum-requires c κs = search needs
-
-nine-requires : tie.Need-nine-requires
-nine-requires c κs = search needs
-
 returns : tie.Need-returns
 unfolding copied
 returns c = rw (c .nine .ensures, c .before .checksum .ensures)
 
 pub copied-spec : {M : Type 1} → statement M
-copied-spec = tie.close (tie.spec checksum-requires nine-requires returns)
+copied-spec = tie.close (tie.spec (λ c κs. search needs) (λ c κs. search needs) returns)

@@ -4,18 +4,6 @@ use Rattle.master.specs.Transfers.{isOpen}
 use Rattle.master.proofs.state.Opened.is_open.Statement.{statement}
 use Rattle.master.proofs.state.Opened.is_open.Tie as tie
 
-enum-told : tie.Need-enum-told
-enum-told c = search needs
-
-enum-known-self : tie.Need-enum-known-self
-enum-known-self c = search needs
-
-enum-told-2 : tie.Need-enum-told-2
-enum-told-2 c = search needs
-
-enum-told-3 : tie.Need-enum-told-3
-enum-told-3 c = search needs
-
 returns : tie.Need-returns
 unfolding isOpen
 returns c = rw (c .enum-told .given .1)
@@ -35,12 +23,5 @@ returns-4 c = rw (c .enum-told3 .given .1)
 pub is-open-spec : {M : Type 1} → statement M
 is-open-spec =
     tie.close
-    (tie.spec
-    enum-told
-    enum-known-self
-    enum-told-2
-    enum-told-3
-    returns
-    returns-2
-    returns-3
-    returns-4)
+    (tie.spec (λ c. search needs) (λ c. search needs) (λ c. search needs) (λ c. search needs) returns returns-2
+    returns-3 returns-4)

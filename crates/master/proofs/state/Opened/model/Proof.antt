@@ -4,21 +4,6 @@ use Rattle.master.specs.Transfers.{openModel}
 use Rattle.master.proofs.state.Opened.model.Statement.{statement}
 use Rattle.master.proofs.state.Opened.model.Tie as tie
 
-enum-told : tie.Need-enum-told
-enum-told c = search needs
-
-enum-known-self : tie.Need-enum-known-self
-enum-known-self c = search needs
-
-model-requires : tie.Need-model-requires
-model-requires c κs = search needs
-
-enum-told-2 : tie.Need-enum-told-2
-enum-told-2 c = search needs
-
-enum-told-3 : tie.Need-enum-told-3
-enum-told-3 c = search needs
-
 returns : tie.Need-returns
 unfolding openModel
 returns c = rw (c .enum-told .given .1)
@@ -38,13 +23,5 @@ returns-4 c = rw (c .enum-told3 .given .1)
 pub model-spec : {M : Type 1} → statement M
 model-spec =
     tie.close
-    (tie.spec
-    enum-told
-    enum-known-self
-    model-requires
-    enum-told-2
-    enum-told-3
-    returns
-    returns-2
-    returns-3
-    returns-4)
+    (tie.spec (λ c. search needs) (λ c. search needs) (λ c κs. search needs) (λ c. search needs)
+    (λ c. search needs) returns returns-2 returns-3 returns-4)

@@ -4,12 +4,9 @@ use Rattle.master.specs.Transfers.{opening}
 use Rattle.master.proofs.state.Opened.opening.Statement.{statement}
 use Rattle.master.proofs.state.Opened.opening.Tie as tie
 
-first-bytes-requires : tie.Need-first-bytes-requires
-first-bytes-requires c κs = search needs
-
 returns : tie.Need-returns
 unfolding opening
 returns c = rw (c .first-bytes .ensures)
 
 pub opening-spec : {M : Type 1} → statement M
-opening-spec = tie.close (tie.spec first-bytes-requires returns)
+opening-spec = tie.close (tie.spec (λ c κs. search needs) returns)

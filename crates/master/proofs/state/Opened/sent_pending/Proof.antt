@@ -7,23 +7,11 @@ use Rattle.master.specs.Closing.{pendingSent}
 use Rattle.master.proofs.state.Opened.sent_pending.Statement.{statement}
 use Rattle.master.proofs.state.Opened.sent_pending.Tie as tie
 
-enum-told : tie.Need-enum-told
-enum-told c = search needs
-
-enum-known-self : tie.Need-enum-known-self
-enum-known-self c = search needs
-
 cleared-requires : tie.Need-cleared-requires
 cleared-requires c κs =
     let a = c .before .before .before .before .args in
     let asked = c .before .before .before .before .pre in
     omega (arith, frame-below (a .t .now) (asked .0) (c .before .self .given .0 .0) (rw (c .before .self .given .1) at (asked .1)), frame-count (a .t .now) (asked .0))
-
-enum-told-2 : tie.Need-enum-told-2
-enum-told-2 c = search needs
-
-enum-told-3 : tie.Need-enum-told-3
-enum-told-3 c = search needs
 
 returns : tie.Need-returns
 unfolding pendingSent
@@ -44,13 +32,5 @@ returns-4 c = rw (c .enum-told3 .given .1)
 pub sent-pending-spec : {M : Type 1} → statement M
 sent-pending-spec =
     tie.close
-    (tie.spec
-    enum-told
-    enum-known-self
-    cleared-requires
-    enum-told-2
-    enum-told-3
-    returns
-    returns-2
-    returns-3
-    returns-4)
+    (tie.spec (λ c. search needs) (λ c. search needs) cleared-requires (λ c. search needs) (λ c. search needs)
+    returns returns-2 returns-3 returns-4)

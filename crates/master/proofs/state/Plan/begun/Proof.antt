@@ -4,12 +4,9 @@ use Rattle.master.specs.Plan.{begun}
 use Rattle.master.proofs.state.Plan.begun.Statement.{statement}
 use Rattle.master.proofs.state.Plan.begun.Tie as tie
 
-delay-requires : tie.Need-delay-requires
-delay-requires c κs = search needs
-
 returns : tie.Need-returns
 unfolding begun
 returns c = rw (c .delay .ensures)
 
 pub begun-spec : {M : Type 1} → statement M
-begun-spec = tie.close (tie.spec delay-requires returns)
+begun-spec = tie.close (tie.spec (λ c κs. search needs) returns)

@@ -5,18 +5,6 @@ use Rattle.master.proofs.Counted.{counted-frames, counted-refused}
 use Rattle.master.proofs.state.Sending.fits.Statement.{statement}
 use Rattle.master.proofs.state.Sending.fits.Tie as tie
 
-cast-count : tie.Need-cast-count
-cast-count c = search needs
-
-count-requires : tie.Need-count-requires
-count-requires c κs = search needs
-
-enum-known-frames : tie.Need-enum-known-frames
-enum-known-frames c = search needs
-
-enum-known-refusal : tie.Need-enum-known-refusal
-enum-known-refusal c = search needs
-
 returns : tie.Need-returns
 returns c =
     let a = c .before .before .before .before .before .before .args in
@@ -32,4 +20,5 @@ returns-2 c =
 pub fits-spec : {M : Type 1} → statement M
 fits-spec =
     tie.close
-    (tie.spec cast-count count-requires enum-known-frames enum-known-refusal returns returns-2)
+    (tie.spec (λ c. search needs) (λ c κs. search needs) (λ c. search needs) (λ c. search needs) returns
+    returns-2)

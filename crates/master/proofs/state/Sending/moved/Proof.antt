@@ -10,21 +10,6 @@ use Rattle.master.proofs.state.Sending.moved.Tie as tie
 add-next : tie.Need-add-next
 add-next c = omega (arith, next-high (c .before .args .self) (c .before .pre))
 
-cast-count : tie.Need-cast-count
-cast-count c = search needs
-
-count-requires : tie.Need-count-requires
-count-requires c κs = search needs
-
-enum-known-frames : tie.Need-enum-known-frames
-enum-known-frames c = search needs
-
-at-requires : tie.Need-at-requires
-at-requires c κs = search needs
-
-enum-known-refusal : tie.Need-enum-known-refusal
-enum-known-refusal c = search needs
-
 returns : tie.Need-returns
 unfolding moved
 returns c =
@@ -43,12 +28,5 @@ returns-2 c =
 pub moved-spec : {M : Type 1} → statement M
 moved-spec =
     tie.close
-    (tie.spec
-    add-next
-    cast-count
-    count-requires
-    enum-known-frames
-    at-requires
-    enum-known-refusal
-    returns
-    returns-2)
+    (tie.spec add-next (λ c. search needs) (λ c κs. search needs) (λ c. search needs) (λ c κs. search needs)
+    (λ c. search needs) returns returns-2)

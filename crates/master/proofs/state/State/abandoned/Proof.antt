@@ -4,12 +4,6 @@ use Rattle.master.specs.Tick.{abandoned}
 use Rattle.master.proofs.state.State.abandoned.Statement.{statement}
 use Rattle.master.proofs.state.State.abandoned.Tie as tie
 
-is-open-requires : tie.Need-is-open-requires
-is-open-requires c κs = search needs
-
-failed-requires : tie.Need-failed-requires
-failed-requires c κs = search needs
-
 returns : tie.Need-returns
 unfolding abandoned
 returns c = rw (← c .before .before .before .is-open .ensures, c .before .before .if1 .taken, c .failed .ensures)
@@ -19,4 +13,4 @@ unfolding abandoned
 returns-2 c = rw (← c .before .is-open .ensures, c .if1 .left)
 
 pub abandoned-spec : {M : Type 1} → statement M
-abandoned-spec = tie.close (tie.spec is-open-requires failed-requires returns returns-2)
+abandoned-spec = tie.close (tie.spec (λ c κs. search needs) (λ c κs. search needs) returns returns-2)

@@ -5,36 +5,15 @@ use Rattle.master.specs.Admit.{admitted}
 use Rattle.master.proofs.state.State.admit.Statement.{statement}
 use Rattle.master.proofs.state.State.admit.Tie as tie
 
-check-requires : tie.Need-check-requires
-check-requires c κs = search needs
-
-enum-known-refusal : tie.Need-enum-known-refusal
-enum-known-refusal c = search needs
-
 returns : tie.Need-returns
 unfolding admitted
 returns c = rw (← c .before .before .before .check .ensures, c .before .refusal .given .1)
-
-enum-told : tie.Need-enum-told
-enum-told c = search needs
-
-buffer-size-requires : tie.Need-buffer-size-requires
-buffer-size-requires c κs = search needs
-
-refused-requires : tie.Need-refused-requires
-refused-requires c κs = search needs
 
 returns-2 : tie.Need-returns-2
 unfolding admitted
 returns-2 c =
     let check = c .before .before .before .before .before .check in
     rw (← check .ensures, c .before .before .before .enum-told .given .1, ← c .before .before .buffer-size .ensures, ne-eqb _ _ (c .before .if1 .taken), c .refused .ensures)
-
-fits-requires : tie.Need-fits-requires
-fits-requires c κs = search needs
-
-refused-requires-2 : tie.Need-refused-requires-2
-refused-requires-2 c κs = search needs
 
 returns-3 : tie.Need-returns-3
 unfolding admitted
@@ -55,15 +34,5 @@ returns-4 c =
 pub admit-spec : {M : Type 1} → statement M
 admit-spec =
     tie.close
-    (tie.spec
-    check-requires
-    enum-known-refusal
-    returns
-    enum-told
-    buffer-size-requires
-    refused-requires
-    returns-2
-    fits-requires
-    refused-requires-2
-    returns-3
-    returns-4)
+    (tie.spec (λ c κs. search needs) (λ c. search needs) returns (λ c. search needs) (λ c κs. search needs)
+    (λ c κs. search needs) returns-2 (λ c κs. search needs) (λ c κs. search needs) returns-3 returns-4)

@@ -7,26 +7,11 @@ use Rattle.master.specs.Byte.{byteOf, taken}
 use Rattle.master.proofs.state.State.byte_in.Statement.{statement}
 use Rattle.master.proofs.state.State.byte_in.Tie as tie
 
-judge-byte-requires : tie.Need-judge-byte-requires
-judge-byte-requires c κs = search needs
-
-enum-known-refusal : tie.Need-enum-known-refusal
-enum-known-refusal c = search needs
-
-answering-requires : tie.Need-answering-requires
-answering-requires c κs = search needs
-
 returns : tie.Need-returns
 unfolding byteOf taken
 returns c =
     let e = (sym (c .before .before .before .before .judge-byte .ensures) ∙ c .before .before .refusal .given .1) in
     record { handed = rw (e, c .answering .ensures); kept = rw e }
-
-enum-told : tie.Need-enum-told
-enum-told c = search needs
-
-sends-requires : tie.Need-sends-requires
-sends-requires c κs = search needs
 
 sent-byte-requires : tie.Need-sent-byte-requires
 sent-byte-requires c κs =
@@ -50,9 +35,6 @@ received-byte-requires c κs =
     let enum-told = c .before .before .before .before .enum-told in
     (sym (judge-byte .ensures) ∙ enum-told .given .1)
 
-same-length : tie.Need-same-length
-same-length c = search needs
-
 returns-3 : tie.Need-returns-3
 unfolding byteOf taken
 returns-3 c =
@@ -67,15 +49,5 @@ returns-3 c =
 pub byte-in-spec : {M : Type 1} → statement M
 byte-in-spec =
     tie.close
-    (tie.spec
-    judge-byte-requires
-    enum-known-refusal
-    answering-requires
-    returns
-    enum-told
-    sends-requires
-    sent-byte-requires
-    returns-2
-    received-byte-requires
-    same-length
-    returns-3)
+    (tie.spec (λ c κs. search needs) (λ c. search needs) (λ c κs. search needs) returns (λ c. search needs)
+    (λ c κs. search needs) sent-byte-requires returns-2 received-byte-requires (λ c. search needs) returns-3)

@@ -5,15 +5,9 @@ use Rattle.master.specs.Fits.{stateFits}
 use Rattle.master.proofs.state.State.fits.Statement.{statement}
 use Rattle.master.proofs.state.State.fits.Tie as tie
 
-is-there-requires : tie.Need-is-there-requires
-is-there-requires c κs = search needs
-
 returns : tie.Need-returns
 unfolding stateFits
 returns c = rw (← c .before .is-there .ensures, not-true (c .before .is-there .result) (c .if1 .taken))
-
-is-there-requires-2 : tie.Need-is-there-requires-2
-is-there-requires-2 c κs = search needs
 
 returns-2 : tie.Need-returns-2
 unfolding stateFits
@@ -22,9 +16,6 @@ returns-2 c =
     let is-there2 = c .before .is-there2 in
     rw (← is-there .ensures, not-false (is-there .result) (c .before .before .if1 .left), ← is-there2 .ensures, not-true (is-there2 .result) (c .if2 .taken))
 
-wait-fits-requires : tie.Need-wait-fits-requires
-wait-fits-requires c κs = search needs
-
 returns-3 : tie.Need-returns-3
 unfolding stateFits
 returns-3 c =
@@ -32,9 +23,6 @@ returns-3 c =
     let is-there2 = c .before .before .before .is-there2 in
     let wait-fits = c .before .wait-fits in
     rw (← is-there .ensures, not-false (is-there .result) (c .before .before .before .before .if1 .left), ← is-there2 .ensures, not-false (is-there2 .result) (c .before .before .if2 .left), ← wait-fits .ensures, not-true (wait-fits .result) (c .if3 .taken))
-
-pending-fits-requires : tie.Need-pending-fits-requires
-pending-fits-requires c κs = search needs
 
 returns-4 : tie.Need-returns-4
 unfolding stateFits
@@ -46,9 +34,6 @@ returns-4 c =
     let pending-fits = c .before .pending-fits in
     rw (← is-there .ensures, not-false (is-there .result) (if1 .left), ← is-there2 .ensures, not-false (is-there2 .result) (c .before .before .before .before .if2 .left), ← wait-fits .ensures, not-false (wait-fits .result) (c .before .before .if3 .left), ← pending-fits .ensures, not-true (pending-fits .result) (c .if4 .taken))
 
-can-open-requires : tie.Need-can-open-requires
-can-open-requires c κs = search needs
-
 returns-5 : tie.Need-returns-5
 unfolding stateFits
 returns-5 c =
@@ -59,9 +44,6 @@ returns-5 c =
     let wait-fits = c .before .before .before .before .before .wait-fits in
     let pending-fits = c .before .before .before .pending-fits in
     rw (← is-there .ensures, not-false (is-there .result) (if1 .left), ← is-there2 .ensures, not-false (is-there2 .result) (if2 .left), ← wait-fits .ensures, not-false (wait-fits .result) (c .before .before .before .before .if3 .left), ← pending-fits .ensures, not-false (pending-fits .result) (c .before .before .if4 .left), ← c .before .can-open .ensures, not-true (c .before .can-open .result) (c .if5 .taken))
-
-count-fits-requires : tie.Need-count-fits-requires
-count-fits-requires c κs = search needs
 
 returns-6 : tie.Need-returns-6
 unfolding stateFits
@@ -76,9 +58,6 @@ returns-6 c =
     let can-open = c .before .before .before .can-open in
     let count-fits = c .before .count-fits in
     rw (← is-there .ensures, not-false (is-there .result) (if1 .left), ← is-there2 .ensures, not-false (is-there2 .result) (if2 .left), ← wait-fits .ensures, not-false (wait-fits .result) (if3 .left), ← pending-fits .ensures, not-false (pending-fits .result) (c .before .before .before .before .if4 .left), ← can-open .ensures, not-false (can-open .result) (c .before .before .if5 .left), ← count-fits .ensures, not-true (count-fits .result) (c .if6 .taken))
-
-fits-requires : tie.Need-fits-requires
-fits-requires c κs = search needs
 
 returns-7 : tie.Need-returns-7
 unfolding stateFits
@@ -98,18 +77,6 @@ returns-7 c =
 pub fits-spec : {M : Type 1} → statement M
 fits-spec =
     tie.close
-    (tie.spec
-    is-there-requires
-    returns
-    is-there-requires-2
-    returns-2
-    wait-fits-requires
-    returns-3
-    pending-fits-requires
-    returns-4
-    can-open-requires
-    returns-5
-    count-fits-requires
-    returns-6
-    fits-requires
-    returns-7)
+    (tie.spec (λ c κs. search needs) returns (λ c κs. search needs) returns-2 (λ c κs. search needs) returns-3
+    (λ c κs. search needs) returns-4 (λ c κs. search needs) returns-5 (λ c κs. search needs) returns-6
+    (λ c κs. search needs) returns-7)

@@ -5,32 +5,11 @@ use Rattle.master.specs.Ahead.{aheadVerdict}
 use Rattle.master.proofs.state.State.judge_ahead.Statement.{statement}
 use Rattle.master.proofs.state.State.judge_ahead.Tie as tie
 
-buffer-size-requires : tie.Need-buffer-size-requires
-buffer-size-requires c κs = search needs
-
-admit-requires : tie.Need-admit-requires
-admit-requires c κs = search needs
-
-enum-known-refusal : tie.Need-enum-known-refusal
-enum-known-refusal c = search needs
-
 returns : tie.Need-returns
 unfolding aheadVerdict
 returns c =
     let buffer-size = c .before .before .before .before .buffer-size in
     rw (← buffer-size .ensures, ← c .before .before .before .admit .ensures, c .before .refusal .given .1)
-
-enum-told : tie.Need-enum-told
-enum-told c = search needs
-
-count-requires : tie.Need-count-requires
-count-requires c κs = search needs
-
-member-of-requires : tie.Need-member-of-requires
-member-of-requires c κs = search needs
-
-refused-requires : tie.Need-refused-requires
-refused-requires c κs = search needs
 
 returns-2 : tie.Need-returns-2
 unfolding aheadVerdict
@@ -50,14 +29,5 @@ returns-3 c =
 pub judge-ahead-spec : {M : Type 1} → statement M
 judge-ahead-spec =
     tie.close
-    (tie.spec
-    buffer-size-requires
-    admit-requires
-    enum-known-refusal
-    returns
-    enum-told
-    count-requires
-    member-of-requires
-    refused-requires
-    returns-2
-    returns-3)
+    (tie.spec (λ c κs. search needs) (λ c κs. search needs) (λ c. search needs) returns (λ c. search needs)
+    (λ c κs. search needs) (λ c κs. search needs) (λ c κs. search needs) returns-2 returns-3)

@@ -5,24 +5,9 @@ use Rattle.master.specs.Byte.{byteVerdict}
 use Rattle.master.proofs.state.State.judge_byte.Statement.{statement}
 use Rattle.master.proofs.state.State.judge_byte.Tie as tie
 
-admit-requires : tie.Need-admit-requires
-admit-requires c κs = search needs
-
-enum-known-refusal : tie.Need-enum-known-refusal
-enum-known-refusal c = search needs
-
 returns : tie.Need-returns
 unfolding byteVerdict
 returns c = rw (← c .before .before .before .admit .ensures, c .before .refusal .given .1)
-
-enum-told : tie.Need-enum-told
-enum-told c = search needs
-
-is-open-requires : tie.Need-is-open-requires
-is-open-requires c κs = search needs
-
-refused-requires : tie.Need-refused-requires
-refused-requires c κs = search needs
 
 returns-2 : tie.Need-returns-2
 unfolding byteVerdict
@@ -41,12 +26,5 @@ returns-3 c =
 pub judge-byte-spec : {M : Type 1} → statement M
 judge-byte-spec =
     tie.close
-    (tie.spec
-    admit-requires
-    enum-known-refusal
-    returns
-    enum-told
-    is-open-requires
-    refused-requires
-    returns-2
-    returns-3)
+    (tie.spec (λ c κs. search needs) (λ c. search needs) returns (λ c. search needs) (λ c κs. search needs)
+    (λ c κs. search needs) returns-2 returns-3)

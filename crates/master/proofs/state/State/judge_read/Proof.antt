@@ -6,36 +6,15 @@ use Rattle.master.specs.Read.{readVerdict}
 use Rattle.master.proofs.state.State.judge_read.Statement.{statement}
 use Rattle.master.proofs.state.State.judge_read.Tie as tie
 
-admit-requires : tie.Need-admit-requires
-admit-requires c κs = search needs
-
-enum-known-refusal : tie.Need-enum-known-refusal
-enum-known-refusal c = search needs
-
 returns : tie.Need-returns
 unfolding readVerdict
 returns c = rw (← c .before .before .before .admit .ensures, c .before .refusal .given .1)
-
-enum-told : tie.Need-enum-told
-enum-told c = search needs
-
-count-requires : tie.Need-count-requires
-count-requires c κs = search needs
-
-refused-requires : tie.Need-refused-requires
-refused-requires c κs = search needs
 
 returns-2 : tie.Need-returns-2
 unfolding readVerdict
 returns-2 c =
     let admit = c .before .before .before .before .before .admit in
     rw (← admit .ensures, c .before .before .before .enum-told .given .1, ← c .before .before .count .ensures, le-ltb _ _ (c .before .if1 .taken), c .refused .ensures)
-
-is-array-requires : tie.Need-is-array-requires
-is-array-requires c κs = search needs
-
-refused-requires-2 : tie.Need-refused-requires-2
-refused-requires-2 c κs = search needs
 
 returns-3 : tie.Need-returns-3
 unfolding readVerdict
@@ -58,15 +37,5 @@ returns-4 c =
 pub judge-read-spec : {M : Type 1} → statement M
 judge-read-spec =
     tie.close
-    (tie.spec
-    admit-requires
-    enum-known-refusal
-    returns
-    enum-told
-    count-requires
-    refused-requires
-    returns-2
-    is-array-requires
-    refused-requires-2
-    returns-3
-    returns-4)
+    (tie.spec (λ c κs. search needs) (λ c. search needs) returns (λ c. search needs) (λ c κs. search needs)
+    (λ c κs. search needs) returns-2 (λ c κs. search needs) (λ c κs. search needs) returns-3 returns-4)

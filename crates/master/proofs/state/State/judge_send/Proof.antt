@@ -5,26 +5,11 @@ use Rattle.master.specs.Message.{sendVerdict}
 use Rattle.master.proofs.state.State.judge_send.Statement.{statement}
 use Rattle.master.proofs.state.State.judge_send.Tie as tie
 
-buffer-size-requires : tie.Need-buffer-size-requires
-buffer-size-requires c κs = search needs
-
-admit-requires : tie.Need-admit-requires
-admit-requires c κs = search needs
-
-enum-known-refusal : tie.Need-enum-known-refusal
-enum-known-refusal c = search needs
-
 returns : tie.Need-returns
 unfolding sendVerdict
 returns c =
     let buffer-size = c .before .before .before .before .buffer-size in
     rw (← buffer-size .ensures, ← c .before .before .before .admit .ensures, c .before .refusal .given .1)
-
-enum-told : tie.Need-enum-told
-enum-told c = search needs
-
-refused-requires : tie.Need-refused-requires
-refused-requires c κs = search needs
 
 returns-2 : tie.Need-returns-2
 unfolding sendVerdict
@@ -33,24 +18,12 @@ returns-2 c =
     let admit = c .before .before .before .before .admit in
     rw (← buffer-size .ensures, ← admit .ensures, c .before .before .enum-told .given .1, lt-leb _ _ (c .before .if1 .taken), c .refused .ensures)
 
-cast-if2 : tie.Need-cast-if2
-cast-if2 c = search needs
-
-refused-requires-2 : tie.Need-refused-requires-2
-refused-requires-2 c κs = search needs
-
 returns-3 : tie.Need-returns-3
 unfolding sendVerdict
 returns-3 c =
     let buffer-size = c .before .before .before .before .before .before .buffer-size in
     let admit = c .before .before .before .before .before .admit in
     rw (← buffer-size .ensures, ← admit .ensures, c .before .before .before .enum-told .given .1, le-leb _ _ (c .before .before .if1 .left), lt-leb _ _ (c .before .if2 .taken), c .refused2 .ensures)
-
-is-sending-requires : tie.Need-is-sending-requires
-is-sending-requires c κs = search needs
-
-refused-requires-3 : tie.Need-refused-requires-3
-refused-requires-3 c κs = search needs
 
 returns-4 : tie.Need-returns-4
 unfolding sendVerdict
@@ -71,18 +44,6 @@ returns-5 c =
 pub judge-send-spec : {M : Type 1} → statement M
 judge-send-spec =
     tie.close
-    (tie.spec
-    buffer-size-requires
-    admit-requires
-    enum-known-refusal
-    returns
-    enum-told
-    refused-requires
-    returns-2
-    cast-if2
-    refused-requires-2
-    returns-3
-    is-sending-requires
-    refused-requires-3
-    returns-4
-    returns-5)
+    (tie.spec (λ c κs. search needs) (λ c κs. search needs) (λ c. search needs) returns (λ c. search needs)
+    (λ c κs. search needs) returns-2 (λ c. search needs) (λ c κs. search needs) returns-3 (λ c κs. search needs)
+    (λ c κs. search needs) returns-4 returns-5)

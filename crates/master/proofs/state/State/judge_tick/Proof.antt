@@ -5,24 +5,9 @@ use Rattle.master.specs.Tick.{tickVerdict}
 use Rattle.master.proofs.state.State.judge_tick.Statement.{statement}
 use Rattle.master.proofs.state.State.judge_tick.Tie as tie
 
-admit-requires : tie.Need-admit-requires
-admit-requires c κs = search needs
-
-enum-known-refusal : tie.Need-enum-known-refusal
-enum-known-refusal c = search needs
-
 returns : tie.Need-returns
 unfolding tickVerdict
 returns c = rw (← c .before .before .before .admit .ensures, c .before .refusal .given .1)
-
-enum-told : tie.Need-enum-told
-enum-told c = search needs
-
-lent-fits-requires : tie.Need-lent-fits-requires
-lent-fits-requires c κs = search needs
-
-refused-requires : tie.Need-refused-requires
-refused-requires c κs = search needs
 
 returns-2 : tie.Need-returns-2
 unfolding tickVerdict
@@ -41,12 +26,5 @@ returns-3 c =
 pub judge-tick-spec : {M : Type 1} → statement M
 judge-tick-spec =
     tie.close
-    (tie.spec
-    admit-requires
-    enum-known-refusal
-    returns
-    enum-told
-    lent-fits-requires
-    refused-requires
-    returns-2
-    returns-3)
+    (tie.spec (λ c κs. search needs) (λ c. search needs) returns (λ c. search needs) (λ c κs. search needs)
+    (λ c κs. search needs) returns-2 returns-3)

@@ -23,9 +23,6 @@ failed-requires c κs =
     let asked = c .before .before .before .before .before .pre in
     byte-identifier (a .t .now) (length (a .bytes .now)) (a .self) asked
 
-answering-requires : tie.Need-answering-requires
-answering-requires c κs = search needs
-
 returns : tie.Need-returns
 unfolding lastByte
 returns c =
@@ -39,18 +36,6 @@ succeeded-requires c κs =
     let asked = c .before .before .before .before .before .pre in
     (byte-table (a .t .now) (length (a .bytes .now)) (a .self) asked, byte-fits (a .t .now) (length (a .bytes .now)) (a .self) asked .frame-there, byte-fits (a .t .now) (length (a .bytes .now)) (a .self) asked .message-fits)
 
-enum-told : tie.Need-enum-told
-enum-told c = search needs
-
-answering-requires-2 : tie.Need-answering-requires-2
-answering-requires-2 c κs = search needs
-
-enum-known-opened : tie.Need-enum-known-opened
-enum-known-opened c = search needs
-
-length-requires : tie.Need-length-requires
-length-requires c κs = search needs
-
 store-requires : tie.Need-store-requires
 store-requires c κs =
     let a = c .before .before .before .before .before .before .before .before .before .before .before .args in
@@ -58,30 +43,12 @@ store-requires c κs =
     let opened = c .before .before .before .opened in
     (frame-end (a .t .now) (byte-table (a .t .now) (length (a .bytes .now)) (a .self) asked) (a .bytes .now) (byte-size (a .t .now) (length (a .bytes .now)) (a .self) asked) (opened .given .0 .0) (rw (opened .given .1) at (byte-fits (a .t .now) (length (a .bytes .now)) (a .self) asked .frame-there)) _ refl, omega (arith, c .length .ensures, rw (opened .given .1) at (byte-length-high (a .t .now) (length (a .bytes .now)) (a .self) asked)))
 
-answering-requires-3 : tie.Need-answering-requires-3
-answering-requires-3 c κs = search needs
-
-enum-told-2 : tie.Need-enum-told-2
-enum-told-2 c = search needs
-
-answering-requires-4 : tie.Need-answering-requires-4
-answering-requires-4 c κs = search needs
-
-enum-told-3 : tie.Need-enum-told-3
-enum-told-3 c = search needs
-
-responding-requires : tie.Need-responding-requires
-responding-requires c κs = search needs
-
 returns-2 : tie.Need-returns-2
 unfolding lastByte
 returns-2 c =
     let a = c .before .before .before .before .before .before .before .before .before .args in
     let checksum-right = c .before .before .before .before .before .checksum-right in
     last-nothing (a .t .now) (a .self) (a .nine) (a .bytes .now) (sym (checksum-right .ensures) ∙ not-false (checksum-right .result) (c .before .before .before .before .if1 .left)) _ _ (c .before .enum-told .given .1) (c .answering2 .ensures ∙ rw (c .before .before .before .succeeded .ensures)) refl
-
-same-length : tie.Need-same-length
-same-length c = search needs
 
 returns-3 : tie.Need-returns-3
 unfolding lastByte
@@ -111,24 +78,7 @@ returns-5 c =
 pub last-byte-spec : {M : Type 1} → statement M
 last-byte-spec =
     tie.close
-    (tie.spec
-    checksum-right-requires
-    failed-requires
-    answering-requires
-    returns
-    succeeded-requires
-    enum-told
-    answering-requires-2
-    enum-known-opened
-    length-requires
-    store-requires
-    answering-requires-3
-    enum-told-2
-    answering-requires-4
-    enum-told-3
-    responding-requires
-    returns-2
-    same-length
-    returns-3
-    returns-4
-    returns-5)
+    (tie.spec checksum-right-requires failed-requires (λ c κs. search needs) returns succeeded-requires
+    (λ c. search needs) (λ c κs. search needs) (λ c. search needs) (λ c κs. search needs) store-requires
+    (λ c κs. search needs) (λ c. search needs) (λ c κs. search needs) (λ c. search needs) (λ c κs. search needs)
+    returns-2 (λ c. search needs) returns-3 returns-4 returns-5)

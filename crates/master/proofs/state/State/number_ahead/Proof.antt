@@ -7,24 +7,9 @@ use Rattle.master.specs.Ahead.{aheadOf, framesAhead}
 use Rattle.master.proofs.state.State.number_ahead.Statement.{statement}
 use Rattle.master.proofs.state.State.number_ahead.Tie as tie
 
-judge-ahead-requires : tie.Need-judge-ahead-requires
-judge-ahead-requires c κs = search needs
-
-enum-known-refusal : tie.Need-enum-known-refusal
-enum-known-refusal c = search needs
-
 returns : tie.Need-returns
 unfolding aheadOf framesAhead
 returns c = rw (← c .before .before .before .judge-ahead .ensures, c .before .refusal .given .1)
-
-enum-told : tie.Need-enum-told
-enum-told c = search needs
-
-member-of-requires : tie.Need-member-of-requires
-member-of-requires c κs = search needs
-
-list-requires : tie.Need-list-requires
-list-requires c κs = search needs
 
 count-pending-requires : tie.Need-count-pending-requires
 count-pending-requires c κs =
@@ -43,12 +28,5 @@ returns-2 c =
 pub number-ahead-spec : {M : Type 1} → statement M
 number-ahead-spec =
     tie.close
-    (tie.spec
-    judge-ahead-requires
-    enum-known-refusal
-    returns
-    enum-told
-    member-of-requires
-    list-requires
-    count-pending-requires
-    returns-2)
+    (tie.spec (λ c κs. search needs) (λ c. search needs) returns (λ c. search needs) (λ c κs. search needs)
+    (λ c κs. search needs) count-pending-requires returns-2)

@@ -6,15 +6,9 @@ use Rattle.master.specs.Tick.{opens}
 use Rattle.master.proofs.state.State.open.Statement.{statement}
 use Rattle.master.proofs.state.State.open.Tie as tie
 
-is-open-requires : tie.Need-is-open-requires
-is-open-requires c κs = search needs
-
 returns : tie.Need-returns
 unfolding opens
 returns c = rw (← c .before .is-open .ensures, not-true (c .before .is-open .result) (c .if1 .taken))
-
-opening-requires : tie.Need-opening-requires
-opening-requires c κs = search needs
 
 protected-requires : tie.Need-protected-requires
 protected-requires c κs =
@@ -30,4 +24,4 @@ returns-2 c =
 
 pub open-spec : {M : Type 1} → statement M
 open-spec =
-    tie.close (tie.spec is-open-requires returns opening-requires protected-requires returns-2)
+    tie.close (tie.spec (λ c κs. search needs) returns (λ c κs. search needs) protected-requires returns-2)

@@ -5,12 +5,9 @@ use Rattle.master.specs.Byte.{passed}
 use Rattle.master.proofs.state.State.passed.Statement.{statement}
 use Rattle.master.proofs.state.State.passed.Tie as tie
 
-add-t7 : tie.Need-add-t7
-add-t7 c = search needs
-
 returns : tie.Need-returns
 unfolding passed
 returns c = refl
 
 pub passed-spec : {M : Type 1} → statement M
-passed-spec = tie.close (tie.spec add-t7 returns)
+passed-spec = tie.close (tie.spec (λ c. search needs) returns)

@@ -4,21 +4,9 @@ use Rattle.master.specs.Read.{readArrayOf}
 use Rattle.master.proofs.state.State.read_array.Statement.{statement}
 use Rattle.master.proofs.state.State.read_array.Tie as tie
 
-judge-read-requires : tie.Need-judge-read-requires
-judge-read-requires c κs = search needs
-
-enum-known-refusal : tie.Need-enum-known-refusal
-enum-known-refusal c = search needs
-
 returns : tie.Need-returns
 unfolding readArrayOf
 returns c = rw (← c .before .before .before .judge-read .ensures, c .before .refusal .given .1)
-
-enum-told : tie.Need-enum-told
-enum-told c = search needs
-
-get-array-requires : tie.Need-get-array-requires
-get-array-requires c κs = search needs
 
 returns-2 : tie.Need-returns-2
 unfolding readArrayOf
@@ -27,10 +15,5 @@ returns-2 c = rw (← c .before .before .before .before .judge-read .ensures, c 
 pub read-array-spec : {M : Type 1} → statement M
 read-array-spec =
     tie.close
-    (tie.spec
-    judge-read-requires
-    enum-known-refusal
-    returns
-    enum-told
-    get-array-requires
+    (tie.spec (λ c κs. search needs) (λ c. search needs) returns (λ c. search needs) (λ c κs. search needs)
     returns-2)

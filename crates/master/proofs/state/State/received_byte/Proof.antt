@@ -11,17 +11,11 @@ with-byte-requires c κs =
     let a = c .before .before .before .args in
     byte-count-high (a .t .now) (length (a .bytes .now)) (a .self) (c .before .before .before .pre)
 
-early-requires : tie.Need-early-requires
-early-requires c κs = search needs
-
 passed-requires : tie.Need-passed-requires
 passed-requires c κs =
     let a = c .before .before .before .before .before .before .args in
     let asked = c .before .before .before .before .before .before .pre in
     byte-count-high (a .t .now) (length (a .bytes .now)) (a .self) asked
-
-answering-requires : tie.Need-answering-requires
-answering-requires c κs = search needs
 
 returns : tie.Need-returns
 unfolding receivedByte
@@ -30,12 +24,6 @@ returns c =
     let early = c .before .before .before .early in
     let if1 = c .before .before .if1 in
     record { handed = rw (← early .ensures, if1 .taken, c .answering .ensures, c .before .passed .ensures, with-byte .ensures); kept = rw (← early .ensures, if1 .taken) }
-
-last-byte-requires : tie.Need-last-byte-requires
-last-byte-requires c κs = search needs
-
-same-length : tie.Need-same-length
-same-length c = search needs
 
 returns-2 : tie.Need-returns-2
 unfolding receivedByte
@@ -49,12 +37,5 @@ returns-2 c =
 pub received-byte-spec : {M : Type 1} → statement M
 received-byte-spec =
     tie.close
-    (tie.spec
-    with-byte-requires
-    early-requires
-    passed-requires
-    answering-requires
-    returns
-    last-byte-requires
-    same-length
-    returns-2)
+    (tie.spec with-byte-requires (λ c κs. search needs) passed-requires (λ c κs. search needs) returns
+    (λ c κs. search needs) (λ c. search needs) returns-2)

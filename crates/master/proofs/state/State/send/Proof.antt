@@ -7,26 +7,14 @@ use Rattle.master.specs.Message.{sendOf}
 use Rattle.master.proofs.state.State.send.Statement.{statement}
 use Rattle.master.proofs.state.State.send.Tie as tie
 
-judge-send-requires : tie.Need-judge-send-requires
-judge-send-requires c κs = search needs
-
-enum-known-refusal : tie.Need-enum-known-refusal
-enum-known-refusal c = search needs
-
 returns : tie.Need-returns
 unfolding sendOf
 returns c = rw (← c .before .before .before .judge-send .ensures, c .before .refusal .given .1)
-
-enum-told : tie.Need-enum-told
-enum-told c = search needs
 
 cast-t9 : tie.Need-cast-t9
 cast-t9 c =
     let a = c .before .before .before .before .args in
     record { fits = omega (arith, send-length (a .t .now) (a .self) (a .length) (sym (c .before .before .judge-send .ensures) ∙ c .enum-told .given .1)) }
-
-with-message-requires : tie.Need-with-message-requires
-with-message-requires c κs = search needs
 
 returns-2 : tie.Need-returns-2
 unfolding sendOf
@@ -35,11 +23,5 @@ returns-2 c = rw (← c .before .before .before .judge-send .ensures, c .before 
 pub send-spec : {M : Type 1} → statement M
 send-spec =
     tie.close
-    (tie.spec
-    judge-send-requires
-    enum-known-refusal
-    returns
-    enum-told
-    cast-t9
-    with-message-requires
-    returns-2)
+    (tie.spec (λ c κs. search needs) (λ c. search needs) returns (λ c. search needs) cast-t9
+    (λ c κs. search needs) returns-2)

@@ -8,9 +8,6 @@ use Rattle.master.specs.Byte.{sentByte}
 use Rattle.master.proofs.state.State.sent_byte.Statement.{statement}
 use Rattle.master.proofs.state.State.sent_byte.Tie as tie
 
-cast-if1 : tie.Need-cast-if1
-cast-if1 c = search needs
-
 array-read-if1 : tie.Need-array-read-if1
 array-read-if1 c =
     let a = c .before .before .before .before .args in
@@ -22,24 +19,15 @@ failed-requires c κs =
     let asked = c .before .before .before .before .before .pre in
     byte-identifier (a .t .now) (bufferSize (a .t .now)) (a .self) asked
 
-answering-requires : tie.Need-answering-requires
-answering-requires c κs = search needs
-
 returns : tie.Need-returns
 unfolding sentByte
 returns c = rw (ne-eqb _ _ (c .before .before .if1 .taken), c .answering .ensures, c .before .failed .ensures)
-
-early-requires : tie.Need-early-requires
-early-requires c κs = search needs
 
 passed-requires : tie.Need-passed-requires
 passed-requires c κs =
     let a = c .before .before .before .before .before .before .before .args in
     let asked = c .before .before .before .before .before .before .before .pre in
     byte-count-high (a .t .now) (bufferSize (a .t .now)) (a .self) asked
-
-answering-requires-2 : tie.Need-answering-requires-2
-answering-requires-2 c κs = search needs
 
 returns-2 : tie.Need-returns-2
 unfolding sentByte
@@ -51,9 +39,6 @@ succeeded-requires c κs =
     let asked = c .before .before .before .before .before .before .before .pre in
     (byte-table (a .t .now) (bufferSize (a .t .now)) (a .self) asked, byte-fits (a .t .now) (bufferSize (a .t .now)) (a .self) asked .frame-there, byte-fits (a .t .now) (bufferSize (a .t .now)) (a .self) asked .message-fits)
 
-answering-requires-3 : tie.Need-answering-requires-3
-answering-requires-3 c κs = search needs
-
 returns-3 : tie.Need-returns-3
 unfolding sentByte
 returns-3 c = rw (eq-eqb _ _ (c .before .before .before .before .if1 .left), ← c .before .before .before .early .ensures, c .before .before .if2 .left, c .answering3 .ensures, c .before .succeeded .ensures)
@@ -61,16 +46,6 @@ returns-3 c = rw (eq-eqb _ _ (c .before .before .before .before .if1 .left), ←
 pub sent-byte-spec : {M : Type 1} → statement M
 sent-byte-spec =
     tie.close
-    (tie.spec
-    cast-if1
-    array-read-if1
-    failed-requires
-    answering-requires
-    returns
-    early-requires
-    passed-requires
-    answering-requires-2
-    returns-2
-    succeeded-requires
-    answering-requires-3
-    returns-3)
+    (tie.spec (λ c. search needs) array-read-if1 failed-requires (λ c κs. search needs) returns
+    (λ c κs. search needs) passed-requires (λ c κs. search needs) returns-2 succeeded-requires
+    (λ c κs. search needs) returns-3)

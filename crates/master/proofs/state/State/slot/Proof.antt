@@ -12,26 +12,11 @@ abandoned-requires c κs =
     let a = c .before .before .before .args in
     tick-identifier (a .t .now) (length (a .bytes .now)) (length (a .lent .now)) (a .self) (c .before .before .before .pre)
 
-due-requires : tie.Need-due-requires
-due-requires c κs = search needs
-
-enum-told : tie.Need-enum-told
-enum-told c = search needs
-
-enum-known-e : tie.Need-enum-known-e
-enum-known-e c = search needs
-
 slot-opens-requires : tie.Need-slot-opens-requires
 slot-opens-requires c κs =
     let a = c .before .before .before .before .before .before .before .before .before .before .args in
     let asked = c .before .before .before .before .before .before .before .before .before .before .pre in
     tick-table (a .t .now) (length (a .bytes .now)) (length (a .lent .now)) (a .self) asked
-
-begun-requires : tie.Need-begun-requires
-begun-requires c κs = search needs
-
-with-plan-requires : tie.Need-with-plan-requires
-with-plan-requires c κs = search needs
 
 open-requires : tie.Need-open-requires
 open-requires c κs =
@@ -60,14 +45,5 @@ returns-2 c =
 pub slot-spec : {M : Type 1} → statement M
 slot-spec =
     tie.close
-    (tie.spec
-    abandoned-requires
-    due-requires
-    enum-told
-    enum-known-e
-    slot-opens-requires
-    begun-requires
-    with-plan-requires
-    open-requires
-    returns
-    returns-2)
+    (tie.spec abandoned-requires (λ c κs. search needs) (λ c. search needs) (λ c. search needs)
+    slot-opens-requires (λ c κs. search needs) (λ c κs. search needs) open-requires returns returns-2)

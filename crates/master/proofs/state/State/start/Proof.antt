@@ -6,32 +6,11 @@ use Rattle.master.specs.Start.{freshOf}
 use Rattle.master.proofs.state.State.start.Statement.{statement}
 use Rattle.master.proofs.state.State.start.Tie as tie
 
-judge-requires : tie.Need-judge-requires
-judge-requires c κs = search needs
-
-enum-known-refusal : tie.Need-enum-known-refusal
-enum-known-refusal c = search needs
-
-fresh-requires : tie.Need-fresh-requires
-fresh-requires c κs = search needs
-
 returns : tie.Need-returns
 unfolding freshOf
 returns c =
     let e = sym (c .before .before .before .before .judge .ensures) ∙ c .before .before .refusal .given .1 in
     record { handed = rw (e, c .fresh .ensures); kept = rw e }
-
-enum-told : tie.Need-enum-told
-enum-told c = search needs
-
-fill-requires : tie.Need-fill-requires
-fill-requires c κs = search needs
-
-fresh-requires-2 : tie.Need-fresh-requires-2
-fresh-requires-2 c κs = search needs
-
-same-length : tie.Need-same-length
-same-length c = search needs
 
 returns-2 : tie.Need-returns-2
 unfolding freshOf
@@ -45,13 +24,5 @@ returns-2 c =
 pub start-spec : {M : Type 1} → statement M
 start-spec =
     tie.close
-    (tie.spec
-    judge-requires
-    enum-known-refusal
-    fresh-requires
-    returns
-    enum-told
-    fill-requires
-    fresh-requires-2
-    same-length
-    returns-2)
+    (tie.spec (λ c κs. search needs) (λ c. search needs) (λ c κs. search needs) returns (λ c. search needs)
+    (λ c κs. search needs) (λ c κs. search needs) (λ c. search needs) returns-2)

@@ -5,23 +5,11 @@ use Rattle.master.specs.Closing.{succeeded}
 use Rattle.master.proofs.state.State.succeeded.Statement.{statement}
 use Rattle.master.proofs.state.State.succeeded.Tie as tie
 
-sent-pending-requires : tie.Need-sent-pending-requires
-sent-pending-requires c κs = search needs
-
-none-requires : tie.Need-none-requires
-none-requires c κs = search needs
-
-sent-requires : tie.Need-sent-requires
-sent-requires c κs = search needs
-
 protected-requires : tie.Need-protected-requires
 protected-requires c κs =
     let a = c .before .before .before .before .before .before .before .before .args in
     let asked = c .before .before .before .before .before .before .before .before .pre in
     open-identifier (a .t .now) (asked .0) (a .self .transfer .opened) (asked .1)
-
-after-requires : tie.Need-after-requires
-after-requires c κs = search needs
 
 returns : tie.Need-returns
 unfolding succeeded
@@ -32,10 +20,5 @@ returns c =
 pub succeeded-spec : {M : Type 1} → statement M
 succeeded-spec =
     tie.close
-    (tie.spec
-    sent-pending-requires
-    none-requires
-    sent-requires
-    protected-requires
-    after-requires
-    returns)
+    (tie.spec (λ c κs. search needs) (λ c κs. search needs) (λ c κs. search needs) protected-requires
+    (λ c κs. search needs) returns)

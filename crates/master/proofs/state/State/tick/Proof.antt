@@ -5,27 +5,12 @@ use Rattle.master.specs.Tick.{tickOf, ticked}
 use Rattle.master.proofs.state.State.tick.Statement.{statement}
 use Rattle.master.proofs.state.State.tick.Tie as tie
 
-judge-tick-requires : tie.Need-judge-tick-requires
-judge-tick-requires c κs = search needs
-
-enum-known-refusal : tie.Need-enum-known-refusal
-enum-known-refusal c = search needs
-
 returns : tie.Need-returns
 unfolding tickOf ticked
 returns c = rw (← c .before .before .before .judge-tick .ensures, c .before .refusal .given .1)
 
-enum-told : tie.Need-enum-told
-enum-told c = search needs
-
-waits-requires : tie.Need-waits-requires
-waits-requires c κs = search needs
-
 waited-requires : tie.Need-waited-requires
 waited-requires c κs = sym (c .before .waits .ensures) ∙ c .if1 .taken
-
-with-plan-requires : tie.Need-with-plan-requires
-with-plan-requires c κs = search needs
 
 returns-2 : tie.Need-returns-2
 unfolding tickOf ticked
@@ -49,14 +34,5 @@ returns-3 c =
 pub tick-spec : {M : Type 1} → statement M
 tick-spec =
     tie.close
-    (tie.spec
-    judge-tick-requires
-    enum-known-refusal
-    returns
-    enum-told
-    waits-requires
-    waited-requires
-    with-plan-requires
-    returns-2
-    slot-requires
-    returns-3)
+    (tie.spec (λ c κs. search needs) (λ c. search needs) returns (λ c. search needs) (λ c κs. search needs)
+    waited-requires (λ c κs. search needs) returns-2 slot-requires returns-3)

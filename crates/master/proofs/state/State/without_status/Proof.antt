@@ -4,12 +4,9 @@ use Rattle.master.specs.Status.{withoutStatus}
 use Rattle.master.proofs.state.State.without_status.Statement.{statement}
 use Rattle.master.proofs.state.State.without_status.Tie as tie
 
-none-requires : tie.Need-none-requires
-none-requires c κs = search needs
-
 returns : tie.Need-returns
 unfolding withoutStatus
 returns c = rw (c .none .ensures)
 
 pub without-status-spec : {M : Type 1} → statement M
-without-status-spec = tie.close (tie.spec none-requires returns)
+without-status-spec = tie.close (tie.spec (λ c κs. search needs) returns)

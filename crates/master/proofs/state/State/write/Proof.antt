@@ -10,31 +10,16 @@ use Rattle.master.specs.Write.{writeOf, wrote}
 use Rattle.master.proofs.state.State.write.Statement.{statement}
 use Rattle.master.proofs.state.State.write.Tie as tie
 
-judge-scalar-requires : tie.Need-judge-scalar-requires
-judge-scalar-requires c κs = search needs
-
-enum-known-refusal : tie.Need-enum-known-refusal
-enum-known-refusal c = search needs
-
-not-written-requires : tie.Need-not-written-requires
-not-written-requires c κs = search needs
-
 returns : tie.Need-returns
 unfolding writeOf wrote
 returns c =
     let e = (sym (c .before .before .before .before .judge-scalar .ensures) ∙ c .before .before .refusal .given .1) in
     record { handed = rw (e, c .not-written .ensures); kept = rw e }
 
-enum-told : tie.Need-enum-told
-enum-told c = search needs
-
 cast-put-scalar : tie.Need-cast-put-scalar
 cast-put-scalar c =
     let a = c .before .before .before .before .before .before .args in
     record { fits = omega (arith, write-value-below (a .t .now) (length (a .bytes .now)) (a .self) (a .s) (a .v) (sym (c .before .before .before .judge-scalar .ensures) ∙ c .before .enum-told .given .1)) }
-
-put-scalar-requires : tie.Need-put-scalar-requires
-put-scalar-requires c κs = search needs
 
 marked-requires : tie.Need-marked-requires
 marked-requires c κs =
@@ -43,9 +28,6 @@ marked-requires c κs =
     let enum-told = c .before .before .before .before .enum-told in
     let e = (sym (judge-scalar .ensures) ∙ enum-told .given .1) in
     (write-table (a .t .now) (length (a .bytes .now)) (a .self) (a .s) false (valueFits (a .t .now) (a .s) (a .v)) e, write-signal (a .t .now) (length (a .bytes .now)) (a .self) (a .s) false (valueFits (a .t .now) (a .s) (a .v)) e .below)
-
-same-length : tie.Need-same-length
-same-length c = search needs
 
 returns-2 : tie.Need-returns-2
 unfolding writeOf wrote
@@ -58,14 +40,5 @@ returns-2 c =
 pub write-spec : {M : Type 1} → statement M
 write-spec =
     tie.close
-    (tie.spec
-    judge-scalar-requires
-    enum-known-refusal
-    not-written-requires
-    returns
-    enum-told
-    cast-put-scalar
-    put-scalar-requires
-    marked-requires
-    same-length
-    returns-2)
+    (tie.spec (λ c κs. search needs) (λ c. search needs) (λ c κs. search needs) returns (λ c. search needs)
+    cast-put-scalar (λ c κs. search needs) marked-requires (λ c. search needs) returns-2)

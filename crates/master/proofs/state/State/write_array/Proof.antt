@@ -9,26 +9,11 @@ use Rattle.master.specs.Write.{writeArrayOf, wrote}
 use Rattle.master.proofs.state.State.write_array.Statement.{statement}
 use Rattle.master.proofs.state.State.write_array.Tie as tie
 
-judge-array-requires : tie.Need-judge-array-requires
-judge-array-requires c κs = search needs
-
-enum-known-refusal : tie.Need-enum-known-refusal
-enum-known-refusal c = search needs
-
-not-written-requires : tie.Need-not-written-requires
-not-written-requires c κs = search needs
-
 returns : tie.Need-returns
 unfolding writeArrayOf wrote
 returns c =
     let e = (sym (c .before .before .before .before .judge-array .ensures) ∙ c .before .before .refusal .given .1) in
     record { handed = rw (e, c .not-written .ensures); kept = rw e }
-
-enum-told : tie.Need-enum-told
-enum-told c = search needs
-
-put-array-requires : tie.Need-put-array-requires
-put-array-requires c κs = search needs
 
 marked-requires : tie.Need-marked-requires
 marked-requires c κs =
@@ -37,9 +22,6 @@ marked-requires c κs =
     let enum-told = c .before .before .before .before .enum-told in
     let e = (sym (judge-array .ensures) ∙ enum-told .given .1) in
     (write-table (a .t .now) (length (a .bytes .now)) (a .self) (a .s) true (arrayFits (a .t .now) (a .s) (a .values .now)) e, write-signal (a .t .now) (length (a .bytes .now)) (a .self) (a .s) true (arrayFits (a .t .now) (a .s) (a .values .now)) e .below)
-
-same-length : tie.Need-same-length
-same-length c = search needs
 
 returns-2 : tie.Need-returns-2
 unfolding writeArrayOf wrote
@@ -52,13 +34,5 @@ returns-2 c =
 pub write-array-spec : {M : Type 1} → statement M
 write-array-spec =
     tie.close
-    (tie.spec
-    judge-array-requires
-    enum-known-refusal
-    not-written-requires
-    returns
-    enum-told
-    put-array-requires
-    marked-requires
-    same-length
-    returns-2)
+    (tie.spec (λ c κs. search needs) (λ c. search needs) (λ c κs. search needs) returns (λ c. search needs)
+    (λ c κs. search needs) marked-requires (λ c. search needs) returns-2)

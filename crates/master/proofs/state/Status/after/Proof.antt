@@ -4,9 +4,6 @@ use Rattle.master.specs.Status.{statusAfter}
 use Rattle.master.proofs.state.Status.after.Statement.{statement}
 use Rattle.master.proofs.state.Status.after.Tie as tie
 
-counted-requires : tie.Need-counted-requires
-counted-requires c κs = search needs
-
 returns : tie.Need-returns
 unfolding statusAfter
 returns c = rw (c .before .if1 .taken, c .counted .ensures)
@@ -16,4 +13,4 @@ unfolding statusAfter
 returns-2 c = rw (c .if1 .left)
 
 pub after-spec : {M : Type 1} → statement M
-after-spec = tie.close (tie.spec counted-requires returns returns-2)
+after-spec = tie.close (tie.spec (λ c κs. search needs) returns returns-2)

@@ -5,12 +5,6 @@ use Rattle.master.specs.Status.{counted}
 use Rattle.master.proofs.state.Status.counted.Statement.{statement}
 use Rattle.master.proofs.state.Status.counted.Tie as tie
 
-overruns-requires : tie.Need-overruns-requires
-overruns-requires c κs = search needs
-
-overruns-requires-2 : tie.Need-overruns-requires-2
-overruns-requires-2 c κs = search needs
-
 returns : tie.Need-returns
 unfolding counted
 returns c = rw (c .overruns .ensures, c .before .if1 .taken, or-false (c .before .before .args .self .error), or-true (c .before .before .args .self .success))
@@ -20,4 +14,4 @@ unfolding counted
 returns-2 c = rw (c .overruns2 .ensures, c .before .if1 .left, or-true (c .before .before .args .self .error), or-false (c .before .before .args .self .success))
 
 pub counted-spec : {M : Type 1} → statement M
-counted-spec = tie.close (tie.spec overruns-requires overruns-requires-2 returns returns-2)
+counted-spec = tie.close (tie.spec (λ c κs. search needs) (λ c κs. search needs) returns returns-2)

@@ -4,15 +4,9 @@ use Rattle.master.specs.Byte.{early}
 use Rattle.master.proofs.state.Transfer.early.Statement.{statement}
 use Rattle.master.proofs.state.Transfer.early.Tie as tie
 
-cast-result : tie.Need-cast-result
-cast-result c = search needs
-
-length-requires : tie.Need-length-requires
-length-requires c κs = search needs
-
 returns : tie.Need-returns
 unfolding early
 returns c = rw (c .length .ensures)
 
 pub early-spec : {M : Type 1} → statement M
-early-spec = tie.close (tie.spec cast-result length-requires returns)
+early-spec = tie.close (tie.spec (λ c. search needs) (λ c κs. search needs) returns)

@@ -5,9 +5,6 @@ use Rattle.master.specs.Write.{rewritten}
 use Rattle.master.proofs.state.Transfer.rewritten.Statement.{statement}
 use Rattle.master.proofs.state.Transfer.rewritten.Tie as tie
 
-touched-requires : tie.Need-touched-requires
-touched-requires c κs = search needs
-
 returns : tie.Need-returns
 unfolding rewritten
 returns c = rw (← c .before .touched .ensures, c .if1 .taken, or-true (c .before .before .before .args .self .written))
@@ -17,4 +14,4 @@ unfolding rewritten
 returns-2 c = rw (← c .before .touched .ensures, c .if1 .left, or-false (c .before .before .before .args .self .written))
 
 pub rewritten-spec : {M : Type 1} → statement M
-rewritten-spec = tie.close (tie.spec touched-requires returns returns-2)
+rewritten-spec = tie.close (tie.spec (λ c κs. search needs) returns returns-2)

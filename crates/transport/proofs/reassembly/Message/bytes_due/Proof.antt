@@ -9,9 +9,6 @@ returns : tie.Need-returns
 unfolding bytesDue
 returns c = omega arith
 
-sub-rest : tie.Need-sub-rest
-sub-rest c = search needs
-
 returns-2 : tie.Need-returns-2
 unfolding bytesDue
 returns-2 c = omega arith
@@ -21,4 +18,4 @@ unfolding bytesDue
 returns-3 c = omega arith
 
 pub bytes-due-spec : {M : Type 1} → statement M
-bytes-due-spec = tie.close (tie.spec returns sub-rest returns-2 returns-3)
+bytes-due-spec = tie.close (tie.spec returns (λ c. search needs) returns-2 returns-3)

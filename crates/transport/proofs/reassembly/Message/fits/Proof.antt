@@ -38,12 +38,6 @@ returns-5 c =
     let parts = eq-eqb (m .count) (5 + 6 * ((m .count - 5) / 6)) (omega arith) in
     simp (nad, le-leb _ _ (d .before .before .if2 .left), le-leb _ _ (d .if3 .left), parts, le-ltb _ _ (c .if5 .taken))
 
-cast-result : tie.Need-cast-result
-cast-result c = search needs
-
-add-result : tie.Need-add-result
-add-result c = search needs
-
 returns-6 : tie.Need-returns-6
 returns-6 c =
     let d = c .before .before .before .before in
@@ -57,4 +51,4 @@ returns-6 c =
 pub fits-spec : {M : Type 1} → statement M
 fits-spec =
     tie.close
-    (tie.spec returns returns-2 returns-3 returns-4 returns-5 cast-result add-result returns-6)
+    (tie.spec returns returns-2 returns-3 returns-4 returns-5 (λ c. search needs) (λ c. search needs) returns-6)

@@ -5,9 +5,6 @@ use Rattle.transport.specs.Reassembly.{reached}
 use Rattle.transport.proofs.reassembly.Message.reached.Statement.{statement}
 use Rattle.transport.proofs.reassembly.Message.reached.Tie as tie
 
-counter-after-requires : tie.Need-counter-after-requires
-counter-after-requires c κs = search needs
-
 returns : tie.Need-returns
 unfolding reached
 returns c = simp (lt-ltb _ _ (c .before .if1 .taken), c .counter-after .ensures)
@@ -17,4 +14,4 @@ unfolding reached
 returns-2 c = simp (le-ltb _ _ (c .if1 .left))
 
 pub reached-spec : {M : Type 1} → statement M
-reached-spec = tie.close (tie.spec counter-after-requires returns returns-2)
+reached-spec = tie.close (tie.spec (λ c κs. search needs) returns returns-2)

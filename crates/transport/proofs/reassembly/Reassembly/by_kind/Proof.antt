@@ -10,24 +10,6 @@ use borrow.Author.Needs.{needs}
 use Rattle.transport.proofs.reassembly.Reassembly.by_kind.Statement.{statement}
 use Rattle.transport.proofs.reassembly.Reassembly.by_kind.Tie as tie
 
-shared-slice-read-pci : tie.Need-shared-slice-read-pci
-shared-slice-read-pci c = search needs
-
-single-requires : tie.Need-single-requires
-single-requires c κs = search needs
-
-first-requires : tie.Need-first-requires
-first-requires c κs = search needs
-
-next-requires : tie.Need-next-requires
-next-requires c κs = search needs
-
-answering-requires : tie.Need-answering-requires
-answering-requires c κs = search needs
-
-same-length : tie.Need-same-length
-same-length c = search needs
-
 returns : tie.Need-returns
 returns c =
     let d = c .before .before .before .before .before in
@@ -35,18 +17,12 @@ returns c =
     let kind = kind-single (framePci (d .before .before .before .before .args .frame .now)) (d .if1 .left) (omega arith) in
     rw (step-kind _ _ _ (p .0) (p .1) (p .2) single kind refl) (c .before .before .single .ensures)
 
-same-length-2 : tie.Need-same-length-2
-same-length-2 c = search needs
-
 returns-2 : tie.Need-returns-2
 returns-2 c =
     let d = c .before .before .before .before .before in
     let p = d .before .before .before .before .before .before .pre in
     let kind = kind-first (framePci (d .before .before .before .before .before .before .args .frame .now)) (d .if3 .left) (omega arith) in
     rw (step-kind _ _ _ (p .0) (p .1) (p .2) first kind refl) (c .before .before .first .ensures)
-
-same-length-3 : tie.Need-same-length-3
-same-length-3 c = search needs
 
 returns-3 : tie.Need-returns-3
 returns-3 c =
@@ -69,16 +45,6 @@ returns-4 c =
 pub by-kind-spec : {M : Type 1} → statement M
 by-kind-spec =
     tie.close
-    (tie.spec
-    shared-slice-read-pci
-    single-requires
-    first-requires
-    next-requires
-    answering-requires
-    same-length
-    returns
-    same-length-2
-    returns-2
-    same-length-3
-    returns-3
-    returns-4)
+    (tie.spec (λ c. search needs) (λ c κs. search needs) (λ c κs. search needs) (λ c κs. search needs)
+    (λ c κs. search needs) (λ c. search needs) returns (λ c. search needs) returns-2 (λ c. search needs)
+    returns-3 returns-4)

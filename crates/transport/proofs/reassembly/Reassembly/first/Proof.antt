@@ -10,21 +10,6 @@ use Rattle.transport.proofs.Outcomes.{leaves-plain, leaves-written, fir
 use Rattle.transport.proofs.reassembly.Reassembly.first.Statement.{statement}
 use Rattle.transport.proofs.reassembly.Reassembly.first.Tie as tie
 
-shared-slice-read-length : tie.Need-shared-slice-read-length
-shared-slice-read-length c = search needs
-
-cast-length : tie.Need-cast-length
-cast-length c = search needs
-
-sub-length : tie.Need-sub-length
-sub-length c = search needs
-
-mul-length : tie.Need-mul-length
-mul-length c = search needs
-
-shared-slice-read-length-2 : tie.Need-shared-slice-read-length-2
-shared-slice-read-length-2 c = search needs
-
 cast-length-2 : tie.Need-cast-length-2
 cast-length-2 c = omega (arith, c .shared-slice-known3 .given 2)
 
@@ -34,9 +19,6 @@ add-length c = omega (arith, c .shared-slice-known3 .given 2)
 cast-if2 : tie.Need-cast-if2
 cast-if2 c = omega (arith, c .before .shared-slice-known3 .given 2)
 
-answering-requires : tie.Need-answering-requires
-answering-requires c κs = search needs
-
 returns : tie.Need-returns
 returns c = ⊎-elim (λ w. leaves-plain _ _ _ _ _ (first-low _ _ _ (w .taken)) (c .answering .ensures)) (λ w. leaves-plain _ _ _ _ _ (first-high _ _ _ (w .0 .left) (ltb-true _ _ (w .1 .taken))) (c .answering .ensures)) (c .before .if1 .came)
 
@@ -45,12 +27,6 @@ deliver-requires c κs =
     let a = c .before .before .before .before .before .before .before .args in
     let high = ltb-false (length (a .buffer .now)) (firstLength (a .frame .now)) (c .before .if2 .left) in
     (search needs, omega arith)
-
-shared-slice-read-t6 : tie.Need-shared-slice-read-t6
-shared-slice-read-t6 c = search needs
-
-same-length : tie.Need-same-length
-same-length c = search needs
 
 returns-2 : tie.Need-returns-2
 unfolding firstStep
@@ -63,18 +39,6 @@ returns-2 c =
 pub first-spec : {M : Type 1} → statement M
 first-spec =
     tie.close
-    (tie.spec
-    shared-slice-read-length
-    cast-length
-    sub-length
-    mul-length
-    shared-slice-read-length-2
-    cast-length-2
-    add-length
-    cast-if2
-    answering-requires
-    returns
-    deliver-requires
-    shared-slice-read-t6
-    same-length
-    returns-2)
+    (tie.spec (λ c. search needs) (λ c. search needs) (λ c. search needs) (λ c. search needs) (λ c. search needs)
+    cast-length-2 add-length cast-if2 (λ c κs. search needs) returns deliver-requires (λ c. search needs)
+    (λ c. search needs) returns-2)

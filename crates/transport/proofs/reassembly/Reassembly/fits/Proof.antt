@@ -5,15 +5,6 @@ use Rattle.transport.specs.Reassembly.{fits}
 use Rattle.transport.proofs.reassembly.Reassembly.fits.Statement.{statement}
 use Rattle.transport.proofs.reassembly.Reassembly.fits.Tie as tie
 
-enum-told : tie.Need-enum-told
-enum-told c = search needs
-
-enum-known-self : tie.Need-enum-known-self
-enum-known-self c = search needs
-
-fits-requires : tie.Need-fits-requires
-fits-requires c κs = search needs
-
 returns : tie.Need-returns
 unfolding fits
 returns c = rw (c .enum-told .given .1)
@@ -23,4 +14,4 @@ unfolding fits
 returns-2 c = c .fits2 .ensures ∙ rw (c .before .before .self .given .1)
 
 pub fits-spec : {M : Type 1} → statement M
-fits-spec = tie.close (tie.spec enum-told enum-known-self fits-requires returns returns-2)
+fits-spec = tie.close (tie.spec (λ c. search needs) (λ c. search needs) (λ c κs. search needs) returns returns-2)

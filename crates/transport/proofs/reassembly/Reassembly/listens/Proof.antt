@@ -5,12 +5,6 @@ use Rattle.transport.specs.Reassembly.{listens}
 use Rattle.transport.proofs.reassembly.Reassembly.listens.Statement.{statement}
 use Rattle.transport.proofs.reassembly.Reassembly.listens.Tie as tie
 
-enum-told : tie.Need-enum-told
-enum-told c = search needs
-
-enum-known-self : tie.Need-enum-known-self
-enum-known-self c = search needs
-
 returns : tie.Need-returns
 unfolding listens
 returns c = rw (c .enum-told .given .1)
@@ -24,4 +18,4 @@ unfolding listens
 returns-3 c = simp (c .before .before .self .given .1, eq-eqb _ _ (c .if1 .left))
 
 pub listens-spec : {M : Type 1} → statement M
-listens-spec = tie.close (tie.spec enum-told enum-known-self returns returns-2 returns-3)
+listens-spec = tie.close (tie.spec (λ c. search needs) (λ c. search needs) returns returns-2 returns-3)

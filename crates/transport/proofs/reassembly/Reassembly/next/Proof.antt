@@ -6,15 +6,6 @@ use Rattle.transport.proofs.Outcomes.{leaves-plain}
 use Rattle.transport.proofs.reassembly.Reassembly.next.Statement.{statement}
 use Rattle.transport.proofs.reassembly.Reassembly.next.Tie as tie
 
-enum-told : tie.Need-enum-told
-enum-told c = search needs
-
-answering-requires : tie.Need-answering-requires
-answering-requires c κs = search needs
-
-enum-known-self : tie.Need-enum-known-self
-enum-known-self c = search needs
-
 next-requires : tie.Need-next-requires
 unfolding fits
 next-requires c κs = (rw (c .before .before .self .given .1) at (c .before .before .before .before .before .before .pre .0), search needs)
@@ -23,9 +14,6 @@ returns : tie.Need-returns
 unfolding nextOutcome
 returns c = leaves-plain _ _ _ _ _ (rw (c .before .enum-told .given .1)) (c .answering .ensures)
 
-same-length : tie.Need-same-length
-same-length c = search needs
-
 returns-2 : tie.Need-returns-2
 unfolding nextOutcome
 returns-2 c = rw (c .before .before .before .before .before .self .given .1) (c .before .before .next .ensures)
@@ -33,11 +21,5 @@ returns-2 c = rw (c .before .before .before .before .before .self .given .1) (c 
 pub next-spec : {M : Type 1} → statement M
 next-spec =
     tie.close
-    (tie.spec
-    enum-told
-    answering-requires
-    enum-known-self
-    next-requires
-    returns
-    same-length
-    returns-2)
+    (tie.spec (λ c. search needs) (λ c κs. search needs) (λ c. search needs) next-requires returns
+    (λ c. search needs) returns-2)

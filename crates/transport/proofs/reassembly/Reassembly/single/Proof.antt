@@ -6,26 +6,8 @@ use Rattle.transport.proofs.Outcomes.{leaves-plain, leaves-written, sin
 use Rattle.transport.proofs.reassembly.Reassembly.single.Statement.{statement}
 use Rattle.transport.proofs.reassembly.Reassembly.single.Tie as tie
 
-shared-slice-read-bytes : tie.Need-shared-slice-read-bytes
-shared-slice-read-bytes c = search needs
-
-cast-bytes : tie.Need-cast-bytes
-cast-bytes c = search needs
-
-cast-if1 : tie.Need-cast-if1
-cast-if1 c = search needs
-
-answering-requires : tie.Need-answering-requires
-answering-requires c κs = search needs
-
 returns : tie.Need-returns
 returns c = leaves-plain _ _ _ _ _ (single-ignored _ _ _ (c .before .if1 .taken)) (c .answering .ensures)
-
-deliver-requires : tie.Need-deliver-requires
-deliver-requires c κs = search needs
-
-same-length : tie.Need-same-length
-same-length c = search needs
 
 returns-2 : tie.Need-returns-2
 unfolding singleStep
@@ -37,12 +19,5 @@ returns-2 c =
 pub single-spec : {M : Type 1} → statement M
 single-spec =
     tie.close
-    (tie.spec
-    shared-slice-read-bytes
-    cast-bytes
-    cast-if1
-    answering-requires
-    returns
-    deliver-requires
-    same-length
-    returns-2)
+    (tie.spec (λ c. search needs) (λ c. search needs) (λ c. search needs) (λ c κs. search needs) returns
+    (λ c κs. search needs) (λ c. search needs) returns-2)

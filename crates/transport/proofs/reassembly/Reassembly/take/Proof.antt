@@ -7,29 +7,11 @@ use Rattle.transport.proofs.Outcomes.{leaves-plain}
 use Rattle.transport.proofs.reassembly.Reassembly.take.Statement.{statement}
 use Rattle.transport.proofs.reassembly.Reassembly.take.Tie as tie
 
-fits-requires : tie.Need-fits-requires
-fits-requires c κs = search needs
-
-refused-requires : tie.Need-refused-requires
-refused-requires c κs = search needs
-
 returns : tie.Need-returns
 returns c = leaves-plain _ _ _ _ _ (step-unfit _ _ _ (sym (c .before .before .fits2 .ensures) ∙ not-true _ (c .before .if1 .taken))) (c .refused .ensures)
 
-refused-requires-2 : tie.Need-refused-requires-2
-refused-requires-2 c κs = search needs
-
 returns-2 : tie.Need-returns-2
 returns-2 c = leaves-plain _ _ _ _ _ (step-length _ _ _ (sym (c .before .before .before .fits2 .ensures) ∙ not-false _ (c .before .before .if1 .left)) (c .before .if2 .taken)) (c .refused2 .ensures)
-
-shared-slice-read-listens : tie.Need-shared-slice-read-listens
-shared-slice-read-listens c = search needs
-
-listens-requires : tie.Need-listens-requires
-listens-requires c κs = search needs
-
-answering-requires : tie.Need-answering-requires
-answering-requires c κs = search needs
 
 returns-3 : tie.Need-returns-3
 returns-3 c =
@@ -42,25 +24,9 @@ by-kind-requires c κs =
     let d = c .before .before .before .before in
     (sym (d .before .before .fits2 .ensures) ∙ not-false _ (d .before .if1 .left), d .if2 .left, sym (c .before .before .listens .ensures) ∙ not-false _ (c .before .if3 .left))
 
-same-length : tie.Need-same-length
-same-length c = search needs
-
-returns-4 : tie.Need-returns-4
-returns-4 c = search needs
-
 pub take-spec : {M : Type 1} → statement M
 take-spec =
     tie.close
-    (tie.spec
-    fits-requires
-    refused-requires
-    returns
-    refused-requires-2
-    returns-2
-    shared-slice-read-listens
-    listens-requires
-    answering-requires
-    returns-3
-    by-kind-requires
-    same-length
-    returns-4)
+    (tie.spec (λ c κs. search needs) (λ c κs. search needs) returns (λ c κs. search needs) returns-2
+    (λ c. search needs) (λ c κs. search needs) (λ c κs. search needs) returns-3 by-kind-requires
+    (λ c. search needs) (λ c. search needs))
