@@ -1,6 +1,6 @@
 -- What a byte in does to the pending bits and to the frame bytes: only a success changes either.
 use Prim.Native.Nat.{ℕ, _+_, _*_, _≤_, _<_}
-use mathlib.Core.Path.{_≡_, refl, ap}
+use mathlib.Core.Path.{_≡_, refl, sym, ap}
 use mathlib.Core.Bool.{Bool, true, false, cond}
 use mathlib.Core.List.{List}
 use native.Mathlib.Omega.{arith}
@@ -23,12 +23,13 @@ use Rattle.master.specs.Admit.{admitted, answered, bufferSize, Step}
 use Rattle.master.specs.Answers.{successful}
 use Rattle.master.specs.Fits.{frameThere}
 use Rattle.master.specs.Transfers.{openLength, sends, frameData}
-use Rattle.master.specs.Closing.{failed, pendingSent, succeeded}
+use Rattle.master.specs.Closing.{failed, pendingSent, sent, received}
 use Rattle.master.specs.Byte.{plain, passed, withByte, sentByte, accepted, taken, byteVerdict, byteOf}
 use Rattle.master.proofs.Admitted.{admitted-table, admitted-size, admitted-fits, fits-clauses, open-length-high}
 use Rattle.master.proofs.Answered.{by-verdict}
 use Rattle.master.proofs.Cases.{keeping, taken-by, accepted-state}
 use Rattle.master.proofs.Lengths.{data-inside}
+use Rattle.master.proofs.PendingFits.{received-keeps}
 use Rattle.master.proofs.ReadBack.{untouched-data}
 
 -- ---- the pending bits
@@ -48,14 +49,16 @@ bitsAfter s a = cond (successful a) (pendingSent (s .transfer .opened) (s .trans
 -- a byte in that answers success ends the pending of its frame, unless it was written since; every other one leaves the pending bits
 pub byte-pending : (t : List ℕ) (s : State) (bs : List ℕ) (b : ℕ)
     → byteOf t s bs b .given .state .pending ≡ bitsAfter s (byteOf t s bs b .given .answer)
-unfolding byteOf passed failed succeeded
+unfolding byteOf byteVerdict passed failed sent received
 byte-pending t s bs b =
     by-verdict (λ (w : Step Took). w .given .state .pending ≡ bitsAfter s (w .given .answer)) (byteVerdict t (length bs) s)
     (λ r. keeping (plain s (answer.Refused r)) bs) (taken t s bs b)
     (λ r e. refl)
     (λ a. taken-by t s bs b (λ w. w .given .state .pending ≡ bitsAfter s (w .given .answer)) (λ nine e. refl) refl (λ y. refl)
     (λ n. let o = s .transfer .opened in let nine = withByte (s .transfer) b in
-    rw (accepted-state t s o nine bs, accepted-successful t s o nine bs)))
+    let fits = fits-clauses t s (admitted-fits t (length bs) s (then-first (admitted t (length bs) s) _ a)) in
+    rw (accepted-state t s o nine bs, accepted-successful t s o nine bs)
+    (sym (received-keeps t o (s .transfer .written) (s .pending) (fits .pending-fits) n))))
 
 -- ---- the frame bytes
 

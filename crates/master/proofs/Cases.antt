@@ -18,10 +18,10 @@ use Rattle.master.specs.declared.tick.Ticked.{Ticked}
 use Rattle.master.specs.Admit.{Step}
 use Rattle.master.specs.Transfers.{isOpen, sends, openProtected, opening}
 use Rattle.master.specs.Plan.{waits, waited, entryDue, begun}
-use Rattle.master.specs.Select.{withPlan}
-use Rattle.master.specs.Closing.{failed, succeeded}
+use Rattle.master.specs.Closing.{failed, sent, received}
 use Rattle.master.specs.Tick.{slotOpens, abandoned, opens, slotAt, slot, ticked}
 use Rattle.master.specs.Byte.{plain, passed, early, sentByte, withByte, checksumRight, accepted, lastByte, receivedByte, taken}
+use Rattle.master.specs.State.{withPlan, withTransfer}
 
 -- a byte that changes no frame byte
 abbrev pub keeping : Took → List ℕ → Step Took
@@ -32,23 +32,23 @@ module _ (t : List ℕ) (s : State) (bs : List ℕ) (b : ℕ) (P : Step Took →
   pub taken-by :
       ((nine : List ℕ) → early t (s .transfer) ≡ true → P (keeping (plain (passed s nine) byte.More) bs))
       → P (keeping (plain (failed t s true) byte.Failure) bs)
-      → (sends t (s .transfer .opened) ≡ true → P (keeping (plain (succeeded t s) byte.Success) bs))
+      → (sends t (s .transfer .opened) ≡ true → P (keeping (plain (sent t s) byte.Success) bs))
       → (sends t (s .transfer .opened) ≡ false → P (accepted t s (s .transfer .opened) (withByte (s .transfer) b) bs))
       → P (taken t s bs b)
   unfolding taken sentByte receivedByte lastByte
-  taken-by more failure sent received =
+  taken-by more failure last-sent last-received =
       whether (sends t (s .transfer .opened))
       (λ y. whether (eqb (getD (s .transfer .bytes) (s .transfer .count) 0) b)
-      (λ e. whether (early t (s .transfer)) (λ z. rw (y, e, z) (more (s .transfer .bytes) z)) (λ z. rw (y, e, z) (sent y)))
+      (λ e. whether (early t (s .transfer)) (λ z. rw (y, e, z) (more (s .transfer .bytes) z)) (λ z. rw (y, e, z) (last-sent y)))
       (λ e. rw (y, e) failure))
       (λ y. whether (early t (s .transfer))
       (λ z. rw (y, z) (more (withByte (s .transfer) b) z))
       (λ z. whether (checksumRight t (s .transfer .opened) (withByte (s .transfer) b))
-      (λ c. rw (y, z, c) (received y))
+      (λ c. rw (y, z, c) (last-received y))
       (λ c. rw (y, z, c) failure)))
 
 -- the last byte of a received transfer, with a right checksum, closes it as successful
-pub accepted-state : (t : List ℕ) (s : State) (o : Opened) (nine bs : List ℕ) → accepted t s o nine bs .given .state ≡ succeeded t s
+pub accepted-state : (t : List ℕ) (s : State) (o : Opened) (nine bs : List ℕ) → accepted t s o nine bs .given .state ≡ received t s
 unfolding accepted
 accepted-state t s Nothing nine bs = refl
 accepted-state t s (Frame f) nine bs = refl
@@ -57,14 +57,7 @@ accepted-state t s Response nine bs = refl
 
 -- the state that opens something
 abbrev pub opened : List ℕ → List ℕ → List ℕ → State → Opened → State
-opened t bs m s o =
-    record {
-      pending = s .pending;
-      plan = s .plan;
-      transfer = opening t bs (s .message) m o;
-      message = s .message;
-      status = s .status;
-    }
+opened t bs m s o = withTransfer s (opening t bs (s .message) m o)
 
 module _ (t bs m : List ℕ) (P : Ticked → Type 0) where
   opens-by : (s : State) (o : Opened)

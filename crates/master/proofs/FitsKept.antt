@@ -18,14 +18,14 @@ use Rattle.master.specs.Fits.{entryThere, scheduleThere, frameThere, cur
 use Rattle.master.specs.Fits.{countFits, messageFits, stateFits}
 use Rattle.master.specs.Write.{marked, rewritten}
 use Rattle.master.specs.Plan.{asking, waited}
-use Rattle.master.specs.Select.{withPlan}
-use Rattle.master.specs.Status.{withoutStatus}
-use Rattle.master.specs.Message.{messageSent, messageFailed, withMessage}
-use Rattle.master.specs.Closing.{failed, succeeded}
+use Rattle.master.specs.Message.{messageSent, messageFailed}
+use Rattle.master.specs.Closing.{failed, sent, received}
 use Rattle.master.specs.Byte.{passed, early}
 use Rattle.master.proofs.Admitted.{Fits}
 use Rattle.master.proofs.MessageFits.{message-failed-fits, message-sent-fits, first-frame-fits, nothing-open, open-sending}
 use Rattle.master.proofs.PendingFits.{none-pending, sent-fits, marks-fit}
+use Rattle.master.specs.State.{withMessage, withPlan, withStatus}
+use Rattle.master.specs.Fresh.{noStatus}
 
 -- the fresh state fits every table
 pub fresh-fits : (t : List ℕ) → stateFits t fresh ≡ true
@@ -49,7 +49,7 @@ module _ (t : List ℕ) (s : State) (fits : Fits t s) where
 
   -- the state after a select of a schedule that is there fits
   pub asking-fits : (n : ℕ) → n < scheduleCount t → Fits t (withPlan s (asking (s .plan) n))
-  unfolding withPlan asking scheduleThere waitFits
+  unfolding asking scheduleThere waitFits
   asking-fits n h = record {
     entry-there = fits .entry-there;
     schedule-there = lt-ltb n (scheduleCount t) h;
@@ -63,7 +63,7 @@ module _ (t : List ℕ) (s : State) (fits : Fits t s) where
 
   -- the state after a waiting tick fits
   pub waited-fits : Fits t (withPlan s (waited (s .plan)))
-  unfolding withPlan waited waitFits
+  unfolding waited waitFits
   waited-fits = record {
     entry-there = fits .entry-there;
     schedule-there = fits .schedule-there;
@@ -77,8 +77,7 @@ module _ (t : List ℕ) (s : State) (fits : Fits t s) where
   }
 
   -- the state after a status reading fits
-  pub status-fits : Fits t (withoutStatus s)
-  unfolding withoutStatus
+  pub status-fits : Fits t (withStatus s noStatus)
   status-fits = record {
     entry-there = fits .entry-there;
     schedule-there = fits .schedule-there;
@@ -92,7 +91,7 @@ module _ (t : List ℕ) (s : State) (fits : Fits t s) where
 
   -- the state after a send of a message with a right length fits
   pub send-fits : (nad n : ℕ) → isLength n ≡ true → Fits t (withMessage s (message.Sending (record { nad = nad; length = n; next = 0 })))
-  unfolding withMessage isSending
+  unfolding isSending
   send-fits nad n h = record {
     entry-there = fits .entry-there;
     schedule-there = fits .schedule-there;
@@ -118,10 +117,24 @@ module _ (t : List ℕ) (s : State) (fits : Fits t s) where
     message-fits = message-failed-fits (s .transfer .opened) (s .message) (fits .message-fits);
   }
 
-  -- the state after a successful transfer fits
-  pub succeeded-fits : Fits t (succeeded t s)
-  unfolding succeeded frameThere countFits isOpen
-  succeeded-fits = record {
+  -- the state after a transfer that was received with success fits
+  pub received-fits : Fits t (received t s)
+  unfolding received frameThere countFits isOpen
+  received-fits = record {
+    entry-there = fits .entry-there;
+    schedule-there = fits .schedule-there;
+    frame-there = refl;
+    wait-fits = fits .wait-fits;
+    pending-fits = fits .pending-fits;
+    can-open = nothing-open t (s .message) (s .plan .current);
+    count-fits = refl;
+    message-fits = fits .message-fits;
+  }
+
+  -- the state after a transfer that was sent with success fits
+  pub all-sent-fits : Fits t (sent t s)
+  unfolding sent frameThere countFits isOpen
+  all-sent-fits = record {
     entry-there = fits .entry-there;
     schedule-there = fits .schedule-there;
     frame-there = refl;

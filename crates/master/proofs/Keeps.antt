@@ -23,16 +23,18 @@ use Rattle.master.specs.Fits.{stateFits}
 use Rattle.master.specs.Admit.{admitted, bufferSize, Step}
 use Rattle.master.specs.Write.{marked, writable, wrote, writeOf, writeArrayOf}
 use Rattle.master.specs.Plan.{asking}
-use Rattle.master.specs.Select.{withPlan, selectVerdict, selectOf}
-use Rattle.master.specs.Status.{withoutStatus, statusOf}
+use Rattle.master.specs.Select.{selectVerdict, selectOf}
+use Rattle.master.specs.Status.{statusOf}
 use Rattle.master.specs.Message.{sendVerdict, sendOf}
 use Rattle.master.specs.Tick.{ticked, tickVerdict, tickOf}
 use Rattle.master.specs.Byte.{withByte, taken, byteVerdict, byteOf}
 use Rattle.master.proofs.Admitted.{unless-test, Fits, fits-clauses, fits-all}
 use Rattle.master.proofs.Cases.{taken-by, accepted-state}
-use Rattle.master.proofs.FitsKept.{marked-fits, asking-fits, status-fits, send-fits, failed-fits, succeeded-fits, passed-fits}
+use Rattle.master.proofs.FitsKept.{marked-fits, asking-fits, status-fits, send-fits, failed-fits, all-sent-fits, received-fits, passed-fits}
 use Rattle.master.proofs.SlotFits.{ticked-fits}
 use Rattle.master.proofs.Answered.{by-verdict, writable-signal}
+use Rattle.master.specs.State.{withPlan, withStatus}
+use Rattle.master.specs.Fresh.{noStatus}
 
 -- the state after a byte fits
 pub taken-fits : (t : List ℕ) (s : State) → Fits t s → (bs : List ℕ) (b : ℕ) → Fits t (taken t s bs b .given .state)
@@ -40,8 +42,8 @@ taken-fits t s fits bs b =
     taken-by t s bs b (λ w. Fits t (w .given .state))
     (λ nine e. passed-fits t s fits nine e)
     (failed-fits t s fits true)
-    (λ y. succeeded-fits t s fits)
-    (λ n. rw (accepted-state t s (s .transfer .opened) (withByte (s .transfer) b) bs) (succeeded-fits t s fits))
+    (λ y. all-sent-fits t s fits)
+    (λ n. rw (accepted-state t s (s .transfer .opened) (withByte (s .transfer) b) bs) (received-fits t s fits))
 
 wrote-keeps : (t : List ℕ) (x : State) (bs : List ℕ) (s : ℕ) (array fits : Bool) (after : List ℕ) → RightTable t → stateFits t x ≡ true
     → stateFits t (wrote t x bs s (then (admitted t (length bs) x) (writable t s array fits)) after .given .state) ≡ true
@@ -98,7 +100,7 @@ unfolding statusOf
 status-keeps t s ok h =
     by-verdict (λ (w : StatusRead). stateFits t (w .state) ≡ true) (admitted t (bufferSize t) s) _ _
     (λ r e. h)
-    (λ a. fits-all t (withoutStatus s) (status-fits t s (fits-clauses t s h)))
+    (λ a. fits-all t (withStatus s noStatus) (status-fits t s (fits-clauses t s h)))
 
 -- a send
 pub send-keeps : (t : List ℕ) (s : State) (nad n : ℕ) → RightTable t → stateFits t s ≡ true → stateFits t (sendOf t s nad n .state) ≡ true

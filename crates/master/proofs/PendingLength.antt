@@ -20,10 +20,10 @@ use Rattle.master.specs.declared.message.Sent.{Sent}
 use Rattle.master.specs.Transfers.{isOpen}
 use Rattle.master.specs.Admit.{admitted, bufferSize, Step}
 use Rattle.master.specs.Write.{markedFrom, marked, writable, wrote, writeOf, writeArrayOf}
-use Rattle.master.specs.Select.{withPlan, selectVerdict, selectOf}
-use Rattle.master.specs.Status.{withoutStatus, statusOf}
-use Rattle.master.specs.Message.{withMessage, sendVerdict, sendOf}
-use Rattle.master.specs.Closing.{failed, clearedBit, pendingSent, succeeded}
+use Rattle.master.specs.Select.{selectVerdict, selectOf}
+use Rattle.master.specs.Status.{statusOf}
+use Rattle.master.specs.Message.{sendVerdict, sendOf}
+use Rattle.master.specs.Closing.{failed, clearedBit, pendingSent, sent, received}
 use Rattle.master.specs.Tick.{abandoned, ticked, tickVerdict, tickOf}
 use Rattle.master.specs.Byte.{passed, withByte, taken, byteVerdict, byteOf}
 use Rattle.master.proofs.Cases.{taken-by, accepted-state, ticked-by}
@@ -38,7 +38,6 @@ abandoned-pending t s = whether (isOpen (s .transfer .opened)) (λ y. rw y) (λ 
 
 module _ (t bs m : List ℕ) where
   ticked-pending : (s : State) → ticked t bs m s .state .pending ≡ s .pending
-  unfolding withPlan
   ticked-pending s =
       ticked-by t bs m (λ w. w .state .pending ≡ s .pending) s
       (λ y. refl) (λ n c. abandoned-pending t s) (λ e n c q. abandoned-pending t s) (λ e o n c p y. abandoned-pending t s)
@@ -51,17 +50,17 @@ module _ (t bs m : List ℕ) where
 
 -- no select changes a pending bit
 pub select-pending : (t : List ℕ) (s : State) (n : ℕ) → selectOf t s n .state .pending ≡ s .pending
-unfolding selectOf withPlan
+unfolding selectOf
 select-pending t s n = by-verdict (λ (w : Chosen). w .state .pending ≡ s .pending) (selectVerdict t s n) _ _ (λ r e. refl) (λ a. refl)
 
 -- no status reading changes a pending bit
 pub status-pending : (t : List ℕ) (s : State) → statusOf t s .state .pending ≡ s .pending
-unfolding statusOf withoutStatus
+unfolding statusOf
 status-pending t s = by-verdict (λ (w : StatusRead). w .state .pending ≡ s .pending) (admitted t (bufferSize t) s) _ _ (λ r e. refl) (λ a. refl)
 
 -- no send changes a pending bit
 pub send-pending : (t : List ℕ) (s : State) (nad n : ℕ) → sendOf t s nad n .state .pending ≡ s .pending
-unfolding sendOf withMessage
+unfolding sendOf
 send-pending t s nad n = by-verdict (λ (w : Sent). w .state .pending ≡ s .pending) (sendVerdict t s n) _ _ (λ r e. refl) (λ a. refl)
 
 -- ---- their number
@@ -118,15 +117,15 @@ sent-length Request written bits = refl
 sent-length Response written bits = refl
 
 module _ (t : List ℕ) (s : State) where
-  succeeded-length : length (succeeded t s .pending) ≡ length (s .pending)
-  unfolding succeeded
-  succeeded-length = sent-length (s .transfer .opened) (s .transfer .written) (s .pending)
+  all-sent-length : length (sent t s .pending) ≡ length (s .pending)
+  unfolding sent
+  all-sent-length = sent-length (s .transfer .opened) (s .transfer .written) (s .pending)
 
   taken-pending-length : (bs : List ℕ) (b : ℕ) → length (taken t s bs b .given .state .pending) ≡ length (s .pending)
-  unfolding passed failed
+  unfolding passed failed received
   taken-pending-length bs b =
-      taken-by t s bs b (λ w. length (w .given .state .pending) ≡ length (s .pending)) (λ nine e. refl) refl (λ y. succeeded-length)
-      (λ n. rw (accepted-state t s (s .transfer .opened) (withByte (s .transfer) b) bs) succeeded-length)
+      taken-by t s bs b (λ w. length (w .given .state .pending) ≡ length (s .pending)) (λ nine e. refl) refl (λ y. all-sent-length)
+      (λ n. rw (accepted-state t s (s .transfer .opened) (withByte (s .transfer) b) bs))
 
 -- a byte in keeps the number of pending bits
 pub byte-pending-length : (t : List ℕ) (s : State) (bs : List ℕ) (b : ℕ) → length (byteOf t s bs b .given .state .pending) ≡ length (s .pending)

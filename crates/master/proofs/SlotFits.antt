@@ -17,13 +17,13 @@ use Rattle.master.specs.declared.state.State.{State}
 use Rattle.master.specs.Transfers.{isOpen, openLength, opening}
 use Rattle.master.specs.Fits.{entryThere, scheduleThere, currentDelay, waitFits, canOpen, countFits}
 use Rattle.master.specs.Plan.{waits, entryDue, begun}
-use Rattle.master.specs.Select.{withPlan}
 use Rattle.master.specs.Closing.{failed}
 use Rattle.master.specs.Tick.{slotOpens, abandoned, opens, slotAt, slot, ticked}
 use Rattle.master.proofs.Admitted.{Fits}
 use Rattle.master.proofs.FitsKept.{waited-fits, failed-fits}
 use Rattle.master.proofs.MessageFits.{nothing-open}
 use Rattle.master.proofs.SlotOpens.{Opens, slot-opens, due-there}
+use Rattle.master.specs.State.{withPlan}
 
 -- what is not open is nothing
 pub not-open : (o : Opened) → isOpen o ≡ false → o ≡ Nothing
@@ -55,7 +55,7 @@ module _ (t : List ℕ) (s : State) where
 module _ (t bs m : List ℕ) (s : State) (fits : Fits t s) where
   -- a state whose entry begins fits, with nothing open
   begun-fits : (e : ℕ) → entryThere t (current.Entry e) ≡ true → s .transfer .opened ≡ Nothing → Fits t (withPlan s (begun t e))
-  unfolding withPlan begun scheduleThere waitFits currentDelay countFits
+  unfolding begun scheduleThere waitFits currentDelay countFits
   begun-fits e h n = record {
     entry-there = h;
     schedule-there = refl;
@@ -87,7 +87,7 @@ module _ (t bs m : List ℕ) (s : State) (fits : Fits t s) where
 module _ (t : List ℕ) (ok : RightTable t) (bs m : List ℕ) where
   -- the state that a slot leaves with an entry that is there fits
   pub slot-at-fits : (s : State) (c : Current) → Fits t s → s .transfer .opened ≡ Nothing → entryThere t c ≡ true → Fits t (slotAt t bs m s c .state)
-  unfolding slotAt withPlan begun entryThere
+  unfolding slotAt begun entryThere
   slot-at-fits s current.None fits n h = fits
   slot-at-fits s (current.Entry e) fits n h =
       opens-fits t bs m (withPlan s (begun t e)) (begun-fits t bs m s fits e h n) e (slotOpens t (s .pending) (s .message) e) refl

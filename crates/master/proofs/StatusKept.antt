@@ -14,9 +14,9 @@ use Rattle.master.specs.declared.byte.Took.{Took}
 use Rattle.master.specs.declared.message.Sent.{Sent}
 use Rattle.master.specs.Transfers.{isOpen, openProtected}
 use Rattle.master.specs.Admit.{Step}
-use Rattle.master.specs.Select.{withPlan, selectVerdict, selectOf}
-use Rattle.master.specs.Message.{withMessage, sendVerdict, sendOf}
-use Rattle.master.specs.Closing.{failed, succeeded}
+use Rattle.master.specs.Select.{selectVerdict, selectOf}
+use Rattle.master.specs.Message.{sendVerdict, sendOf}
+use Rattle.master.specs.Closing.{failed, sent, received}
 use Rattle.master.specs.Tick.{abandoned, tickVerdict, tickOf}
 use Rattle.master.specs.Byte.{passed, withByte, byteVerdict, byteOf}
 use Rattle.master.proofs.Answered.{by-verdict}
@@ -32,12 +32,12 @@ same x = record {
 
 -- a select leaves status
 pub select-status : (t : List ℕ) (s : State) (n : ℕ) → selectOf t s n .state .status ≡ s .status
-unfolding selectOf withPlan
+unfolding selectOf
 select-status t s n = by-verdict (λ (w : Chosen). w .state .status ≡ s .status) (selectVerdict t s n) _ _ (λ r e. refl) (λ a. refl)
 
 -- a send leaves status
 pub send-status : (t : List ℕ) (s : State) (nad n : ℕ) → sendOf t s nad n .state .status ≡ s .status
-unfolding sendOf withMessage
+unfolding sendOf
 send-status t s nad n = by-verdict (λ (w : Sent). w .state .status ≡ s .status) (sendVerdict t s n) _ _ (λ r e. refl) (λ a. refl)
 
 module _ (t : List ℕ) (s : State) where
@@ -50,7 +50,7 @@ module _ (t : List ℕ) (s : State) where
 
   -- a tick clears no bit of status
   pub tick-stays : (bs m : List ℕ) → Stays (s .status) (tickOf t bs m s .state .status)
-  unfolding tickOf withPlan
+  unfolding tickOf
   tick-stays bs m =
       by-verdict (λ (w : Ticked). Stays (s .status) (w .state .status)) (tickVerdict t (length bs) (length m) s) _ _
       (λ r e. same (s .status))
@@ -61,9 +61,13 @@ module _ (t : List ℕ) (s : State) where
   unfolding failed
   failed-stays = stays-set (s .status) true false (openProtected t (s .transfer .opened))
 
-  succeeded-stays : Stays (s .status) (succeeded t s .status)
-  unfolding succeeded
-  succeeded-stays = stays-set (s .status) true true (openProtected t (s .transfer .opened))
+  sent-stays : Stays (s .status) (sent t s .status)
+  unfolding sent
+  sent-stays = stays-set (s .status) true true (openProtected t (s .transfer .opened))
+
+  received-stays : Stays (s .status) (received t s .status)
+  unfolding received
+  received-stays = stays-set (s .status) true true (openProtected t (s .transfer .opened))
 
   -- a byte in clears no bit of status
   pub byte-stays : (bs : List ℕ) (b : ℕ) → Stays (s .status) (byteOf t s bs b .given .state .status)
@@ -72,5 +76,5 @@ module _ (t : List ℕ) (s : State) where
       by-verdict (λ (w : Step Took). Stays (s .status) (w .given .state .status)) (byteVerdict t (length bs) s) _ _
       (λ r e. same (s .status))
       (λ a. taken-by t s bs b (λ w. Stays (s .status) (w .given .state .status))
-      (λ nine e. same (s .status)) failed-stays (λ y. succeeded-stays)
-      (λ n. rw (accepted-state t s (s .transfer .opened) (withByte (s .transfer) b) bs) succeeded-stays))
+      (λ nine e. same (s .status)) failed-stays (λ y. sent-stays)
+      (λ n. rw (accepted-state t s (s .transfer .opened) (withByte (s .transfer) b) bs) received-stays))

@@ -15,13 +15,15 @@ use Rattle.master.specs.declared.status.StatusAnswer.the-variants.{Word}
 use Rattle.master.specs.declared.status.StatusRead.{StatusRead}
 use Rattle.master.specs.Transfers.{isOpen}
 use Rattle.master.specs.Admit.{admitted, bufferSize}
-use Rattle.master.specs.Status.{counted, statusAfter, statusWord, withoutStatus, statusOf}
+use Rattle.master.specs.Status.{counted, statusAfter, statusWord, statusOf}
 use Rattle.master.specs.Closing.{failed}
 use Rattle.master.specs.Tick.{abandoned}
 use Rattle.master.proofs.Admitted.{admitted-table, admitted-fits, admits, fits-clauses, fits-all}
 use Rattle.master.proofs.FitsKept.{status-fits}
 use Rattle.master.proofs.Tests.{or-true, or-false}
 use Rattle.master.proofs.Answered.{by-verdict}
+use Rattle.master.specs.State.{withStatus}
+use Rattle.master.specs.Fresh.{noStatus}
 
 -- ---- what a counted transfer does
 
@@ -107,15 +109,15 @@ pub record Cleared (t : List ℕ) (s : State) : Type 0 where
 
 -- "Reading sets it to 0."
 pub status-cleared : (t : List ℕ) (s : State) (w : ℕ) → statusOf t s .answer ≡ Word w → Cleared t s
-unfolding statusOf withoutStatus statusWord
+unfolding statusOf statusWord
 status-cleared t s =
     let n = bufferSize t in
     by-verdict (λ (r : StatusRead). (w : ℕ) → r .answer ≡ Word w → Cleared t s) (admitted t n s) _ _
     (λ r e w k. let z : _≡_ {A = ℕ} 0 1 = cc in absurd (omega arith))
     (λ a w k.
     let after =
-    admits t n (withoutStatus s) (admitted-table t n s a) refl
-    (fits-all t (withoutStatus s) (status-fits t s (fits-clauses t s (admitted-fits t n s a)))) in
+    admits t n (withStatus s noStatus) (admitted-table t n s a) refl
+    (fits-all t (withStatus s noStatus) (status-fits t s (fits-clauses t s (admitted-fits t n s a)))) in
     record { answers = rw a; cleared = rw a; again = rw (a, after) })
 
 -- ---- the word

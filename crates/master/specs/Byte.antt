@@ -18,7 +18,8 @@ use Rattle.master.specs.declared.byte.ByteAnswer.the-variants as answer
 use Rattle.master.specs.declared.byte.Took.{Took}
 use Rattle.master.specs.Admit.{unless, admitted, answered, Step}
 use Rattle.master.specs.Transfers.{isOpen, openLength, openChecksum, sends}
-use Rattle.master.specs.Closing.{failed, succeeded}
+use Rattle.master.specs.State.{withTransfer}
+use Rattle.master.specs.Closing.{failed, sent, received}
 
 -- an answer that brings no response bytes, which are 255 then
 abbrev pub plain : State → ByteAnswer → Took
@@ -31,18 +32,12 @@ responding s nine = record { state = s; answer = answer.Response; response = tak
 -- one more byte has passed; a received one is kept
 unfoldable pub passed : State → List ℕ → State
 passed s nine =
-    record {
-      pending = s .pending;
-      plan = s .plan;
-      transfer = record {
-        opened = s .transfer .opened;
-        count = s .transfer .count + 1;
-        bytes = nine;
-        written = s .transfer .written;
-      };
-      message = s .message;
-      status = s .status;
-    }
+    withTransfer s (record {
+      opened = s .transfer .opened;
+      count = s .transfer .count + 1;
+      bytes = nine;
+      written = s .transfer .written;
+    })
 
 -- the byte is not the last one: fewer than length bytes passed before it
 unfoldable pub early : List ℕ → Transfer → Bool
@@ -54,7 +49,7 @@ sentByte t s b =
     cond (eqb (getD (s .transfer .bytes) (s .transfer .count) 0) b)
     (cond (early t (s .transfer))
     (plain (passed s (s .transfer .bytes)) answer.More)
-    (plain (succeeded t s) answer.Success))
+    (plain (sent t s) answer.Success))
     (plain (failed t s true) answer.Failure)
 
 -- "a right checksum": of the data, in the byte behind them
@@ -63,12 +58,12 @@ checksumRight t o nine = eqb (getD nine (openLength t o) 0) (openChecksum t o (t
 
 -- "stores the data and succeeds"; "A successful response frame stores nothing in the buffer and answers its eight bytes."
 unfoldable pub accepted : List ℕ → State → Opened → List ℕ → List ℕ → Step Took
-accepted t s Nothing nine bs = record { given = plain (succeeded t s) answer.Success; left = bs }
+accepted t s Nothing nine bs = record { given = plain (received t s) answer.Success; left = bs }
 accepted t s (Frame f) nine bs =
-    record { given = plain (succeeded t s) answer.Success; left = lent.written bs (8 * f) (take (openLength t (Frame f)) nine) }
-accepted t s Request nine bs = record { given = plain (succeeded t s) answer.Success; left = bs }
+    record { given = plain (received t s) answer.Success; left = lent.written bs (8 * f) (take (openLength t (Frame f)) nine) }
+accepted t s Request nine bs = record { given = plain (received t s) answer.Success; left = bs }
 accepted t s Response nine bs =
-    record { given = responding (succeeded t s) nine; left = bs }
+    record { given = responding (received t s) nine; left = bs }
 
 -- "after length + 1 bytes a right checksum stores the data and succeeds; a wrong one stores nothing and fails"
 unfoldable pub lastByte : List ℕ → State → List ℕ → List ℕ → Step Took

@@ -1,4 +1,5 @@
 pub mod Fresh
+pub mod State
 pub mod Transfers
 pub mod Fits
 pub mod Admit

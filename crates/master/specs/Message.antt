@@ -18,6 +18,7 @@ use Rattle.master.specs.declared.message.SendAnswer.the-variants as send
 use Rattle.master.specs.declared.message.Sent.{Sent}
 use Rattle.master.specs.declared.message.MessageAnswer.{MessageAnswer}
 use Rattle.master.specs.declared.message.MessageAnswer.the-variants as tells
+use Rattle.master.specs.State.{withMessage}
 use Rattle.master.specs.Fits.{isSending}
 use Rattle.master.specs.Admit.{unless, admitted, answered, bufferSize}
 
@@ -54,12 +55,7 @@ sendVerdict t s n =
     (unless (not (isSending (s .message))) number.sending
     verdict.Accepted))
 
--- "Send takes any NAD and the length."
-unfoldable pub withMessage : State → Message → State
-withMessage s x =
-    record { pending = s .pending; plan = s .plan; transfer = s .transfer; message = x; status = s .status }
-
--- what send hands back
+-- what send hands back: "Send takes any NAD and the length."
 unfoldable pub sendOf : List ℕ → State → ℕ → ℕ → Sent
 sendOf t s nad n =
     answered (sendVerdict t s n)

@@ -7,11 +7,11 @@ use Rattle.cluster.specs.declared.Verdict.{Verdict}
 use Rattle.cluster.specs.declared.Verdict.the-variants as verdict
 use Rattle.cluster.specs.Table.{scheduleCount}
 use Rattle.cluster.specs.Check.{then}
-use Rattle.master.specs.declared.state.Plan.{Plan}
 use Rattle.master.specs.declared.state.State.{State}
 use Rattle.master.specs.declared.select.SelectAnswer.the-variants.{Selected, Refused}
 use Rattle.master.specs.declared.select.Chosen.{Chosen}
 use Rattle.master.specs.Admit.{unless, admitted, answered, bufferSize}
+use Rattle.master.specs.State.{withPlan}
 use Rattle.master.specs.Plan.{asking}
 
 -- refusals of select: 1, 3, 4 "no such .. schedule"
@@ -19,11 +19,6 @@ unfoldable pub selectVerdict : List ℕ → State → ℕ → Verdict
 selectVerdict t s n =
     then (admitted t (bufferSize t) s)
     (unless (ltb n (scheduleCount t)) unknown verdict.Accepted)
-
--- the state with another plan
-unfoldable pub withPlan : State → Plan → State
-withPlan s p =
-    record { pending = s .pending; plan = p; transfer = s .transfer; message = s .message; status = s .status }
 
 -- what select hands back
 unfoldable pub selectOf : List ℕ → State → ℕ → Chosen

@@ -8,6 +8,7 @@ use Rattle.master.specs.declared.state.State.{State}
 use Rattle.master.specs.declared.status.StatusAnswer.the-variants as answer
 use Rattle.master.specs.declared.status.StatusRead.{StatusRead}
 use Rattle.master.specs.Fresh.{noStatus}
+use Rattle.master.specs.State.{withStatus}
 use Rattle.master.specs.Admit.{admitted, answered, bufferSize}
 
 -- "a failed one sets bit 0, a successful one bit 1, and either stays set until read; overrun means two or more since the last reading"
@@ -29,14 +30,9 @@ statusAfter x counts success last = cond counts (counted x success last) x
 unfoldable pub statusWord : Status → ℕ
 statusWord x = digit (x .error) + 2 * digit (x .success) + 4 * digit (x .overrun) + 256 * x .last
 
--- "Reading sets it to 0."
-unfoldable pub withoutStatus : State → State
-withoutStatus s =
-    record { pending = s .pending; plan = s .plan; transfer = s .transfer; message = s .message; status = noStatus }
-
--- what a status reading hands back
+-- what a status reading hands back: "Reading sets it to 0."
 unfoldable pub statusOf : List ℕ → State → StatusRead
 statusOf t s =
     answered (admitted t (bufferSize t) s)
     (λ r. record { state = s; answer = answer.Refused r })
-    (record { state = withoutStatus s; answer = answer.Word (statusWord (s .status)) })
+    (record { state = withStatus s noStatus; answer = answer.Word (statusWord (s .status)) })

@@ -22,7 +22,7 @@ use Rattle.master.specs.Fits.{isSending, lentFits}
 use Rattle.master.specs.Admit.{unless, admitted, answered}
 use Rattle.master.specs.Transfers.{isOpen, openProtected, opening}
 use Rattle.master.specs.Plan.{waits, waited, entryDue, begun}
-use Rattle.master.specs.Select.{withPlan}
+use Rattle.master.specs.State.{withPlan, withTransfer}
 use Rattle.master.specs.Closing.{failed}
 
 -- "the first pending member, or is silent"
@@ -47,16 +47,7 @@ abandoned t s = cond (isOpen (s .transfer .opened)) (failed t s (ltb 0 (s .trans
 unfoldable pub opens : List ℕ → List ℕ → List ℕ → State → Opened → Ticked
 opens t bs m s o =
     cond (isOpen o)
-    (record {
-      state = record {
-        pending = s .pending;
-        plan = s .plan;
-        transfer = opening t bs (s .message) m o;
-        message = s .message;
-        status = s .status;
-      };
-      answer = answer.Opened (openProtected t o);
-    })
+    (record { state = withTransfer s (opening t bs (s .message) m o); answer = answer.Opened (openProtected t o) })
     (record { state = s; answer = answer.Silent })
 
 -- a slot with its entry; "with no schedule the answer is "idle" and the wait stays 0"

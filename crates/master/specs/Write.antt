@@ -17,6 +17,7 @@ use Rattle.master.specs.declared.state.Transfer.{Transfer}
 use Rattle.master.specs.declared.state.State.{State}
 use Rattle.master.specs.declared.write.WriteAnswer.the-variants.{Written, Refused}
 use Rattle.master.specs.declared.write.Wrote.{Wrote}
+use Rattle.master.specs.State.{withPending, withTransfer}
 use Rattle.master.specs.Admit.{unless, admitted, answered, Step}
 
 -- refusals of a write: 4 "no such signal", 5 "write to a signal the master doesn't publish", 6 "scalar call on an array or the reverse",
@@ -53,14 +54,7 @@ rewritten t s x =
 
 -- "marks its frame as written, also when the value is equal"
 unfoldable pub marked : List ℕ → ℕ → State → State
-marked t s x =
-    record {
-      pending = markedFrom t s 0 (x .pending);
-      plan = x .plan;
-      transfer = rewritten t s (x .transfer);
-      message = x .message;
-      status = x .status;
-    }
+marked t s x = withTransfer (withPending x (markedFrom t s 0 (x .pending))) (rewritten t s (x .transfer))
 
 -- a refused write
 abbrev pub refusedWrite : State → Refusal → Wrote

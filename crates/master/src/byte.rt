@@ -78,7 +78,7 @@ impl State {
         if transfer.early(t) {
             return self.passed(bytes).answering(ByteAnswer::More);
         }
-        self.succeeded(t).answering(ByteAnswer::Success)
+        self.sent(t).answering(ByteAnswer::Success)
     }
 
     // A byte of a transfer that the master receives: it is kept, and the last one is judged.
@@ -104,7 +104,7 @@ impl State {
         if !opened.checksum_right(t, nine) {
             return self.failed(t, true).answering(ByteAnswer::Failure);
         }
-        let closed = self.succeeded(t);
+        let closed = self.received(t);
         match opened {
             Opened::Nothing => closed.answering(ByteAnswer::Success),
             Opened::Frame(f) => {
@@ -129,9 +129,7 @@ impl State {
             bytes: nine,
             written: transfer.written,
         };
-        let mut next = self;
-        next.transfer = passed;
-        next
+        self.with_transfer(passed)
     }
 
     // An answer that brings no response bytes.

@@ -11,47 +11,53 @@ ghost use Rattle.master.specs.Fits.{messageFits, frameThere};
 ghost use Rattle.cluster.specs.Check.{RightTable};
 ghost use Rattle.master.specs.Transfers.{openIdentifier, openProtected};
 ghost use Rattle.master.specs.Status.{statusAfter};
-ghost use Rattle.master.specs.Closing.{failed as failedOf, clearedBit, pendingSent, succeeded as succeededOf};
+ghost use Rattle.master.specs.Closing.{closed as closedOf, failed as failedOf, clearedBit, pendingSent, sent as sentOf, received as receivedOf};
 
 impl State {
-    // Closes the transfer as failed; it counts for status where it had a response byte.
+    // The transfer is over; it counts for status, with its outcome, where it had a response byte.
+    fn closed(self, t: &[u16], counts: bool, success: bool) -> State
+        requires { ⌜ openIdentifier (now t) (self .transfer .opened) < 64 ⌝ }
+        ensures { λ r. ⌜ r ≡ closedOf (now (t .entry)) self counts success ⌝ }
+    {
+        let transfer = self.transfer;
+        let opened = transfer.opened;
+        let status = self.status;
+        self.with_transfer(Transfer::none())
+            .with_status(status.after(counts, success, opened.protected(t)))
+    }
+
+    // It failed.
     pub(crate) fn failed(self, t: &[u16], counts: bool) -> State
         requires { ⌜ openIdentifier (now t) (self .transfer .opened) < 64 ⌝ }
         ensures { λ r. ⌜ r ≡ failedOf (now (t .entry)) self counts ⌝ }
     {
-        let pending = self.pending;
-        let plan = self.plan;
         let transfer = self.transfer;
         let opened = transfer.opened;
         let message = self.message;
-        let status = self.status;
-        State {
-            pending,
-            plan,
-            transfer: Transfer::none(),
-            message: message.failed(opened),
-            status: status.after(counts, false, opened.protected(t)),
-        }
+        self.closed(t, counts, false).with_message(message.failed(opened))
     }
 
-    // Closes the transfer as successful; its frame stays pending where it was written since the opening.
-    pub(crate) fn succeeded(self, t: &[u16]) -> State
+    // The master sent it with success: its frame is no longer pending unless it was written since, or the message moves on.
+    pub(crate) fn sent(self, t: &[u16]) -> State
         requires { ⌜ RightTable (now t) × (frameThere (now t) (self .transfer .opened) ≡ true) × (messageFits (self .message) ≡ true) ⌝ }
-        ensures { λ r. ⌜ r ≡ succeededOf (now (t .entry)) self ⌝ }
+        ensures { λ r. ⌜ r ≡ sentOf (now (t .entry)) self ⌝ }
     {
         let pending = self.pending;
-        let plan = self.plan;
         let transfer = self.transfer;
         let opened = transfer.opened;
         let message = self.message;
-        let status = self.status;
-        State {
-            pending: opened.sent_pending(t, transfer.written, pending),
-            plan,
-            transfer: Transfer::none(),
-            message: message.sent(opened),
-            status: status.after(true, true, opened.protected(t)),
-        }
+        let cleared = opened.sent_pending(t, transfer.written, pending);
+        self.closed(t, true, true)
+            .with_message(message.sent(opened))
+            .with_pending(cleared)
+    }
+
+    // The master received it with success.
+    pub(crate) fn received(self, t: &[u16]) -> State
+        requires { ⌜ openIdentifier (now t) (self .transfer .opened) < 64 ⌝ }
+        ensures { λ r. ⌜ r ≡ receivedOf (now (t .entry)) self ⌝ }
+    {
+        self.closed(t, true, true)
     }
 }
 

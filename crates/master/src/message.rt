@@ -14,7 +14,7 @@ ghost use mathlib.Core.Path.{_≡_};
 ghost use Rattle.transport.specs.Cutting.{isLength};
 ghost use Rattle.master.specs.Fits.{messageFits};
 ghost use Rattle.master.specs.Message.{moved as movedOn, messageSent, messageFailed, sendingAt};
-ghost use Rattle.master.specs.Message.{sendVerdict, withMessage, sendOf, told as toldOf, messageOf};
+ghost use Rattle.master.specs.Message.{sendVerdict, sendOf, told as toldOf, messageOf};
 ghost use Rattle.master.specs.declared.state.Message.the-variants as variant;
 
 // What send answers.
@@ -88,23 +88,6 @@ impl State {
             return refused(Refusal::SENDING);
         }
         Verdict::Accepted
-    }
-
-    // The state with another message.
-    fn with_message(self, message: Message) -> State
-        ensures { λ r. ⌜ r ≡ withMessage self message ⌝ }
-    {
-        let pending = self.pending;
-        let plan = self.plan;
-        let transfer = self.transfer;
-        let status = self.status;
-        State {
-            pending,
-            plan,
-            transfer,
-            message,
-            status,
-        }
     }
 }
 

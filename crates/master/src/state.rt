@@ -1,7 +1,7 @@
 // The master's state, and its parts.
 ghost use mathlib.Core.Path.{_≡_};
 ghost use Rattle.master.specs.Fresh.{fresh as freshState, limits as limitsOf, noPlan, noTransfer, noStatus};
-ghost use Rattle.master.specs.Select.{withPlan};
+ghost use Rattle.master.specs.State.{withPending, withPlan, withTransfer, withMessage, withStatus};
 
 // The current place in a schedule: none, or the number of an entry in the table.
 pub enum Current {
@@ -103,12 +103,64 @@ impl State {
         [State::FRAMES, State::RECORDS, State::LONGEST]
     }
 
+    // The state with other pending bits.
+    pub(crate) fn with_pending(self, pending: [bool; 60]) -> State
+        ensures { λ r. ⌜ r ≡ withPending self pending ⌝ }
+    {
+        let plan = self.plan;
+        let transfer = self.transfer;
+        let message = self.message;
+        let status = self.status;
+        State {
+            pending,
+            plan,
+            transfer,
+            message,
+            status,
+        }
+    }
+
     // The state with another plan.
     pub(crate) fn with_plan(self, plan: Plan) -> State
         ensures { λ r. ⌜ r ≡ withPlan self plan ⌝ }
     {
         let mut next = self;
         next.plan = plan;
+        next
+    }
+
+    // The state with another transfer record.
+    pub(crate) fn with_transfer(self, transfer: Transfer) -> State
+        ensures { λ r. ⌜ r ≡ withTransfer self transfer ⌝ }
+    {
+        let mut next = self;
+        next.transfer = transfer;
+        next
+    }
+
+    // The state with another message.
+    pub(crate) fn with_message(self, message: Message) -> State
+        ensures { λ r. ⌜ r ≡ withMessage self message ⌝ }
+    {
+        let pending = self.pending;
+        let plan = self.plan;
+        let transfer = self.transfer;
+        let status = self.status;
+        State {
+            pending,
+            plan,
+            transfer,
+            message,
+            status,
+        }
+    }
+
+    // The state with another status.
+    pub(crate) fn with_status(self, status: Status) -> State
+        ensures { λ r. ⌜ r ≡ withStatus self status ⌝ }
+    {
+        let mut next = self;
+        next.status = status;
         next
     }
 }

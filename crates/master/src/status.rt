@@ -8,7 +8,7 @@ ghost use mathlib.Core.Bool.{_||_};
 ghost use mathlib.Core.Path.{_≡_};
 ghost use Prim.Native.Nat.{_≤_};
 ghost use Rattle.wire.specs.Bits.{digit};
-ghost use Rattle.master.specs.Status.{counted as countedOf, statusWord, withoutStatus, statusOf};
+ghost use Rattle.master.specs.Status.{counted as countedOf, statusWord, statusOf};
 
 // What a status reading answers: the 16-bit word.
 pub enum StatusAnswer {
@@ -35,18 +35,9 @@ impl State {
         }
         let status = self.status;
         StatusRead {
-            state: self.without_status(),
+            state: self.with_status(Status::none()),
             answer: StatusAnswer::Word(status.word()),
         }
-    }
-
-    // The state with status 0.
-    fn without_status(self) -> State
-        ensures { λ r. ⌜ r ≡ withoutStatus self ⌝ }
-    {
-        let mut next = self;
-        next.status = Status::none();
-        next
     }
 }
 

@@ -121,10 +121,8 @@ impl State {
             };
         }
         let message = self.message;
-        let mut next = self;
-        next.transfer = opened.opening(t, bytes, message, lent);
         Ticked {
-            state: next,
+            state: self.with_transfer(opened.opening(t, bytes, message, lent)),
             answer: TickAnswer::Opened(opened.protected(t)),
         }
     }

@@ -10,9 +10,6 @@ use Rattle.master.specs.declared.state.State.{State}
 use Rattle.master.specs.Fits.{stateFits}
 use Rattle.master.specs.Fresh.{fresh}
 use Rattle.master.specs.Plan.{asking, waited}
-use Rattle.master.specs.Select.{withPlan}
-use Rattle.master.specs.Status.{withoutStatus}
-use Rattle.master.specs.Message.{withMessage}
 use Rattle.master.specs.Seq.{Seq, ∅, _▹_}
 use Rattle.master.specs.Run.{Held, held}
 use Rattle.master.specs.declared.tick.TickAnswer.{TickAnswer}
@@ -25,6 +22,8 @@ use Rattle.master.proofs.History.Quiet.{isQuiet}
 use Rattle.master.proofs.History.StatusOver.{statusOver}
 use Rattle.master.proofs.History.FramesAre.{FramesAre, frames-fresh, frames-quiet}
 use Rattle.master.proofs.History.TransferIs.{TransferIs, transfer-fresh, transfer-quiet}
+use Rattle.master.specs.State.{withMessage, withPlan, withStatus}
+use Rattle.master.specs.Fresh.{noStatus}
 
 pub record Agrees (t : List ℕ) (h : Seq Scheduled) (x : Held) : Type 0 where
   pub fits : stateFits t (x .state) ≡ true
@@ -83,7 +82,7 @@ module _ (t : List ℕ) (h : Seq Scheduled) (x : Held) (is : Agrees t h x) (y : 
   -- a select
   pub agrees-selected : (n : ℕ) → act y ≡ selected n → stateFits t (withPlan (x .state) (asking (x .state .plan) n)) ≡ true
       → Agrees t (h ▹ y) (held (withPlan (x .state) (asking (x .state .plan) n)) (x .bytes))
-  unfolding closes planAfter planBy withPlan asking
+  unfolding closes planAfter planBy asking
   agrees-selected n a f =
       let c : closes y ≡ false = rw a in
       aside (withPlan (x .state) (asking (x .state .plan) n)) f refl refl (rw a) c
@@ -95,7 +94,7 @@ module _ (t : List ℕ) (h : Seq Scheduled) (x : Held) (is : Agrees t h x) (y : 
   pub agrees-waited : (m : List ℕ) (b : TickAnswer) → act y ≡ ticked m b → y .slot ≡ none → slotDue t (planAfter t h) ≡ none
       → stateFits t (withPlan (x .state) (waited (x .state .plan))) ≡ true
       → Agrees t (h ▹ y) (held (withPlan (x .state) (waited (x .state .plan))) (x .bytes))
-  unfolding closes planAfter planBy planWith withPlan waited
+  unfolding closes planAfter planBy planWith waited
   agrees-waited m b a n d f =
       let c : closes y ≡ false = rw (a, n) in
       aside (withPlan (x .state) (waited (x .state .plan))) f refl refl (rw a) c
@@ -104,11 +103,11 @@ module _ (t : List ℕ) (h : Seq Scheduled) (x : Held) (is : Agrees t h x) (y : 
       (rw (open-status c (rw a)) (is .status-is))
 
   -- a status reading
-  pub agrees-status : act y ≡ statusRead → stateFits t (withoutStatus (x .state)) ≡ true → Agrees t (h ▹ y) (held (withoutStatus (x .state)) (x .bytes))
-  unfolding closes planAfter planBy withoutStatus countedAfter statusOver anyClosed twoClosed lastClosed
+  pub agrees-status : act y ≡ statusRead → stateFits t (withStatus (x .state) noStatus) ≡ true → Agrees t (h ▹ y) (held (withStatus (x .state) noStatus) (x .bytes))
+  unfolding closes planAfter planBy countedAfter statusOver anyClosed twoClosed lastClosed
   agrees-status a f =
       let c : closes y ≡ false = rw a in
-      aside (withoutStatus (x .state)) f refl refl (rw a) c
+      aside (withStatus (x .state) noStatus) f refl refl (rw a) c
       (rw a (is .plan-is))
       (is .message-is ∙ sym (open-message c ∙ rw a))
       (rw a)
@@ -117,7 +116,7 @@ module _ (t : List ℕ) (h : Seq Scheduled) (x : Held) (is : Agrees t h x) (y : 
   pub agrees-sending : (nad n : ℕ) → act y ≡ sending nad n
       → stateFits t (withMessage (x .state) (message.Sending (record { nad = nad; length = n; next = 0 }))) ≡ true
       → Agrees t (h ▹ y) (held (withMessage (x .state) (message.Sending (record { nad = nad; length = n; next = 0 }))) (x .bytes))
-  unfolding closes planAfter planBy withMessage
+  unfolding closes planAfter planBy
   agrees-sending nad n a f =
       let c : closes y ≡ false = rw a in
       aside (withMessage (x .state) (message.Sending (record { nad = nad; length = n; next = 0 }))) f refl refl (rw a) c

@@ -15,6 +15,7 @@ use Rattle.transport.proofs.Tests.{whether}
 use Rattle.transport.proofs.WrittenLaws.{written-length}
 use Rattle.master.specs.declared.state.Opened.{Opened}
 use Rattle.master.specs.declared.state.Opened.the-variants.{Nothing, Frame, Request, Response}
+use Rattle.master.specs.declared.state.Message.{Message}
 use Rattle.master.specs.declared.state.State.{State}
 use Rattle.master.specs.declared.byte.ByteAnswer.{ByteAnswer}
 use Rattle.master.specs.declared.byte.ByteAnswer.the-variants as byte
@@ -23,7 +24,8 @@ use Rattle.master.specs.Admit.{Step}
 use Rattle.master.specs.Fits.{stateFits, frameThere}
 use Rattle.master.specs.Transfers.{isOpen, openLength, openIdentifier, openModel, openChecksum, sends}
 use Rattle.master.specs.Status.{statusAfter}
-use Rattle.master.specs.Closing.{failed, pendingSent, succeeded}
+use Rattle.master.specs.Message.{messageSent}
+use Rattle.master.specs.Closing.{failed, pendingSent, sent, received}
 use Rattle.master.specs.Byte.{passed, early, withByte, sentByte, checksumRight, accepted, lastByte, receivedByte, taken}
 use Rattle.master.specs.Seq.{Seq, _▹_}
 use Rattle.master.specs.Calls as call
@@ -36,6 +38,7 @@ use Rattle.master.specs.Answering.{messageAfter, dueAfter, storedBy, cou
 use Rattle.master.specs.Replies.{plain, sentReply, receivedReply, byteReply}
 use Rattle.master.proofs.Tests.{never}
 use Rattle.master.proofs.Admitted.{fits-clauses, open-count, open-length-high}
+use Rattle.master.proofs.PendingFits.{received-keeps}
 use Rattle.master.proofs.Lengths.{data-inside}
 use Rattle.master.proofs.ByteLaws.{stored-other}
 use Rattle.master.proofs.History.Words.{message-sent, message-failed}
@@ -83,6 +86,14 @@ module _ (t : List ℕ) (o : Opened) (due got : List ℕ) (b : ℕ) where
       by Request p s = never (sym s)
       by Response p s = refl
 
+-- a received transfer leaves the message
+received-message : (t : List ℕ) (o : Opened) (m : Message) → sends t o ≡ false → messageSent o m ≡ m
+unfolding sends messageSent
+received-message t Nothing m n = refl
+received-message t (Frame f) m n = refl
+received-message t Request m n = never (sym n)
+received-message t Response m n = refl
+
 module _ (t : List ℕ) (ok : RightTable t) (h : Seq Scheduled) (x : Held) (is : Agrees t h x) (b : ℕ)
     (open-now : isOpen (x .state .transfer .opened) ≡ true) where
   abbrev s : State
@@ -120,18 +131,33 @@ module _ (t : List ℕ) (ok : RightTable t) (h : Seq Scheduled) (x : Held) (is :
       status-is = end-status t h x is y b byte.Failure a refl open-now;
     }
 
-    -- success: the frame bytes are those handed over
-    agrees-succeeded : (c : ByteAnswer) → act y ≡ took b c → isEnd c ≡ true → isSuccess c ≡ true → stateFits t (succeeded t s) ≡ true → (after : List ℕ)
-        → FramesAre t (h ▹ y) (pendingSent o (s .transfer .written) (s .pending)) after → Agrees t (h ▹ y) (held (succeeded t s) after)
-    unfolding succeeded statusAfter planAfter planBy opens
-    agrees-succeeded c a e g f after fr = record {
-      fits = f;
-      frames = fr;
-      transfer = transfer-closed t h y (end-closes t h x is y b c a e) (rw a);
-      plan-is = rw a (is .plan-is);
-      message-is = message-sent o (s .message) ∙ sym (rw g at (end-message t h x is y b c a e));
-      status-is = rw g at (end-status t h x is y b c a e open-now);
-    }
+  -- a state that may stand after a success, with the frame bytes handed over
+  abbrev Ends : State → Type 0
+  Ends after =
+      (y : Scheduled) (c : ByteAnswer) → act y ≡ took b c → isEnd c ≡ true → isSuccess c ≡ true → stateFits t after ≡ true → (bs : List ℕ)
+      → FramesAre t (h ▹ y) (pendingSent o (s .transfer .written) (s .pending)) bs → Agrees t (h ▹ y) (held after bs)
+
+  agrees-sent : Ends (sent t s)
+  unfolding sent statusAfter planAfter planBy opens
+  agrees-sent y c a e g f bs fr = record {
+    fits = f;
+    frames = fr;
+    transfer = transfer-closed t h y (end-closes t h x is y b c a e) (rw a);
+    plan-is = rw a (is .plan-is);
+    message-is = message-sent o (s .message) ∙ sym (rw g at (end-message t h x is y b c a e));
+    status-is = rw g at (end-status t h x is y b c a e open-now);
+  }
+
+  agrees-received : sends t o ≡ false → Ends (received t s)
+  unfolding received statusAfter planAfter planBy opens
+  agrees-received n y c a e g f bs fr = record {
+    fits = f;
+    frames = rw (received-keeps t o (s .transfer .written) (s .pending) (fits-clauses t s (is .fits) .pending-fits) n) at fr;
+    transfer = transfer-closed t h y (end-closes t h x is y b c a e) (rw a);
+    plan-is = rw a (is .plan-is);
+    message-is = sym (received-message t o (s .message) n) ∙ message-sent o (s .message) ∙ sym (rw g at (end-message t h x is y b c a e));
+    status-is = rw g at (end-status t h x is y b c a e open-now);
+  }
 
   -- ---- its answer, by the tests that the state makes
 
@@ -232,14 +258,14 @@ module _ (t : List ℕ) (ok : RightTable t) (h : Seq Scheduled) (x : Held) (is :
     lawful = λ e q p k. never q;
   }
 
-  goes-succeeded : (c : ByteAnswer) (r : List ℕ) (after : List ℕ) → byteReply t (openAfter t h) (dueAfter t h) (gotAfter h) b ≡ record { answer = c; response = r }
+  goes-succeeded : (s′ : State) → Ends s′ → (c : ByteAnswer) (r : List ℕ) (after : List ℕ) → byteReply t (openAfter t h) (dueAfter t h) (gotAfter h) b ≡ record { answer = c; response = r }
       → act (event (record { answer = c; response = r })) ≡ took b c → isEnd c ≡ true → isSuccess c ≡ true
       → length after ≡ length (x .bytes) → after ≡ storedBy t o (gotAfter h) (x .bytes)
       → ((f : ℕ) → published t f ≡ true → (k : ℕ) → k < 8 → getD after (8 * f + k) 0 ≡ getD (x .bytes) (8 * f + k) 0)
-      → Goes (record { given = record { state = succeeded t s; answer = c; response = r }; left = after })
+      → Goes (record { given = record { state = s′; answer = c; response = r }; left = after })
   unfolding schedule
-  goes-succeeded c r after p a e g l st same f = record {
-    agrees = agrees-succeeded (event (record { answer = c; response = r })) c a e g f after
+  goes-succeeded s′ ends c r after p a e g l st same f = record {
+    agrees = ends (event (record { answer = c; response = r })) c a e g f after
         (frames-sent t h (s .pending) (x .bytes) (is .frames) (event (record { answer = c; response = r })) b c a g o (is .transfer .opened-is)
         (s .transfer .written) (is .transfer .rewritten-is) after l st same);
     replies = sym p;
@@ -249,15 +275,15 @@ module _ (t : List ℕ) (ok : RightTable t) (h : Seq Scheduled) (x : Held) (is :
   -- of a transfer that the master sends
   goes-sent : sends t o ≡ true → Goes (record { given = sentByte t s b; left = x .bytes })
   unfolding sentByte passed
-  goes-sent sent =
-      let r = sent-replies sent in
-      let n = sent-now sent in
+  goes-sent ours =
+      let r = sent-replies ours in
+      let n = sent-now ours in
       whether (eqb (getD (s .transfer .bytes) (s .transfer .count) 0) b)
       (λ e. whether (early t (s .transfer))
       (λ z. rw (e, z) (goes-more (s .transfer .bytes) (rw (e, z) at r)
       (transfer-more-sent t h (s .transfer) (is .transfer) (event (plain byte.More)) b more-act n not-above e)))
-      (λ z. rw (e, z) (goes-succeeded byte.Success (replicate 8 255) (x .bytes) (rw (e, z) at r) success-act refl refl refl
-      (sym (stored-sent t o (gotAfter h) (x .bytes) sent)) (λ f p k l. refl))))
+      (λ z. rw (e, z) (goes-succeeded (sent t s) agrees-sent byte.Success (replicate 8 255) (x .bytes) (rw (e, z) at r) success-act refl refl refl
+      (sym (stored-sent t o (gotAfter h) (x .bytes) ours)) (λ f p k l. refl))))
       (λ e. rw e (goes-failed (rw e at r)))
     where
       more-act : act (event (plain byte.More)) ≡ took b byte.More
@@ -276,7 +302,7 @@ module _ (t : List ℕ) (ok : RightTable t) (h : Seq Scheduled) (x : Held) (is :
       let there : frameThere t (Frame g) ≡ true = rw p at (fits-clauses t s (is .fits) .frame-there) in
       let ds : take (openLength t (Frame g)) (withByte (s .transfer) b) ≡ gotAfter h = rw p at (data-are n z) in
       let unpublished : published t g ≡ false = rw p at n in
-      goes-succeeded byte.Success (replicate 8 255) (lent.written (x .bytes) (8 * g) (take (openLength t (Frame g)) (withByte (s .transfer) b)))
+      goes-succeeded (received t s) (agrees-received n) byte.Success (replicate 8 255) (lent.written (x .bytes) (8 * g) (take (openLength t (Frame g)) (withByte (s .transfer) b)))
       (rw p at r) (event-act (plain byte.Success)) refl refl
       (written-length (x .bytes) (8 * g) (take (openLength t (Frame g)) (withByte (s .transfer) b))
       (data-inside t ok s (x .bytes) (is .frames .size) g (withByte (s .transfer) b) there))
@@ -287,7 +313,7 @@ module _ (t : List ℕ) (ok : RightTable t) (h : Seq Scheduled) (x : Held) (is :
   goes-accepted Response p n z r =
       let ds : take 8 (withByte (s .transfer) b) ≡ gotAfter h = rw p at (data-are n z) in
       rw ds
-      (goes-succeeded byte.Response (gotAfter h) (x .bytes) (rw p at r) (event-act (record { answer = byte.Response; response = gotAfter h })) refl refl refl
+      (goes-succeeded (received t s) (agrees-received n) byte.Response (gotAfter h) (x .bytes) (rw p at r) (event-act (record { answer = byte.Response; response = gotAfter h })) refl refl refl
       (rw p) (λ f q k l. refl))
 
   goes-received : sends t o ≡ false → Goes (receivedByte t s (x .bytes) b)

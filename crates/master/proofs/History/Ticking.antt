@@ -20,7 +20,6 @@ use Rattle.master.specs.declared.tick.Ticked.{Ticked}
 use Rattle.master.specs.Fits.{stateFits, isSending, lentFits, frameThere, entryOpens}
 use Rattle.master.specs.Transfers.{isOpen, openIdentifier, openProtected, opening}
 use Rattle.master.specs.Plan.{waits, waited, entryDue, begun}
-use Rattle.master.specs.Select.{withPlan}
 use Rattle.master.specs.Message.{messageFailed}
 use Rattle.master.specs.Tick.{firstPending, slotOpens, abandoned, ticked}
 use Rattle.master.specs.Seq.{Seq, _▹_}
@@ -50,6 +49,7 @@ use Rattle.master.proofs.History.OpeningIs.{Requests, transfer-opened}
 use Rattle.master.proofs.History.Closing.{abandoned-message, abandoned-transfer, start-is, start-message, start-status}
 use Rattle.master.proofs.History.Agrees.{Agrees, agrees-waited}
 use Rattle.master.proofs.History.Stepped.{Stepped}
+use Rattle.master.specs.State.{withPlan}
 
 -- what an accepted tick answers where its slot opens something or nothing
 answer-silent : (t : List ℕ) (o : Opened) → isOpen o ≡ false → tick.Silent ≡ answerFor t o
@@ -200,7 +200,7 @@ module _ (t : List ℕ) (ok : RightTable t) (h : Seq Scheduled) (x : Held) (is :
 
     goes-silent : (e : ℕ) → waits (s .plan) ≡ false → entryDue t (s .plan .requested) (s .plan .current) ≡ current.Entry e
         → isOpen (slotBy e) ≡ false → Goes (record { state = withPlan (abandoned t s) (begun t e); answer = tick.Silent })
-    unfolding schedule planWith withPlan opens begun
+    unfolding schedule planWith opens begun
     goes-silent e w c n f =
         let y = schedule t h (call.tick m ⇒ tick.Silent) in
         let d = due-entry e w c in
@@ -218,7 +218,7 @@ module _ (t : List ℕ) (ok : RightTable t) (h : Seq Scheduled) (x : Held) (is :
     goes-opened : (e : ℕ) (o : Opened) → waits (s .plan) ≡ false → entryDue t (s .plan .requested) (s .plan .current) ≡ current.Entry e
         → o ≡ slotBy e → isOpen o ≡ true
         → Goes (record { state = opened t (x .bytes) m (withPlan (abandoned t s) (begun t e)) o; answer = tick.Opened (openProtected t o) })
-    unfolding schedule planWith withPlan opens begun
+    unfolding schedule planWith opens begun
     goes-opened e o w c q p f =
         let a = tick.Opened (openProtected t o) in
         let y = schedule t h (call.tick m ⇒ a) in

@@ -6,8 +6,7 @@ use Rattle.master.proofs.state.State.failed.Tie as tie
 
 returns : tie.Need-returns
 unfolding failed
-returns c = rw (c .after .ensures, c .before .protected .ensures, c .before .before .failed .ensures, c .before .before .before .none .ensures)
+returns c = rw (c .with-message .ensures, c .before .failed .ensures, c .before .before .closed .ensures)
 
 pub failed-spec : {M : Type 1} → statement M
-failed-spec =
-    tie.close (tie.spec (λ c κs. search needs) (λ c κs. search needs) (λ c κs. search needs) (λ c κs. search needs) returns)
+failed-spec = tie.close (tie.spec (λ c κs. search needs) (λ c κs. search needs) (λ c κs. search needs) returns)

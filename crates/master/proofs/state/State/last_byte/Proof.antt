@@ -30,11 +30,11 @@ returns c =
     let if1 = c .before .before .if1 in
     record { handed = rw (← checksum-right .ensures, not-true (checksum-right .result) (if1 .taken), c .answering .ensures, c .before .failed .ensures); kept = rw (← checksum-right .ensures, not-true (checksum-right .result) (if1 .taken)) }
 
-succeeded-requires : tie.Need-succeeded-requires
-succeeded-requires c κs =
+received-requires : tie.Need-received-requires
+received-requires c κs =
     let a = c .before .before .before .before .before .args in
     let asked = c .before .before .before .before .before .pre in
-    (byte-table (a .t .now) (length (a .bytes .now)) (a .self) asked, byte-fits (a .t .now) (length (a .bytes .now)) (a .self) asked .frame-there, byte-fits (a .t .now) (length (a .bytes .now)) (a .self) asked .message-fits)
+    byte-identifier (a .t .now) (length (a .bytes .now)) (a .self) asked
 
 store-requires : tie.Need-store-requires
 store-requires c κs =
@@ -48,7 +48,7 @@ unfolding lastByte
 returns-2 c =
     let a = c .before .before .before .before .before .before .before .before .before .args in
     let checksum-right = c .before .before .before .before .before .checksum-right in
-    last-nothing (a .t .now) (a .self) (a .nine) (a .bytes .now) (sym (checksum-right .ensures) ∙ not-false (checksum-right .result) (c .before .before .before .before .if1 .left)) _ _ (c .before .enum-told .given .1) (c .answering2 .ensures ∙ rw (c .before .before .before .succeeded .ensures)) refl
+    last-nothing (a .t .now) (a .self) (a .nine) (a .bytes .now) (sym (checksum-right .ensures) ∙ not-false (checksum-right .result) (c .before .before .before .before .if1 .left)) _ _ (c .before .enum-told .given .1) (c .answering2 .ensures ∙ rw (c .before .before .before .received .ensures)) refl
 
 returns-3 : tie.Need-returns-3
 unfolding lastByte
@@ -56,29 +56,29 @@ returns-3 c =
     let a = c .before .before .before .before .before .before .before .before .before .before .before .before .before .before .before .args in
     let checksum-right = c .before .before .before .before .before .before .before .before .before .before .before .checksum-right in
     let if1 = c .before .before .before .before .before .before .before .before .before .before .if1 in
-    let succeeded = c .before .before .before .before .before .before .before .before .before .succeeded in
+    let received = c .before .before .before .before .before .before .before .before .before .received in
     let opened = c .before .before .before .before .before .before .before .opened in
     let told = c .before .before .before .before .length in
-    last-frame (a .t .now) (a .self) (a .nine) (a .bytes .now) (sym (checksum-right .ensures) ∙ not-false (checksum-right .result) (if1 .left)) _ _ (opened .given .0 .0) (told .result) (opened .given .1) (c .answering3 .ensures ∙ rw (succeeded .ensures)) (told .ensures) (c .before .before .before .store .ensures)
+    last-frame (a .t .now) (a .self) (a .nine) (a .bytes .now) (sym (checksum-right .ensures) ∙ not-false (checksum-right .result) (if1 .left)) _ _ (opened .given .0 .0) (told .result) (opened .given .1) (c .answering3 .ensures ∙ rw (received .ensures)) (told .ensures) (c .before .before .before .store .ensures)
 
 returns-4 : tie.Need-returns-4
 unfolding lastByte
 returns-4 c =
     let a = c .before .before .before .before .before .before .before .before .before .args in
     let checksum-right = c .before .before .before .before .before .checksum-right in
-    last-request (a .t .now) (a .self) (a .nine) (a .bytes .now) (sym (checksum-right .ensures) ∙ not-false (checksum-right .result) (c .before .before .before .before .if1 .left)) _ _ (c .before .enum-told2 .given .1) (c .answering4 .ensures ∙ rw (c .before .before .before .succeeded .ensures)) refl
+    last-request (a .t .now) (a .self) (a .nine) (a .bytes .now) (sym (checksum-right .ensures) ∙ not-false (checksum-right .result) (c .before .before .before .before .if1 .left)) _ _ (c .before .enum-told2 .given .1) (c .answering4 .ensures ∙ rw (c .before .before .before .received .ensures)) refl
 
 returns-5 : tie.Need-returns-5
 unfolding lastByte
 returns-5 c =
     let a = c .before .before .before .before .before .before .before .before .before .args in
     let checksum-right = c .before .before .before .before .before .checksum-right in
-    last-response (a .t .now) (a .self) (a .nine) (a .bytes .now) (sym (checksum-right .ensures) ∙ not-false (checksum-right .result) (c .before .before .before .before .if1 .left)) _ _ (c .before .enum-told3 .given .1) (c .responding .ensures ∙ rw (c .before .before .before .succeeded .ensures)) refl
+    last-response (a .t .now) (a .self) (a .nine) (a .bytes .now) (sym (checksum-right .ensures) ∙ not-false (checksum-right .result) (c .before .before .before .before .if1 .left)) _ _ (c .before .enum-told3 .given .1) (c .responding .ensures ∙ rw (c .before .before .before .received .ensures)) refl
 
 pub last-byte-spec : {M : Type 1} → statement M
 last-byte-spec =
     tie.close
-    (tie.spec checksum-right-requires failed-requires (λ c κs. search needs) returns succeeded-requires
+    (tie.spec checksum-right-requires failed-requires (λ c κs. search needs) returns received-requires
     (λ c. search needs) (λ c κs. search needs) (λ c. search needs) (λ c κs. search needs) store-requires
     (λ c κs. search needs) (λ c. search needs) (λ c κs. search needs) (λ c. search needs) (λ c κs. search needs)
     returns-2 (λ c. search needs) returns-3 returns-4 returns-5)

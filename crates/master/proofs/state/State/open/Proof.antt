@@ -12,16 +12,17 @@ returns c = rw (← c .before .is-open .ensures, not-true (c .before .is-open .r
 
 protected-requires : tie.Need-protected-requires
 protected-requires c κs =
-    let a = c .before .before .before .before .before .before .args in
-    let asked = c .before .before .before .before .before .before .pre in
+    let a = c .before .before .before .before .before .before .before .args in
+    let asked = c .before .before .before .before .before .before .before .pre in
     open-identifier (a .t .now) (asked .0) (a .opened) (asked .2)
 
 returns-2 : tie.Need-returns-2
 unfolding opens
 returns-2 c =
-    let is-open = c .before .before .before .is-open in
-    rw (← is-open .ensures, not-false (is-open .result) (c .before .before .if1 .left), c .protected .ensures, c .before .opening .ensures)
+    let is-open = c .before .before .before .before .is-open in
+    let left = not-false (is-open .result) (c .before .before .before .if1 .left) in
+    rw (← is-open .ensures, left, c .protected .ensures, c .before .with-transfer .ensures, c .before .before .opening .ensures)
 
 pub open-spec : {M : Type 1} → statement M
 open-spec =
-    tie.close (tie.spec (λ c κs. search needs) returns (λ c κs. search needs) protected-requires returns-2)
+    tie.close (tie.spec (λ c κs. search needs) returns (λ c κs. search needs) (λ c κs. search needs) protected-requires returns-2)

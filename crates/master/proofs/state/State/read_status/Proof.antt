@@ -13,12 +13,13 @@ returns c =
 returns-2 : tie.Need-returns-2
 unfolding statusOf
 returns-2 c =
-    let buffer-size = c .before .before .before .before .before .before .buffer-size in
-    let admit = c .before .before .before .before .before .admit in
-    rw (← buffer-size .ensures, ← admit .ensures, c .before .before .before .enum-told .given .1, c .word .ensures, c .before .without-status .ensures)
+    let buffer-size = c .before .before .before .before .before .before .before .buffer-size in
+    let admit = c .before .before .before .before .before .before .admit in
+    let accepted = c .before .before .before .before .enum-told in
+    rw (← buffer-size .ensures, ← admit .ensures, accepted .given .1, c .word .ensures, c .before .with-status .ensures, c .before .before .none .ensures)
 
 pub read-status-spec : {M : Type 1} → statement M
 read-status-spec =
     tie.close
     (tie.spec (λ c κs. search needs) (λ c κs. search needs) (λ c. search needs) returns (λ c. search needs)
-    (λ c κs. search needs) (λ c κs. search needs) returns-2)
+    (λ c κs. search needs) (λ c κs. search needs) (λ c κs. search needs) returns-2)

@@ -1,0 +1,12 @@
+-- `state::State::received` meets its contract.
+use borrow.Author.Needs.{needs}
+use Rattle.master.specs.Closing.{received}
+use Rattle.master.proofs.state.State.received.Statement.{statement}
+use Rattle.master.proofs.state.State.received.Tie as tie
+
+returns : tie.Need-returns
+unfolding received
+returns c = rw (c .closed .ensures)
+
+pub received-spec : {M : Type 1} → statement M
+received-spec = tie.close (tie.spec (λ c κs. search needs) returns)
