@@ -1,38 +1,47 @@
--- Marking a signal's frame as written is setting one pending bit.
-use Prim.Native.Nat.{ℕ, zero, suc, _+_, _<_}
+-- Marking goes from frame to frame: what is to be marked from the start is what was marked so far and what is still to be marked.
+use Prim.Native.Nat.{ℕ, suc, _+_, _<_, _≤_}
 use mathlib.Core.Path.{_≡_, refl, sym}
 use mathlib.Core.Bool.{Bool, true, false}
-use mathlib.Core.List.{List, [], _∷_}
+use mathlib.Core.List.{List, [], _∷_, _++_}
 use native.Mathlib.Omega.{arith}
-use borrow.Author.Tests.{eq-eqb, ne-eqb}
-use lib.ListN.{set}
-use Rattle.cluster.specs.Table.{signalFrame}
+use native.Mathlib.Numerals.{add-one}
+use lib.ListN.{set, length, getD, take, drop, take-append-drop}
+use lib.Seq.{drop-cons, take-suc, take-suc-set, drop-set-lt, append-snoc}
+use Rattle.cluster.specs.Check.{RightTable}
+use Rattle.cluster.specs.Table.{frameCount, signalCount}
 use Rattle.cluster.specs.Values.{touches}
+use Rattle.cluster.proofs.ValueLaws.{touched-below}
+use Rattle.transport.proofs.Tests.{whether}
 use Rattle.master.specs.Write.{markedFrom}
 use Rattle.master.proofs.Tests.{or-true, or-false}
 
-module _ (t : List ℕ) (s : ℕ) where
-  own : (f : ℕ) → signalFrame t s ≡ f → touches t s f ≡ true
-  unfolding touches
-  own f e = eq-eqb (signalFrame t s) f e
+module _ (t : List ℕ) (s f : ℕ) (bits : List Bool) where
+  -- the bits as they are after f frames, with those of the later ones marked
+  abbrev pub markedOn : List Bool
+  markedOn = take f bits ++ markedFrom t s f (drop f bits)
 
-  other : (f : ℕ) → (signalFrame t s ≡ f → ⊥) → touches t s f ≡ false
-  unfolding touches
-  other f n = ne-eqb (signalFrame t s) f n
-
-  -- no bit behind the signal's frame is marked
-  behind : (f : ℕ) (bits : List Bool) → signalFrame t s < f → markedFrom t s f bits ≡ bits
+module _ (t : List ℕ) (s f : ℕ) (bits : List Bool) where
+  pub mark-this : f < length bits → touches t s f ≡ true → markedOn t s f bits ≡ markedOn t s (f + 1) (set bits f true)
   unfolding markedFrom
-  behind f [] h = refl
-  behind f (bit ∷ bits) h = rw (other f (λ d. omega arith), or-false bit, behind (suc f) bits (omega arith))
+  mark-this h y =
+      rw (drop-cons bits f false h, y, or-true (getD bits f false), add-one, take-suc-set bits f true h, drop-set-lt (suc f) bits f true (omega arith))
+      (sym (append-snoc (take f bits) true (markedFrom t s (suc f) (drop (suc f) bits))))
 
-  -- the bit as far from the first as the signal's frame is marked
-  from : (f i : ℕ) (bits : List Bool) → signalFrame t s ≡ f + i → markedFrom t s f bits ≡ set bits i true
+  pub mark-next : f < length bits → touches t s f ≡ false → markedOn t s f bits ≡ markedOn t s (f + 1) bits
   unfolding markedFrom
-  from f i [] e = refl
-  from f zero (bit ∷ bits) e = rw (own f (omega arith), or-true bit, behind (suc f) bits (omega arith))
-  from f (suc i) (bit ∷ bits) e = rw (other f (λ d. omega arith), or-false bit, from (suc f) i bits (omega arith))
+  mark-next h n =
+      rw (drop-cons bits f false h, n, or-false (getD bits f false), add-one, take-suc bits f false h)
+      (sym (append-snoc (take f bits) (getD bits f false) (markedFrom t s (suc f) (drop (suc f) bits))))
 
--- the pending bits with those of the frames that a signal touches set are those with its frame's bit set
-pub set-marked : (t : List ℕ) (s : ℕ) (bits : List Bool) → set bits (signalFrame t s) true ≡ markedFrom t s 0 bits
-set-marked t s bits = sym (from t s 0 (signalFrame t s) bits (omega arith))
+module _ (t : List ℕ) (ok : RightTable t) (s : ℕ) (there : s < signalCount t) where
+  -- a signal touches no frame that is not there
+  pub untouched : (f : ℕ) → frameCount t ≤ f → touches t s f ≡ false
+  untouched f h = whether (touches t s f) (λ y. absurd (omega (arith, touched-below t ok s there f y))) (λ n. n)
+
+  none-marked : (f : ℕ) (bits : List Bool) → frameCount t ≤ f → markedFrom t s f bits ≡ bits
+  unfolding markedFrom
+  none-marked f [] h = refl
+  none-marked f (bit ∷ bits) h = rw (untouched f h, or-false bit, none-marked (suc f) bits (omega arith))
+
+  pub mark-end : (f : ℕ) (bits : List Bool) → frameCount t ≤ f → markedOn t s f bits ≡ bits
+  mark-end f bits h = rw (none-marked f (drop f bits) h) (take-append-drop f bits)

@@ -4,6 +4,7 @@ use crate::state::Opened;
 use crate::state::State;
 use crate::state::Transfer;
 use cluster::Verdict;
+use cluster::frames;
 use cluster::signals;
 use cluster::values;
 use refusal::Refusal;
@@ -95,11 +96,10 @@ impl State {
         requires { ⌜ RightTable (now t) × (s < signalCount (now t)) ⌝ }
         ensures { λ r. ⌜ r ≡ markedOf (now (t .entry)) s self ⌝ }
     {
+        let pending = self.pending;
         let transfer = self.transfer;
-        let mut next = self;
-        next.pending[signals::frame(t, s) as usize] = true;
-        next.transfer = transfer.rewritten(t, s);
-        next
+        self.with_pending(touched_too(t, s, pending))
+            .with_transfer(transfer.rewritten(t, s))
     }
 }
 
@@ -129,6 +129,23 @@ impl Opened {
             Opened::Response => false,
         }
     }
+}
+
+// The pending bits with those of the frames that a signal touches.
+fn touched_too(t: &[u16], s: u16, pending: [bool; 60]) -> [bool; 60]
+    requires { ⌜ RightTable (now t) × (s < signalCount (now t)) ⌝ }
+    ensures { λ r. ⌜ r ≡ markedFrom (now (t .entry)) s 0 pending ⌝ }
+{
+    let mut bits = pending;
+    let n = frames::count(t);
+    let mut f: u16 = 0;
+    while f < n {
+        if values::touches(t, s, f) {
+            bits[f as usize] = true;
+        }
+        f += 1;
+    }
+    bits
 }
 
 // Refusals 4 to 7 of a write.
