@@ -2,13 +2,13 @@
 use cluster::Verdict;
 use master::ahead::AheadAnswer;
 use master::byte::ByteAnswer;
-use master::message::MessageAnswer;
-use master::message::SendAnswer;
 use master::read::ArrayAnswer;
 use master::read::ReadAnswer;
+use master::read::StatusAnswer;
 use master::select::SelectAnswer;
+use master::send::MessageAnswer;
+use master::send::SendAnswer;
 use master::start::FreshAnswer;
-use master::status::StatusAnswer;
 use master::tick::TickAnswer;
 use master::write::WriteAnswer;
 use refusal::Refusal;

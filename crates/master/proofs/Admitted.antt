@@ -17,7 +17,7 @@ use Rattle.cluster.proofs.FrameLaws.{identifier-below, frame-length-low, frame-
 use Rattle.master.specs.declared.state.Opened.{Opened}
 use Rattle.master.specs.declared.state.Opened.the-variants.{Nothing, Frame, Request, Response}
 use Rattle.master.specs.declared.state.State.{State}
-use Rattle.master.specs.Transfers.{isOpen, openLength, openIdentifier}
+use Rattle.master.specs.Transfers.{formatOf, isOpen, openLength, openIdentifier}
 use Rattle.master.specs.Fits.{entryThere, scheduleThere, frameThere, waitFits, pendingFits, canOpen, countFits, messageFits, stateFits}
 use Rattle.master.specs.Admit.{unless, bufferSize, admitted}
 
@@ -119,7 +119,7 @@ module _ (t : List ℕ) (ok : RightTable t) where
 
   -- its identifier is one of 0..63
   pub open-identifier : (o : Opened) → frameThere t o ≡ true → openIdentifier t o < 64
-  unfolding openIdentifier
+  unfolding formatOf
   open-identifier Nothing h = omega arith
   open-identifier (Frame f) h = omega (arith, identifier-below t ok f (frame-below f h))
   open-identifier Request h = omega arith
@@ -127,7 +127,7 @@ module _ (t : List ℕ) (ok : RightTable t) where
 
   -- it has at least one data byte
   pub open-length-low : (o : Opened) → frameThere t o ≡ true → isOpen o ≡ true → 1 ≤ openLength t o
-  unfolding openLength isOpen
+  unfolding isOpen formatOf
   open-length-low Nothing h p =
       let z : _≡_ {A = ℕ} 0 1 = cc in absurd (omega arith)
   open-length-low (Frame f) h p = frame-length-low t ok f (frame-below f h)
@@ -136,7 +136,7 @@ module _ (t : List ℕ) (ok : RightTable t) where
 
   -- it has at most eight
   pub open-length-high : (o : Opened) → frameThere t o ≡ true → openLength t o ≤ 8
-  unfolding openLength
+  unfolding formatOf
   open-length-high Nothing h = omega arith
   open-length-high (Frame f) h = frame-length-high t ok f (frame-below f h)
   open-length-high Request h = omega arith

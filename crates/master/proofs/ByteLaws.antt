@@ -22,7 +22,7 @@ use Rattle.master.specs.declared.byte.Took.{Took}
 use Rattle.master.specs.Admit.{admitted, answered, bufferSize, Step}
 use Rattle.master.specs.Answers.{successful}
 use Rattle.master.specs.Fits.{frameThere}
-use Rattle.master.specs.Transfers.{openLength, sends, frameData}
+use Rattle.master.specs.Transfers.{formatOf, openLength, sends, frameData}
 use Rattle.master.specs.Closing.{failed, pendingSent, sent, received}
 use Rattle.master.specs.Byte.{plain, passed, withByte, sentByte, accepted, taken, byteVerdict, byteOf}
 use Rattle.master.proofs.Admitted.{admitted-table, admitted-size, admitted-fits, fits-clauses, open-length-high}
@@ -100,7 +100,7 @@ module _ (t : List ℕ) (s : State) (bs : List ℕ) (b g : ℕ) where
 
   -- a byte in changes the data of no published frame: only writes do
   pub byte-published : published t g ≡ true → frameData t (byteOf t s bs b .left) g ≡ frameData t bs g
-  unfolding sends
+  unfolding formatOf
   byte-published p =
       byte-other-frames (λ n e. let q : published t g ≡ false = rw e at n in let z : _≡_ {A = ℕ} 0 1 = cc in omega arith)
 

@@ -17,8 +17,8 @@ use Rattle.master.specs.declared.write.Wrote.{Wrote}
 use Rattle.master.specs.declared.select.Chosen.{Chosen}
 use Rattle.master.specs.declared.tick.Ticked.{Ticked}
 use Rattle.master.specs.declared.byte.Took.{Took}
-use Rattle.master.specs.declared.status.StatusRead.{StatusRead}
-use Rattle.master.specs.declared.message.Sent.{Sent}
+use Rattle.master.specs.declared.read.StatusRead.{StatusRead}
+use Rattle.master.specs.declared.send.Sent.{Sent}
 use Rattle.master.specs.Fits.{stateFits}
 use Rattle.master.specs.Admit.{admitted, bufferSize, Step}
 use Rattle.master.specs.Write.{marked, writable, wrote, writeOf, writeArrayOf}

@@ -20,8 +20,8 @@ use Rattle.master.specs.declared.read.ReadArray.{ReadArray}
 use Rattle.master.specs.declared.select.Chosen.{Chosen}
 use Rattle.master.specs.declared.tick.Ticked.{Ticked}
 use Rattle.master.specs.declared.byte.Took.{Took}
-use Rattle.master.specs.declared.status.StatusRead.{StatusRead}
-use Rattle.master.specs.declared.message.Sent.{Sent}
+use Rattle.master.specs.declared.read.StatusRead.{StatusRead}
+use Rattle.master.specs.declared.send.Sent.{Sent}
 use Rattle.master.specs.Admit.{admitted, answered, bufferSize, Step}
 use Rattle.master.specs.Answers.{verdictNumber, freshRefusal, writeRefusal, readRefusal, arrayRefusal, selectRefusal, tickRefusal}
 use Rattle.master.specs.Answers.{byteRefusal, statusRefusal, sendRefusal, messageRefusal, aheadRefusal}

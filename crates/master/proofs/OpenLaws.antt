@@ -20,7 +20,7 @@ use Rattle.master.specs.declared.state.Message.{Message}
 use Rattle.master.specs.declared.state.Message.the-variants.{None, Sending, Completed, Failed}
 use Rattle.master.specs.Admit.{bufferSize}
 use Rattle.master.specs.Fits.{frameThere, messageFits}
-use Rattle.master.specs.Transfers.{sends, openChecksum, frameData, requestData, sentData, copied, opening}
+use Rattle.master.specs.Transfers.{formatOf, sends, openChecksum, frameData, requestData, sentData, copied, opening}
 use Rattle.master.proofs.Admitted.{frame-below}
 use Rattle.master.proofs.Counted.{sending-length, sending-next}
 
@@ -72,13 +72,13 @@ copied-length t o ds h =
 pub opening-copy : (t bs : List ℕ) (x : Message) (m : List ℕ) (f : ℕ) → published t f ≡ true
     → opening t bs x m (Frame f) .bytes
     ≡ frameData t bs f ++ (openChecksum t (Frame f) (frameData t bs f) ∷ replicate (8 - length (frameData t bs f)) 255)
-unfolding opening sends sentData copied
+unfolding opening sentData copied formatOf
 opening-copy t bs x m f p = rw p
 
 -- opening a request copies the frame cut from the message and its checksum
 pub request-copy : (t bs : List ℕ) (x : Message) (m : List ℕ)
     → opening t bs x m Request .bytes ≡ requestData x m ++ (openChecksum t Request (requestData x m) ∷ [])
-unfolding opening sends sentData copied
+unfolding opening sentData copied formatOf
 request-copy t bs x m = rw (request-data-length x m)
 
 -- opening a frame that the master does not publish, or a response, copies nothing

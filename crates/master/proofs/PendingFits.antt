@@ -16,7 +16,7 @@ use Rattle.master.specs.declared.state.Opened.{Opened}
 use Rattle.master.specs.declared.state.Opened.the-variants.{Nothing, Frame, Request, Response}
 use Rattle.master.specs.Fits.{bitFits, pendingFits}
 use Rattle.master.specs.Write.{markedFrom}
-use Rattle.master.specs.Transfers.{sends}
+use Rattle.master.specs.Transfers.{formatOf, sends}
 use Rattle.master.specs.Closing.{clearedBit, pendingSent}
 use Rattle.master.proofs.Tests.{and-true, or-true, or-false, never}
 
@@ -59,7 +59,7 @@ module _ (t : List ℕ) where
 
   -- a received transfer ends no pending
   pub received-keeps : (o : Opened) (written : Bool) (bits : List Bool) → pendingFits t 0 bits ≡ true → sends t o ≡ false → pendingSent o written bits ≡ bits
-  unfolding pendingSent clearedBit sends
+  unfolding pendingSent clearedBit formatOf
   received-keeps Nothing written bits h n = refl
   received-keeps (Frame f) true bits h n = refl
   received-keeps (Frame f) false bits h n = unpublished-from 0 f f bits h (omega arith) n

@@ -11,7 +11,7 @@ use Rattle.master.specs.declared.state.State.{State}
 use Rattle.master.specs.declared.select.Chosen.{Chosen}
 use Rattle.master.specs.declared.tick.Ticked.{Ticked}
 use Rattle.master.specs.declared.byte.Took.{Took}
-use Rattle.master.specs.declared.message.Sent.{Sent}
+use Rattle.master.specs.declared.send.Sent.{Sent}
 use Rattle.master.specs.Transfers.{isOpen, openProtected}
 use Rattle.master.specs.Admit.{Step}
 use Rattle.master.specs.Select.{selectVerdict, selectOf}

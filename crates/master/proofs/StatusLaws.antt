@@ -11,8 +11,8 @@ use Rattle.wire.proofs.Tests.{digit-below}
 use Rattle.transport.proofs.Tests.{whether}
 use Rattle.master.specs.declared.state.Status.{Status}
 use Rattle.master.specs.declared.state.State.{State}
-use Rattle.master.specs.declared.status.StatusAnswer.the-variants.{Word}
-use Rattle.master.specs.declared.status.StatusRead.{StatusRead}
+use Rattle.master.specs.declared.read.StatusAnswer.the-variants.{Word}
+use Rattle.master.specs.declared.read.StatusRead.{StatusRead}
 use Rattle.master.specs.Transfers.{isOpen}
 use Rattle.master.specs.Admit.{admitted, bufferSize}
 use Rattle.master.specs.Status.{counted, statusAfter, statusWord, statusOf}

@@ -11,10 +11,10 @@ use Rattle.master.specs.declared.tick.TickAnswer.{TickAnswer}
 use Rattle.master.specs.declared.tick.TickAnswer.the-variants as tick
 use Rattle.master.specs.declared.byte.ByteAnswer.{ByteAnswer}
 use Rattle.master.specs.declared.byte.ByteAnswer.the-variants as byte
-use Rattle.master.specs.declared.status.StatusAnswer.{StatusAnswer}
-use Rattle.master.specs.declared.status.StatusAnswer.the-variants as status
-use Rattle.master.specs.declared.message.SendAnswer.{SendAnswer}
-use Rattle.master.specs.declared.message.SendAnswer.the-variants as send
+use Rattle.master.specs.declared.read.StatusAnswer.{StatusAnswer}
+use Rattle.master.specs.declared.read.StatusAnswer.the-variants as status
+use Rattle.master.specs.declared.send.SendAnswer.{SendAnswer}
+use Rattle.master.specs.declared.send.SendAnswer.the-variants as send
 use Rattle.master.specs.Calls as call
 use Rattle.master.specs.Calls.{Event, _⇒_}
 

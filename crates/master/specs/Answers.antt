@@ -17,12 +17,12 @@ use Rattle.master.specs.declared.tick.TickAnswer.{TickAnswer}
 use Rattle.master.specs.declared.tick.TickAnswer.the-variants as tick
 use Rattle.master.specs.declared.byte.ByteAnswer.{ByteAnswer}
 use Rattle.master.specs.declared.byte.ByteAnswer.the-variants as byte
-use Rattle.master.specs.declared.status.StatusAnswer.{StatusAnswer}
-use Rattle.master.specs.declared.status.StatusAnswer.the-variants as status
-use Rattle.master.specs.declared.message.SendAnswer.{SendAnswer}
-use Rattle.master.specs.declared.message.SendAnswer.the-variants as send
-use Rattle.master.specs.declared.message.MessageAnswer.{MessageAnswer}
-use Rattle.master.specs.declared.message.MessageAnswer.the-variants as message
+use Rattle.master.specs.declared.read.StatusAnswer.{StatusAnswer}
+use Rattle.master.specs.declared.read.StatusAnswer.the-variants as status
+use Rattle.master.specs.declared.send.SendAnswer.{SendAnswer}
+use Rattle.master.specs.declared.send.SendAnswer.the-variants as send
+use Rattle.master.specs.declared.send.MessageAnswer.{MessageAnswer}
+use Rattle.master.specs.declared.send.MessageAnswer.the-variants as message
 use Rattle.master.specs.declared.ahead.AheadAnswer.{AheadAnswer}
 use Rattle.master.specs.declared.ahead.AheadAnswer.the-variants as ahead
 

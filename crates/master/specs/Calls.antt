@@ -7,9 +7,9 @@ use Rattle.master.specs.declared.read.ReadArray.{ReadArray}
 use Rattle.master.specs.declared.select.SelectAnswer.{SelectAnswer}
 use Rattle.master.specs.declared.tick.TickAnswer.{TickAnswer}
 use Rattle.master.specs.declared.byte.ByteAnswer.{ByteAnswer}
-use Rattle.master.specs.declared.status.StatusAnswer.{StatusAnswer}
-use Rattle.master.specs.declared.message.SendAnswer.{SendAnswer}
-use Rattle.master.specs.declared.message.MessageAnswer.{MessageAnswer}
+use Rattle.master.specs.declared.read.StatusAnswer.{StatusAnswer}
+use Rattle.master.specs.declared.send.SendAnswer.{SendAnswer}
+use Rattle.master.specs.declared.send.MessageAnswer.{MessageAnswer}
 use Rattle.master.specs.declared.ahead.AheadAnswer.{AheadAnswer}
 
 -- a call behind the fresh one, with what it is given beside the table, the state and the frame bytes; "Values, arrays and lent

@@ -14,10 +14,10 @@ use Rattle.master.specs.declared.state.Message.the-variants.{None, Sendi
 use Rattle.master.specs.declared.state.Opened.{Opened}
 use Rattle.master.specs.declared.state.Opened.the-variants as opened
 use Rattle.master.specs.declared.state.State.{State}
-use Rattle.master.specs.declared.message.SendAnswer.the-variants as send
-use Rattle.master.specs.declared.message.Sent.{Sent}
-use Rattle.master.specs.declared.message.MessageAnswer.{MessageAnswer}
-use Rattle.master.specs.declared.message.MessageAnswer.the-variants as tells
+use Rattle.master.specs.declared.send.SendAnswer.the-variants as send
+use Rattle.master.specs.declared.send.Sent.{Sent}
+use Rattle.master.specs.declared.send.MessageAnswer.{MessageAnswer}
+use Rattle.master.specs.declared.send.MessageAnswer.the-variants as tells
 use Rattle.master.specs.State.{withMessage}
 use Rattle.master.specs.Fits.{isSending}
 use Rattle.master.specs.Admit.{unless, admitted, answered, bufferSize}

@@ -5,8 +5,8 @@ use mathlib.Core.List.{List}
 use Rattle.wire.specs.Bits.{digit}
 use Rattle.master.specs.declared.state.Status.{Status}
 use Rattle.master.specs.declared.state.State.{State}
-use Rattle.master.specs.declared.status.StatusAnswer.the-variants as answer
-use Rattle.master.specs.declared.status.StatusRead.{StatusRead}
+use Rattle.master.specs.declared.read.StatusAnswer.the-variants as answer
+use Rattle.master.specs.declared.read.StatusRead.{StatusRead}
 use Rattle.master.specs.Fresh.{noStatus}
 use Rattle.master.specs.State.{withStatus}
 use Rattle.master.specs.Admit.{admitted, answered, bufferSize}

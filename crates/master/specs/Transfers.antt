@@ -14,6 +14,7 @@ use Rattle.master.specs.declared.state.Opened.the-variants.{Nothing, Fra
 use Rattle.master.specs.declared.state.Message as state
 use Rattle.master.specs.declared.state.Message.the-variants as message
 use Rattle.master.specs.declared.state.Transfer.{Transfer}
+use Rattle.master.specs.declared.transfer.Format.{Format}
 
 -- a transfer is open
 unfoldable pub isOpen : Opened → Bool
@@ -22,33 +23,27 @@ isOpen (Frame f) = true
 isOpen Request = true
 isOpen Response = true
 
--- the data bytes of a transfer; requests and responses have "length 8"
-unfoldable pub openLength : List ℕ → Opened → ℕ
-openLength t Nothing = 0
-openLength t (Frame f) = frameLength t f
-openLength t Request = 8
-openLength t Response = 8
+-- what is known of a transfer: "Kind 2 opens identifier 60", "Kind 3 always opens identifier 61", both of "length 8"; "Identifiers
+-- 60 to 63 use classic (000); the others as the table says."; the master sends the response of "published frames and kind 2"
+unfoldable pub formatOf : List ℕ → Opened → Format
+formatOf t Nothing = record { identifier = 0; length = 0; model = Classic; sends = false }
+formatOf t (Frame f) = record { identifier = identifier t f; length = frameLength t f; model = frameModel t f; sends = published t f }
+formatOf t Request = record { identifier = 60; length = 8; model = Classic; sends = true }
+formatOf t Response = record { identifier = 61; length = 8; model = Classic; sends = false }
 
--- "Kind 2 opens identifier 60", "Kind 3 always opens identifier 61"
-unfoldable pub openIdentifier : List ℕ → Opened → ℕ
-openIdentifier t Nothing = 0
-openIdentifier t (Frame f) = identifier t f
-openIdentifier t Request = 60
-openIdentifier t Response = 61
+abbrev pub openIdentifier : List ℕ → Opened → ℕ
+openIdentifier t o = formatOf t o .identifier
 
--- "Identifiers 60 to 63 use classic (000); the others as the table says."
-unfoldable pub openModel : List ℕ → Opened → Model
-openModel t Nothing = Classic
-openModel t (Frame f) = frameModel t f
-openModel t Request = Classic
-openModel t Response = Classic
+-- the data bytes of a transfer
+abbrev pub openLength : List ℕ → Opened → ℕ
+openLength t o = formatOf t o .length
 
--- the master sends the response: of "published frames and kind 2"
-unfoldable pub sends : List ℕ → Opened → Bool
-sends t Nothing = false
-sends t (Frame f) = published t f
-sends t Request = true
-sends t Response = false
+abbrev pub openModel : List ℕ → Opened → Model
+openModel t o = formatOf t o .model
+
+-- the master sends the response
+abbrev pub sends : List ℕ → Opened → Bool
+sends t o = formatOf t o .sends
 
 -- the protected identifier of a transfer
 unfoldable pub openProtected : List ℕ → Opened → ℕ

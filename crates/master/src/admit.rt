@@ -1,13 +1,15 @@
 // Tests 1, 2 and 3, which stand at the head of the calls.
+use crate::pending::pending_fits;
 use crate::state::State;
 use cluster::Verdict;
 use cluster::check;
 use cluster::frames;
 use refusal::Refusal;
 ghost use mathlib.Core.Path.{_≡_};
+ghost use Rattle.master.specs.Admit.{bufferSize, admitted};
 ghost use Rattle.refusal.specs.Numbers.{refused as refusedWith};
 ghost use Rattle.cluster.specs.declared.Verdict.the-variants as verdict;
-ghost use Rattle.master.specs.Admit.{bufferSize, admitted};
+ghost use Rattle.master.specs.Fits.{stateFits};
 
 impl State {
     // Judges the table, the number of frame bytes, and the state; a call that is lent no frame bytes asks with the right number.
@@ -24,6 +26,36 @@ impl State {
             return refused(Refusal::STATE);
         }
         Verdict::Accepted
+    }
+
+    // Whether the state fits the table.
+    pub fn fits(self, t: &[u16]) -> bool
+        ensures { λ r. ⌜ r ≡ stateFits (now (t .entry)) self ⌝ }
+    {
+        let plan = self.plan;
+        let transfer = self.transfer;
+        let opened = transfer.opened;
+        let message = self.message;
+        let pending = self.pending;
+        if !plan.is_there(t) {
+            return false;
+        }
+        if !opened.is_there(t) {
+            return false;
+        }
+        if !plan.wait_fits(t) {
+            return false;
+        }
+        if !pending_fits(t, pending) {
+            return false;
+        }
+        if !plan.can_open(t, message, opened) {
+            return false;
+        }
+        if !transfer.count_fits(t) {
+            return false;
+        }
+        message.fits()
     }
 }
 

@@ -1,19 +1,13 @@
 // The number of pending members ahead of a frame in its list.
 use crate::admit::buffer_size;
 use crate::admit::refused;
+use crate::pending::count_pending;
 use crate::state::State;
 use cluster::Verdict;
 use cluster::members;
 use refusal::Refusal;
 ghost use mathlib.Core.Path.{_≡_};
-ghost use mathlib.Core.Bool.{Bool, false, cond, _&&_};
-ghost use Prim.Native.Nat.{_<_, _≤_};
-ghost use lib.Dec.{eqb};
-ghost use lib.ListN.{getD};
-ghost use Rattle.cluster.specs.Check.{RightTable};
-ghost use Rattle.cluster.specs.Lists.{membersFrom};
-ghost use Rattle.cluster.specs.Table.{memberCount, memberList, memberFrame};
-ghost use Rattle.master.specs.Ahead.{memberOf, pendingCount, aheadVerdict, aheadOf};
+ghost use Rattle.master.specs.Ahead.{memberOf, aheadVerdict, aheadOf};
 
 // What number ahead answers.
 pub enum AheadAnswer {
@@ -62,37 +56,4 @@ fn member_of(t: &[u16], f: u16) -> u16
         m += 1;
     }
     m
-}
-
-// How many of a list's frames among the first members are pending.
-fn count_pending(t: &[u16], pending: [bool; 60], l: u16, end: u16) -> u16
-    requires { ⌜ RightTable (now t) × (end ≤ memberCount (now t)) ⌝ }
-    ensures { λ r. ⌜ r ≡ pendingCount pending (membersFrom (now (t .entry)) l 0 end) ⌝ }
-{
-    let mut n: u16 = 0;
-    let mut m: u16 = 0;
-    while m < end {
-        n += counted(is_pending_member(t, pending, l, m));
-        m += 1;
-    }
-    n
-}
-
-// Whether a member is of a list and its frame is pending.
-pub(crate) fn is_pending_member(t: &[u16], pending: [bool; 60], l: u16, m: u16) -> bool
-    requires { ⌜ RightTable (now t) × (m < memberCount (now t)) ⌝ }
-    ensures { λ r. ⌜ r ≡ (eqb (memberList (now (t .entry)) m) l && getD pending (memberFrame (now (t .entry)) m) false) ⌝ }
-{
-    if members::list(t, m) == l {
-        return pending[members::frame(t, m) as usize];
-    }
-    false
-}
-
-// One for a yes.
-fn counted(yes: bool) -> u16
-    ensures { λ r. ⌜ r ≡ cond yes 1 0 ⌝ }
-    ensures { λ r. ⌜ r ≤ 1 ⌝ }
-{
-    if yes { 1 } else { 0 }
 }

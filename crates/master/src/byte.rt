@@ -3,20 +3,17 @@ use crate::admit::refused;
 use crate::state::Opened;
 use crate::state::State;
 use crate::state::Transfer;
+use crate::transfer::fill;
+use crate::transfer::store;
 use cluster::Verdict;
 use refusal::Refusal;
-ghost use mathlib.Core.Bool.{true, false};
 ghost use mathlib.Core.Path.{_≡_};
-ghost use Prim.Native.Nat.{_+_, _*_, _≤_, _<_};
-ghost use lib.ListN.{length, take};
-ghost use Rattle.transport.specs.Reassembly.{written};
-ghost use Rattle.cluster.specs.declared.Verdict.the-variants.{Accepted};
-ghost use Rattle.cluster.specs.Check.{RightTable};
+ghost use Prim.Native.Nat.{_≤_};
+ghost use lib.ListN.{length};
 ghost use Rattle.master.specs.Admit.{bufferSize, Leaves};
-ghost use Rattle.master.specs.Fits.{frameThere, messageFits};
-ghost use Rattle.master.specs.Transfers.{openLength, openIdentifier, sends};
-ghost use Rattle.master.specs.Byte.{plain as plainOf, passed as passedOf, early as earlyOf, sentByte, checksumRight};
-ghost use Rattle.master.specs.Byte.{responding as respondingOf, lastByte, withByte, receivedByte, taken, byteVerdict, byteOf};
+ghost use Rattle.cluster.specs.declared.Verdict.the-variants.{Accepted};
+ghost use Rattle.master.specs.Byte.{plain as plainOf, passed as passedOf, sentByte, responding as respondingOf, lastByte};
+ghost use Rattle.master.specs.Byte.{receivedByte, byteVerdict, byteOf};
 
 // What a byte in answers; response says that the response's eight bytes are there.
 pub enum ByteAnswer {
@@ -154,58 +151,5 @@ impl State {
             answer: ByteAnswer::Response,
             response,
         }
-    }
-}
-
-impl Transfer {
-    // Whether the byte that comes now is not the last one.
-    fn early(self, t: &[u16]) -> bool
-        ensures { λ r. ⌜ r ≡ earlyOf (now (t .entry)) self ⌝ }
-    {
-        let opened = self.opened;
-        (self.count as u16) < opened.length(t)
-    }
-
-    // The nine bytes with one more.
-    fn with_byte(self, b: u8) -> [u8; 9]
-        requires { ⌜ self .count ≤ 8 ⌝ }
-        ensures { λ r. ⌜ r ≡ withByte self b ⌝ }
-    {
-        let mut nine = self.bytes;
-        nine[self.count as usize] = b;
-        nine
-    }
-}
-
-impl Opened {
-    // Whether the byte behind the data is their checksum.
-    fn checksum_right(self, t: &[u16], nine: [u8; 9]) -> bool
-        requires { ⌜ (openIdentifier (now t) self < 64) × (1 ≤ openLength (now t) self) × (openLength (now t) self ≤ 8) ⌝ }
-        ensures { λ r. ⌜ r ≡ checksumRight (now (t .entry)) self nine ⌝ }
-    {
-        let n = self.length(t) as usize;
-        nine[n] == self.checksum(t, &nine[0..n])
-    }
-}
-
-// Stores the data of a frame in its eight bytes of the buffer.
-fn store(bytes: &mut [u8], f: u16, n: u16, nine: [u8; 9])
-    requires { ⌜ (8 * f + 8 ≤ length (now bytes)) × (n ≤ 8) ⌝ }
-    ensures { λ _. ⌜ now (bytes .exit) ≡ written (now (bytes .entry)) (8 * f) (take n nine) ⌝ }
-{
-    let at = 8 * (f as usize);
-    let end = at + n as usize;
-    fill(&mut bytes[at..end], nine);
-}
-
-// Fills at most nine bytes with those of an array.
-fn fill(part: &mut [u8], nine: [u8; 9])
-    requires { ⌜ length (now part) ≤ 9 ⌝ }
-    ensures { λ _. ⌜ now (part .exit) ≡ take (length (now (part .entry))) nine ⌝ }
-{
-    let mut i: usize = 0;
-    while i < part.len() {
-        part[i] = nine[i];
-        i += 1;
     }
 }

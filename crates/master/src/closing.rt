@@ -1,17 +1,13 @@
-// Closing a transfer: as failed, or as successful.
-use crate::state::Opened;
+// Closing a transfer: as failed, sent with success, or received with success.
 use crate::state::State;
-use crate::state::Status;
 use crate::state::Transfer;
 ghost use mathlib.Core.Bool.{true};
 ghost use mathlib.Core.Path.{_≡_};
-ghost use mathlib.Core.List.{List};
 ghost use Prim.Native.Nat.{_<_};
-ghost use Rattle.master.specs.Fits.{messageFits, frameThere};
 ghost use Rattle.cluster.specs.Check.{RightTable};
-ghost use Rattle.master.specs.Transfers.{openIdentifier, openProtected};
-ghost use Rattle.master.specs.Status.{statusAfter};
-ghost use Rattle.master.specs.Closing.{closed as closedOf, failed as failedOf, clearedBit, pendingSent, sent as sentOf, received as receivedOf};
+ghost use Rattle.master.specs.Fits.{frameThere, messageFits};
+ghost use Rattle.master.specs.Transfers.{openIdentifier};
+ghost use Rattle.master.specs.Closing.{closed as closedOf, failed as failedOf, sent as sentOf, received as receivedOf};
 
 impl State {
     // The transfer is over; it counts for status, with its outcome, where it had a response byte.
@@ -34,7 +30,8 @@ impl State {
         let transfer = self.transfer;
         let opened = transfer.opened;
         let message = self.message;
-        self.closed(t, counts, false).with_message(message.failed(opened))
+        self.closed(t, counts, false)
+            .with_message(message.failed(opened))
     }
 
     // The master sent it with success: its frame is no longer pending unless it was written since, or the message moves on.
@@ -59,45 +56,4 @@ impl State {
     {
         self.closed(t, true, true)
     }
-}
-
-impl Opened {
-    // The pending bits after a success: a frame that was not written since is no longer pending.
-    fn sent_pending(self, t: &[u16], written: bool, pending: [bool; 60]) -> [bool; 60]
-        requires { ⌜ RightTable (now t) × (frameThere (now t) self ≡ true) ⌝ }
-        ensures { λ r. ⌜ r ≡ pendingSent self written pending ⌝ }
-    {
-        match self {
-            Opened::Nothing => pending,
-            Opened::Frame(f) => cleared(f, written, pending),
-            Opened::Request => pending,
-            Opened::Response => pending,
-        }
-    }
-}
-
-impl Status {
-    // The status after a transfer, whether it counts or not.
-    fn after(self, counts: bool, success: bool, last: u8) -> Status
-        ensures { λ r. ⌜ r ≡ statusAfter self counts success last ⌝ }
-    {
-        if counts {
-            self.counted(success, last)
-        } else {
-            self
-        }
-    }
-}
-
-// The pending bits without that of a frame, unless it was written since.
-fn cleared(f: u16, written: bool, pending: [bool; 60]) -> [bool; 60]
-    requires { ⌜ f < 60 ⌝ }
-    ensures { λ r. ⌜ r ≡ clearedBit f written pending ⌝ }
-{
-    if written {
-        return pending;
-    }
-    let mut next = pending;
-    next[f as usize] = false;
-    next
 }

@@ -1,99 +1,35 @@
-// The message being sent, and the calls that begin it and tell of it.
-use crate::admit::buffer_size;
-use crate::admit::refused;
+// The message being sent: from its first frame to completed or failed.
+use crate::send::MessageAnswer;
 use crate::state::Message;
 use crate::state::Opened;
 use crate::state::Sending;
-use crate::state::State;
-use cluster::Verdict;
-use refusal::Refusal;
+use cluster::frames;
 use transport::cutting;
 use transport::cutting::Counted;
-ghost use mathlib.Core.Bool.{true};
+ghost use mathlib.Core.Bool.{true, _&&_};
 ghost use mathlib.Core.Path.{_≡_};
-ghost use Rattle.transport.specs.Cutting.{isLength};
-ghost use Rattle.master.specs.Fits.{messageFits};
-ghost use Rattle.master.specs.Message.{moved as movedOn, messageSent, messageFailed, sendingAt};
-ghost use Rattle.master.specs.Message.{sendVerdict, sendOf, told as toldOf, messageOf};
+ghost use lib.ListN.{length};
+ghost use Rattle.master.specs.Fits.{messageFits, isSending, lentFits};
+ghost use Rattle.transport.specs.Cutting.{isLength, messageFrames};
+ghost use Rattle.master.specs.Message.{moved as movedOn, messageSent, messageFailed, sendingAt, told as toldOf};
 ghost use Rattle.master.specs.declared.state.Message.the-variants as variant;
-
-// What send answers.
-pub enum SendAnswer {
-    Sending,
-    Refused(Refusal),
-}
-
-// The state handed back, and the answer.
-pub struct Sent {
-    pub state: State,
-    pub answer: SendAnswer,
-}
-
-// What the message state is.
-pub enum MessageAnswer {
-    None,
-    Sending,
-    Completed,
-    Failed,
-    Refused(Refusal),
-}
-
-impl State {
-    // Begins to send a message of a length to a NAD; its bytes are lent to the ticks.
-    pub fn send(self, t: &[u16], nad: u8, length: u32) -> Sent
-        ensures { λ r. ⌜ r ≡ sendOf (now (t .entry)) self nad length ⌝ }
-    {
-        if let Verdict::Refused(refusal) = self.judge_send(t, length) {
-            return Sent {
-                state: self,
-                answer: SendAnswer::Refused(refusal),
-            };
-        }
-        Sent {
-            state: self.with_message(Message::Sending(Sending {
-                nad,
-                length: length as u16,
-                next: 0,
-            })),
-            answer: SendAnswer::Sending,
-        }
-    }
-
-    // Tells none, sending, completed or failed.
-    pub fn message_state(self, t: &[u16]) -> MessageAnswer
-        ensures { λ r. ⌜ r ≡ messageOf (now (t .entry)) self ⌝ }
-    {
-        if let Verdict::Refused(refusal) = self.admit(t, buffer_size(t)) {
-            return MessageAnswer::Refused(refusal);
-        }
-        let message = self.message;
-        message.told()
-    }
-
-    // The verdict on a send.
-    fn judge_send(self, t: &[u16], length: u32) -> Verdict
-        ensures { λ r. ⌜ r ≡ sendVerdict (now (t .entry)) self length ⌝ }
-    {
-        if let Verdict::Refused(refusal) = self.admit(t, buffer_size(t)) {
-            return Verdict::Refused(refusal);
-        }
-        if length < 1 {
-            return refused(Refusal::MESSAGE_LENGTH);
-        }
-        if (State::LONGEST as u32) < length {
-            return refused(Refusal::MESSAGE_LENGTH);
-        }
-        let message = self.message;
-        if message.is_sending() {
-            return refused(Refusal::SENDING);
-        }
-        Verdict::Accepted
-    }
-}
+ghost use lib.Dec.{ltb};
 
 impl Message {
+    // Whether a message is being sent.
+    pub fn is_sending(self) -> bool
+        ensures { λ r. ⌜ r ≡ isSending self ⌝ }
+    {
+        match self {
+            Message::None => false,
+            Message::Sending(sending) => true,
+            Message::Completed => false,
+            Message::Failed => false,
+        }
+    }
+
     // The message state.
-    fn told(self) -> MessageAnswer
+    pub(crate) fn told(self) -> MessageAnswer
         ensures { λ r. ⌜ r ≡ toldOf self ⌝ }
     {
         match self {
@@ -141,6 +77,30 @@ impl Message {
             Message::Failed => Message::Failed,
         }
     }
+
+    // Whether a message being sent has a length, and a frame left to send.
+    pub(crate) fn fits(self) -> bool
+        ensures { λ r. ⌜ r ≡ messageFits self ⌝ }
+    {
+        match self {
+            Message::None => true,
+            Message::Sending(sending) => sending.fits(),
+            Message::Completed => true,
+            Message::Failed => true,
+        }
+    }
+
+    // Whether a lent message has the length of the one being sent.
+    pub fn lent_fits(self, size: usize) -> bool
+        ensures { λ r. ⌜ r ≡ lentFits self size ⌝ }
+    {
+        match self {
+            Message::None => true,
+            Message::Sending(sending) => size == sending.length as usize,
+            Message::Completed => true,
+            Message::Failed => true,
+        }
+    }
 }
 
 impl Sending {
@@ -168,6 +128,16 @@ impl Sending {
             })
         } else {
             Message::Completed
+        }
+    }
+
+    // Whether the length is 1..4095 and a frame is left to send.
+    pub(crate) fn fits(self) -> bool
+        ensures { λ r. ⌜ r ≡ (isLength (self .length) && ltb (self .next) (messageFrames (self .length))) ⌝ }
+    {
+        match cutting::count(self.length as usize) {
+            Counted::Frames(frames) => self.next < frames,
+            Counted::Refused(refusal) => false,
         }
     }
 }

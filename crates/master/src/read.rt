@@ -1,13 +1,15 @@
-// The two reads.
+// The reads: of a scalar, of an array, and of status.
+use crate::admit::buffer_size;
 use crate::admit::refused;
 use crate::state::State;
+use crate::state::Status;
 use cluster::Verdict;
 use cluster::signals;
 use cluster::values;
 use refusal::Refusal;
 ghost use mathlib.Core.Path.{_≡_};
-ghost use lib.ListN.{length};
 ghost use Rattle.master.specs.Read.{readVerdict, readOf, readArrayOf};
+ghost use Rattle.master.specs.Status.{statusOf};
 
 // What a read of a scalar answers.
 pub enum ReadAnswer {
@@ -25,6 +27,18 @@ pub enum ArrayAnswer {
 pub struct ReadArray {
     pub answer: ArrayAnswer,
     pub bytes: [u8; 8],
+}
+
+// What a status reading answers: the 16-bit word.
+pub enum StatusAnswer {
+    Word(u16),
+    Refused(Refusal),
+}
+
+// The state handed back, and the answer.
+pub struct StatusRead {
+    pub state: State,
+    pub answer: StatusAnswer,
 }
 
 impl State {
@@ -70,5 +84,22 @@ impl State {
             return refused(Refusal::KIND);
         }
         Verdict::Accepted
+    }
+
+    // Reads the status and sets it to 0.
+    pub fn read_status(self, t: &[u16]) -> StatusRead
+        ensures { λ r. ⌜ r ≡ statusOf (now (t .entry)) self ⌝ }
+    {
+        if let Verdict::Refused(refusal) = self.admit(t, buffer_size(t)) {
+            return StatusRead {
+                state: self,
+                answer: StatusAnswer::Refused(refusal),
+            };
+        }
+        let status = self.status;
+        StatusRead {
+            state: self.with_status(Status::none()),
+            answer: StatusAnswer::Word(status.word()),
+        }
     }
 }

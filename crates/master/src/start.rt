@@ -7,7 +7,6 @@ use cluster::check;
 use cluster::fresh;
 use refusal::Refusal;
 ghost use mathlib.Core.Path.{_≡_};
-ghost use lib.ListN.{length};
 ghost use Rattle.master.specs.Admit.{Leaves};
 ghost use Rattle.master.specs.Start.{freshVerdict, freshOf};
 

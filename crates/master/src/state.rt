@@ -1,6 +1,7 @@
-// The master's state, and its parts.
+// The master's state and its parts, the fresh state, and the state with one part replaced.
+use cluster::fresh;
 ghost use mathlib.Core.Path.{_≡_};
-ghost use Rattle.master.specs.Fresh.{fresh as freshState, limits as limitsOf, noPlan, noTransfer, noStatus};
+ghost use Rattle.master.specs.Fresh.{fresh as freshState, limits as limitsOf};
 ghost use Rattle.master.specs.State.{withPending, withPlan, withTransfer, withMessage, withStatus};
 
 // The current place in a schedule: none, or the number of an entry in the table.
@@ -162,46 +163,5 @@ impl State {
         let mut next = self;
         next.status = status;
         next
-    }
-}
-
-impl Plan {
-    // No schedule, and none asked for.
-    pub fn none() -> Plan
-        ensures { λ r. ⌜ r ≡ noPlan ⌝ }
-    {
-        Plan {
-            wait: 0,
-            current: Current::None,
-            requested: Requested::None,
-        }
-    }
-}
-
-impl Transfer {
-    // No transfer.
-    pub fn none() -> Transfer
-        ensures { λ r. ⌜ r ≡ noTransfer ⌝ }
-    {
-        Transfer {
-            opened: Opened::Nothing,
-            count: 0,
-            bytes: [255; 9],
-            written: false,
-        }
-    }
-}
-
-impl Status {
-    // Status 0.
-    pub fn none() -> Status
-        ensures { λ r. ⌜ r ≡ noStatus ⌝ }
-    {
-        Status {
-            error: false,
-            success: false,
-            overrun: false,
-            last: 0,
-        }
     }
 }

@@ -1,47 +1,37 @@
-// Status: its parts, and the call that reads and clears it.
-use crate::admit::buffer_size;
-use crate::state::State;
+// Status in its parts: what a closed transfer does to them, and the word.
+use crate::pending::counted;
 use crate::state::Status;
-use cluster::Verdict;
-use refusal::Refusal;
-ghost use mathlib.Core.Bool.{_||_};
 ghost use mathlib.Core.Path.{_≡_};
 ghost use Prim.Native.Nat.{_≤_};
+ghost use Rattle.master.specs.Fresh.{noStatus};
+ghost use Rattle.master.specs.Status.{statusAfter, counted as countedOf, statusWord};
+ghost use mathlib.Core.Bool.{_||_};
 ghost use Rattle.wire.specs.Bits.{digit};
-ghost use Rattle.master.specs.Status.{counted as countedOf, statusWord, statusOf};
-
-// What a status reading answers: the 16-bit word.
-pub enum StatusAnswer {
-    Word(u16),
-    Refused(Refusal),
-}
-
-// The state handed back, and the answer.
-pub struct StatusRead {
-    pub state: State,
-    pub answer: StatusAnswer,
-}
-
-impl State {
-    // Reads the status and sets it to 0.
-    pub fn read_status(self, t: &[u16]) -> StatusRead
-        ensures { λ r. ⌜ r ≡ statusOf (now (t .entry)) self ⌝ }
-    {
-        if let Verdict::Refused(refusal) = self.admit(t, buffer_size(t)) {
-            return StatusRead {
-                state: self,
-                answer: StatusAnswer::Refused(refusal),
-            };
-        }
-        let status = self.status;
-        StatusRead {
-            state: self.with_status(Status::none()),
-            answer: StatusAnswer::Word(status.word()),
-        }
-    }
-}
 
 impl Status {
+    // Status 0.
+    pub fn none() -> Status
+        ensures { λ r. ⌜ r ≡ noStatus ⌝ }
+    {
+        Status {
+            error: false,
+            success: false,
+            overrun: false,
+            last: 0,
+        }
+    }
+
+    // The status after a transfer, whether it counts or not.
+    pub(crate) fn after(self, counts: bool, success: bool, last: u8) -> Status
+        ensures { λ r. ⌜ r ≡ statusAfter self counts success last ⌝ }
+    {
+        if counts {
+            self.counted(success, last)
+        } else {
+            self
+        }
+    }
+
     // The status after a transfer that counts.
     pub fn counted(self, success: bool, last: u8) -> Status
         ensures { λ r. ⌜ r ≡ countedOf self success last ⌝ }

@@ -1,6 +1,6 @@
 // The tick.
 use crate::admit::refused;
-use crate::ahead::is_pending_member;
+use crate::pending::first_pending;
 use crate::state::Current;
 use crate::state::Message;
 use crate::state::Opened;
@@ -8,20 +8,18 @@ use crate::state::Plan;
 use crate::state::State;
 use cluster::Verdict;
 use cluster::entries;
-use cluster::members;
 use refusal::Refusal;
 ghost use mathlib.Core.Bool.{true, cond};
 ghost use mathlib.Core.Path.{_≡_};
 ghost use Prim.Native.Nat.{_<_};
 ghost use lib.ListN.{length};
-ghost use Rattle.cluster.specs.declared.Verdict.the-variants.{Accepted};
 ghost use Rattle.cluster.specs.Check.{RightTable};
-ghost use Rattle.cluster.specs.Lists.{members as membersOf};
 ghost use Rattle.master.specs.Admit.{bufferSize};
 ghost use Rattle.master.specs.Fits.{frameThere, isSending};
-ghost use Rattle.master.specs.declared.state.Opened.the-variants.{Nothing, Request};
+ghost use Rattle.master.specs.declared.state.Opened.the-variants.{Request, Nothing};
 ghost use Rattle.master.specs.Transfers.{openIdentifier};
-ghost use Rattle.master.specs.Tick.{firstPending, slotOpens, abandoned as abandonedOf, opens, slot as slotOf, tickVerdict, tickOf};
+ghost use Rattle.cluster.specs.declared.Verdict.the-variants.{Accepted};
+ghost use Rattle.master.specs.Tick.{slotOpens, abandoned as abandonedOf, opens, slot as slotOf, tickVerdict, tickOf};
 
 // What a tick answers; opened tells the protected identifier.
 pub enum TickAnswer {
@@ -156,20 +154,4 @@ fn request_slot(message: Message) -> Opened
     } else {
         Opened::Nothing
     }
-}
-
-// The first pending member of a list.
-fn first_pending(t: &[u16], pending: [bool; 60], l: u16) -> Opened
-    requires { ⌜ RightTable (now t) ⌝ }
-    ensures { λ r. ⌜ r ≡ firstPending pending (membersOf (now (t .entry)) l) ⌝ }
-{
-    let n = members::count(t);
-    let mut m: u16 = 0;
-    while m < n {
-        if is_pending_member(t, pending, l, m) {
-            return Opened::Frame(members::frame(t, m));
-        }
-        m += 1;
-    }
-    Opened::Nothing
 }

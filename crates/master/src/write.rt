@@ -1,23 +1,19 @@
 // The two writes.
 use crate::admit::refused;
-use crate::state::Opened;
+use crate::pending::touched_too;
 use crate::state::State;
-use crate::state::Transfer;
 use cluster::Verdict;
-use cluster::frames;
 use cluster::signals;
 use cluster::values;
 use refusal::Refusal;
-ghost use mathlib.Core.Bool.{Bool, true, false};
+ghost use mathlib.Core.Bool.{true, false};
 ghost use mathlib.Core.Path.{_≡_};
 ghost use Prim.Native.Nat.{_<_};
-ghost use lib.ListN.{length};
-ghost use Rattle.cluster.specs.Check.{then, RightTable};
+ghost use Rattle.cluster.specs.Check.{RightTable, then};
+ghost use Rattle.master.specs.Admit.{Leaves, admitted};
 ghost use Rattle.cluster.specs.Table.{signalCount};
 ghost use Rattle.cluster.specs.Values.{valueFits, arrayFits};
-ghost use Rattle.master.specs.Admit.{admitted, Leaves};
-ghost use Rattle.master.specs.Write.{writable as writableOf, markedFrom, touchesOpen, rewritten as rewrittenOf, marked as markedOf};
-ghost use Rattle.master.specs.Write.{refusedWrite, writeOf, writeArrayOf};
+ghost use Rattle.master.specs.Write.{writable as writableOf, marked as markedOf, refusedWrite, writeOf, writeArrayOf};
 
 // What a write answers.
 pub enum WriteAnswer {
@@ -101,51 +97,6 @@ impl State {
         self.with_pending(touched_too(t, s, pending))
             .with_transfer(transfer.rewritten(t, s))
     }
-}
-
-impl Transfer {
-    // Written since its opening, where a signal touches its frame.
-    fn rewritten(self, t: &[u16], s: u16) -> Transfer
-        ensures { λ r. ⌜ r ≡ rewrittenOf (now (t .entry)) s self ⌝ }
-    {
-        let opened = self.opened;
-        let mut next = self;
-        if opened.touched(t, s) {
-            next.written = true;
-        }
-        next
-    }
-}
-
-impl Opened {
-    // Whether a signal touches the frame of the transfer.
-    fn touched(self, t: &[u16], s: u16) -> bool
-        ensures { λ r. ⌜ r ≡ touchesOpen (now (t .entry)) s self ⌝ }
-    {
-        match self {
-            Opened::Nothing => false,
-            Opened::Frame(f) => values::touches(t, s, f),
-            Opened::Request => false,
-            Opened::Response => false,
-        }
-    }
-}
-
-// The pending bits with those of the frames that a signal touches.
-fn touched_too(t: &[u16], s: u16, pending: [bool; 60]) -> [bool; 60]
-    requires { ⌜ RightTable (now t) × (s < signalCount (now t)) ⌝ }
-    ensures { λ r. ⌜ r ≡ markedFrom (now (t .entry)) s 0 pending ⌝ }
-{
-    let mut bits = pending;
-    let n = frames::count(t);
-    let mut f: u16 = 0;
-    while f < n {
-        if values::touches(t, s, f) {
-            bits[f as usize] = true;
-        }
-        f += 1;
-    }
-    bits
 }
 
 // Refusals 4 to 7 of a write.

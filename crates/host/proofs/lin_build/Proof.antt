@@ -5,14 +5,8 @@ use Rattle.host.specs.Coded.{coded}
 use Rattle.host.proofs.lin_build.Statement.{statement}
 use Rattle.host.proofs.lin_build.Tie as tie
 
-build-requires : tie.Need-build-requires
-build-requires c κs = search needs
-
-coded-requires : tie.Need-coded-requires
-coded-requires c κs = search needs
-
 returns : tie.Need-returns
 returns c = c .coded .ensures ∙ ap coded (c .before .build .ensures)
 
 pub lin-build-spec : {M : Type 1} → statement M
-lin-build-spec = tie.close (tie.spec build-requires coded-requires returns)
+lin-build-spec = tie.close (tie.spec (λ c κs. search needs) (λ c κs. search needs) returns)

@@ -5,15 +5,6 @@ use Rattle.host.specs.Coded.{positionOf}
 use Rattle.host.proofs.lin_check.Statement.{statement}
 use Rattle.host.proofs.lin_check.Tie as tie
 
-check-requires : tie.Need-check-requires
-check-requires c κs = search needs
-
-enum-told : tie.Need-enum-told
-enum-told c = search needs
-
-enum-known-refusal : tie.Need-enum-known-refusal
-enum-known-refusal c = search needs
-
 returns : tie.Need-returns
 unfolding positionOf
 returns c = rw (sym (c .before .before .check .ensures) ∙ c .enum-told .given .1)
@@ -23,4 +14,4 @@ unfolding positionOf
 returns-2 c = rw (sym (c .before .before .before .check .ensures) ∙ c .before .refusal .given .1)
 
 pub lin-check-spec : {M : Type 1} → statement M
-lin-check-spec = tie.close (tie.spec check-requires enum-told enum-known-refusal returns returns-2)
+lin-check-spec = tie.close (tie.spec (λ c κs. search needs) (λ c. search needs) (λ c. search needs) returns returns-2)

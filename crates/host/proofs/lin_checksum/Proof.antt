@@ -6,18 +6,6 @@ use Rattle.host.specs.Coded.{coded, wishOf}
 use Rattle.host.proofs.lin_checksum.Statement.{statement}
 use Rattle.host.proofs.lin_checksum.Tie as tie
 
-of-requires : tie.Need-of-requires
-of-requires c κs = search needs
-
-coded-requires : tie.Need-coded-requires
-coded-requires c κs = search needs
-
-of-requires-2 : tie.Need-of-requires-2
-of-requires-2 c κs = search needs
-
-coded-requires-2 : tie.Need-coded-requires-2
-coded-requires-2 c κs = search needs
-
 returns : tie.Need-returns
 unfolding wishOf
 returns c = simp (eq-eqb _ _ (c .before .before .if1 .taken)) (c .coded .ensures ∙ ap coded (c .before .of .ensures))
@@ -29,4 +17,5 @@ returns-2 c = simp (ne-eqb _ _ (c .before .before .if1 .left)) (c .coded2 .ensur
 pub lin-checksum-spec : {M : Type 1} → statement M
 lin-checksum-spec =
     tie.close
-    (tie.spec of-requires coded-requires of-requires-2 coded-requires-2 returns returns-2)
+    (tie.spec (λ c κs. search needs) (λ c κs. search needs) (λ c κs. search needs) (λ c κs. search needs) returns
+    returns-2)

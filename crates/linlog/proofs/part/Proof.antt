@@ -6,35 +6,11 @@ use Rattle.linlog.proofs.PartLaws.{goes-failed, goes-over, goes-on}
 use Rattle.linlog.proofs.part.Statement.{statement}
 use Rattle.linlog.proofs.part.Tie as tie
 
-ended-requires : tie.Need-ended-requires
-ended-requires c κs = search needs
-
 returns : tie.Need-returns
 returns c = goes-failed _ _ _ _ _ _ _ (c .before .if1 .taken) record { no-rows = refl; none-kept = c .ended .ensures .0; over = c .ended .ensures .1 }
 
-last-requires : tie.Need-last-requires
-last-requires c κs = search needs
-
-same-length : tie.Need-same-length
-same-length c = search needs
-
-same-length-2 : tie.Need-same-length-2
-same-length-2 c = search needs
-
 returns-2 : tie.Need-returns-2
 returns-2 c = goes-over _ _ _ _ _ _ _ (c .before .before .before .before .before .before .before .before .if1 .left) (c .before .before .before .before .before .before .before .if2 .taken) (c .before .before .before .before .last .ensures)
-
-add-whole-lines : tie.Need-add-whole-lines
-add-whole-lines c = search needs
-
-whole-lines-requires : tie.Need-whole-lines-requires
-whole-lines-requires c κs = search needs
-
-same-length-3 : tie.Need-same-length-3
-same-length-3 c = search needs
-
-same-length-4 : tie.Need-same-length-4
-same-length-4 c = search needs
 
 returns-3 : tie.Need-returns-3
 returns-3 c =
@@ -44,15 +20,5 @@ returns-3 c =
 pub part-spec : {M : Type 1} → statement M
 part-spec =
     tie.close
-    (tie.spec
-    ended-requires
-    returns
-    last-requires
-    same-length
-    same-length-2
-    returns-2
-    add-whole-lines
-    whole-lines-requires
-    same-length-3
-    same-length-4
-    returns-3)
+    (tie.spec (λ c κs. search needs) returns (λ c κs. search needs) (λ c. search needs) (λ c. search needs)
+    returns-2 (λ c. search needs) (λ c κs. search needs) (λ c. search needs) (λ c. search needs) returns-3)

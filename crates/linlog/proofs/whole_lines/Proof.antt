@@ -11,20 +11,8 @@ use Rattle.linlog.proofs.PartLaws.{step}
 use Rattle.linlog.proofs.whole_lines.Statement.{statement}
 use Rattle.linlog.proofs.whole_lines.Tie as tie
 
-table-requires : tie.Need-table-requires
-table-requires c κs = search needs
-
-slice-aggregate-write : tie.Need-slice-aggregate-write
-slice-aggregate-write c = search needs
-
-slice-reshare-prefix-write : tie.Need-slice-reshare-prefix-write
-slice-reshare-prefix-write c = search needs
-
 slice-aggregate-write-2 : tie.Need-slice-aggregate-write-2
 slice-aggregate-write-2 c = sym (length-take-le _ (c .before .before .before .before .before .args .text .now) (omega (arith, c .before .before .before .before .before .pre .0)))
-
-write-requires : tie.Need-write-requires
-write-requires c κs = search needs
 
 slice-reshare-prefix-write-out : tie.Need-slice-reshare-prefix-write-out
 slice-reshare-prefix-write-out c = put-within _ _ _ _ _ _ _ (c .before .before .write .ensures)
@@ -32,26 +20,8 @@ slice-reshare-prefix-write-out c = put-within _ _ _ _ _ _ _ (c .before .before .
 slice-aggregate-write-out : tie.Need-slice-aggregate-write-out
 slice-aggregate-write-out c = sym (length-take-le _ _ (put-within _ _ _ _ _ _ _ (c .before .before .before .write .ensures)))
 
-write-out-requires : tie.Need-write-out-requires
-write-out-requires c κs = search needs
-
-wrapping-add-u64-requires : tie.Need-wrapping-add-u64-requires
-wrapping-add-u64-requires c κs = search needs
-
-slice-relend-prefix-keep : tie.Need-slice-relend-prefix-keep
-slice-relend-prefix-keep c = search needs
-
 slice-aggregate-keep : tie.Need-slice-aggregate-keep
 slice-aggregate-keep c = sym (length-take-le _ (c .before .before .before .before .before .before .before .before .before .before .before .before .before .args .text .now) (omega (arith, c .before .before .before .before .before .before .before .before .before .before .before .before .before .pre .0)))
-
-keep-requires : tie.Need-keep-requires
-keep-requires c κs = search needs
-
-same-length : tie.Need-same-length
-same-length c = search needs
-
-same-length-2 : tie.Need-same-length-2
-same-length-2 c = search needs
 
 returns : tie.Need-returns
 returns c =
@@ -64,19 +34,7 @@ returns c =
 pub whole-lines-spec : {M : Type 1} → statement M
 whole-lines-spec =
     tie.close
-    (tie.spec
-    table-requires
-    slice-aggregate-write
-    slice-reshare-prefix-write
-    slice-aggregate-write-2
-    write-requires
-    slice-reshare-prefix-write-out
-    slice-aggregate-write-out
-    write-out-requires
-    wrapping-add-u64-requires
-    slice-relend-prefix-keep
-    slice-aggregate-keep
-    keep-requires
-    same-length
-    same-length-2
-    returns)
+    (tie.spec (λ c κs. search needs) (λ c. search needs) (λ c. search needs) slice-aggregate-write-2
+    (λ c κs. search needs) slice-reshare-prefix-write-out slice-aggregate-write-out (λ c κs. search needs)
+    (λ c κs. search needs) (λ c. search needs) slice-aggregate-keep (λ c κs. search needs) (λ c. search needs)
+    (λ c. search needs) returns)

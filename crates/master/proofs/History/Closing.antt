@@ -12,7 +12,7 @@ use Rattle.master.specs.declared.state.Opened.the-variants.{Nothing}
 use Rattle.master.specs.declared.state.State.{State}
 use Rattle.master.specs.declared.byte.ByteAnswer.{ByteAnswer}
 use Rattle.master.specs.Fresh.{noTransfer}
-use Rattle.master.specs.Transfers.{isOpen, sends, openProtected}
+use Rattle.master.specs.Transfers.{formatOf, isOpen, sends, openProtected}
 use Rattle.master.specs.Status.{counted, statusAfter}
 use Rattle.master.specs.Message.{messageFailed}
 use Rattle.master.specs.Closing.{failed}
@@ -63,7 +63,7 @@ abandoned-message t s = whether (isOpen (s .transfer .opened)) (λ y. rw y) (λ 
 module _ (t : List ℕ) (h : Seq Scheduled) (x : Held) (is : Agrees t h x) where
   -- where nothing is open the record is that of no transfer
   none-open : openAfter t h ≡ Nothing → x .state .transfer ≡ noTransfer
-  unfolding sends
+  unfolding formatOf
   none-open n =
       let g = is .transfer .closed-is n in
       let o : x .state .transfer .opened ≡ Nothing = is .transfer .opened-is ∙ n in

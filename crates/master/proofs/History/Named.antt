@@ -15,7 +15,7 @@ use Rattle.cluster.proofs.Searching.{first-holds, first-least}
 use Rattle.transport.proofs.Tests.{order}
 use Rattle.master.specs.declared.state.Opened.{Opened}
 use Rattle.master.specs.declared.state.Opened.the-variants.{Nothing, Frame, Request, Response}
-use Rattle.master.specs.Transfers.{isOpen, openIdentifier, openProtected}
+use Rattle.master.specs.Transfers.{formatOf, isOpen, openIdentifier, openProtected}
 use Rattle.master.specs.Fits.{frameThere}
 use Rattle.master.specs.History.{frameNamed, transferNamed}
 use Rattle.master.proofs.Tests.{never, false-unless}
@@ -54,7 +54,7 @@ module _ (t : List ℕ) (ok : RightTable t) where
 
   -- what is opened is what its protected identifier names
   pub named : (o : Opened) → frameThere t o ≡ true → isOpen o ≡ true → transferNamed t (openProtected t o) ≡ o
-  unfolding transferNamed openProtected openIdentifier isOpen
+  unfolding transferNamed openProtected isOpen formatOf
   named Nothing h p = never p
   named (Frame f) h p =
       let b = frame-below t ok f h in

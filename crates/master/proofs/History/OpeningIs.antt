@@ -16,7 +16,7 @@ use Rattle.master.specs.declared.state.Message.the-variants as message
 use Rattle.master.specs.declared.tick.TickAnswer.{TickAnswer}
 use Rattle.master.specs.Admit.{bufferSize}
 use Rattle.master.specs.Fits.{frameThere, isSending, messageFits, lentFits}
-use Rattle.master.specs.Transfers.{openLength, openIdentifier, openModel, openChecksum, sends, frameData, requestData, sentData, copied, opening}
+use Rattle.master.specs.Transfers.{formatOf, openLength, openIdentifier, openModel, openChecksum, sends, frameData, requestData, sentData, copied, opening}
 use Rattle.master.specs.Seq.{Seq, _▹_}
 use Rattle.master.specs.Acts.{ticked}
 use Rattle.master.specs.Schedule.{Scheduled, act}
@@ -48,7 +48,7 @@ module _ (t : List ℕ) (ok : RightTable t) (bs : List ℕ) (size : length bs �
   -- what the master sends in a request: the frame due of the message, which is lent with its length
   request-due : (x : Message) (m : List ℕ) → isSending x ≡ true → messageFits x ≡ true → lentFits x (length m) ≡ true
       → requestOf x m ≡ requestData x m ++ (openChecksum t Request (requestData x m) ∷ [])
-  unfolding isSending lentFits requestOf openChecksum openIdentifier openModel
+  unfolding isSending lentFits requestOf openChecksum formatOf
   request-due message.None m p f l = never p
   request-due (message.Sending x) m p f l = rw (request-data x m f (eqb-true (length m) (x .length) l))
   request-due message.Completed m p f l = never p
@@ -57,7 +57,7 @@ module _ (t : List ℕ) (ok : RightTable t) (bs : List ℕ) (size : length bs �
   -- what the master sends goes by the bytes of its own frames alone
   sent-due : (cs : List ℕ) → SameBytes t bs cs → (x : Message) (m : List ℕ) (o : Opened) → frameThere t o ≡ true → sends t o ≡ true
       → Requests x m o → dueOf t cs x m o ≡ sentData t bs x m o ++ (openChecksum t o (sentData t bs x m o) ∷ [])
-  unfolding dueOf sentData sends responseOf
+  unfolding dueOf sentData responseOf formatOf
   sent-due cs e x m Nothing there s q = never s
   sent-due cs e x m (Frame f) there s q =
       let d : dataOf t cs f ≡ frameData t bs f =
@@ -68,7 +68,7 @@ module _ (t : List ℕ) (ok : RightTable t) (bs : List ℕ) (size : length bs �
 
   -- as many data bytes as the transfer has
   sent-length : (x : Message) (m : List ℕ) (o : Opened) → frameThere t o ≡ true → sends t o ≡ true → length (sentData t bs x m o) ≡ openLength t o
-  unfolding sentData sends openLength
+  unfolding sentData formatOf
   sent-length x m Nothing h s = never s
   sent-length x m (Frame f) h s = frame-data-length t ok bs f (frame-below t ok f h) size
   sent-length x m Request h s = request-data-length x m

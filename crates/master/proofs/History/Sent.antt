@@ -13,7 +13,7 @@ use Rattle.cluster.specs.Table.{published}
 use Rattle.transport.proofs.Tests.{whether}
 use Rattle.master.specs.declared.state.Opened.the-variants.{Frame}
 use Rattle.master.specs.declared.byte.ByteAnswer.the-variants as byte
-use Rattle.master.specs.Transfers.{isOpen, openLength, sends, sentData}
+use Rattle.master.specs.Transfers.{formatOf, isOpen, openLength, sends, sentData}
 use Rattle.master.specs.Seq.{Seq, ∅, _▹_, _⋈_, Each}
 use Rattle.master.specs.Calls.{byteIn, Reply}
 use Rattle.master.specs.Acts.{Act, nothing, wrote, selected, ticked, took, statusRead, sending, onTick}
@@ -91,7 +91,7 @@ module _ (n : ℕ) (due got : List ℕ) (b : ℕ) (long : length due ≡ suc n) 
 pub sent-exactly : (t : List ℕ) (before : Seq Scheduled) (start : Scheduled) (during : Seq Scheduled) (b : ℕ) (r : Reply) (s : Slot) (f : ℕ)
     → Good t (before ▹ start ⋈ during) (event (byteIn b) r s) → opens t start ≡ Frame f → published t f ≡ true → Each (λ x. closes x ≡ false) during
     → (r .answer ≡ byte.Success) ↔ (gotAfter during ++ (b ∷ []) ≡ responseOf t (writtenBytes t before) f)
-unfolding isOpen sends openLength byteReply
+unfolding isOpen byteReply formatOf
 sent-exactly t before start during b r s f good o p q =
     let h = before ▹ start ⋈ during in
     let st = opens-starts t start (rw o) in

@@ -24,10 +24,10 @@ use Rattle.master.specs.declared.tick.TickAnswer.the-variants as tick
 use Rattle.master.specs.declared.tick.Ticked.{Ticked}
 use Rattle.master.specs.declared.byte.ByteAnswer.the-variants as byte
 use Rattle.master.specs.declared.byte.Took.{Took}
-use Rattle.master.specs.declared.status.StatusAnswer.the-variants as status
-use Rattle.master.specs.declared.status.StatusRead.{StatusRead}
-use Rattle.master.specs.declared.message.SendAnswer.the-variants as send
-use Rattle.master.specs.declared.message.Sent.{Sent}
+use Rattle.master.specs.declared.read.StatusAnswer.the-variants as status
+use Rattle.master.specs.declared.read.StatusRead.{StatusRead}
+use Rattle.master.specs.declared.send.SendAnswer.the-variants as send
+use Rattle.master.specs.declared.send.Sent.{Sent}
 use Rattle.master.specs.Admit.{unless, answered, bufferSize, admitted, Step}
 use Rattle.master.specs.Fits.{lentFits}
 use Rattle.master.specs.Transfers.{isOpen}

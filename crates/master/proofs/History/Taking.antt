@@ -22,7 +22,7 @@ use Rattle.master.specs.declared.byte.ByteAnswer.the-variants as byte
 use Rattle.master.specs.declared.byte.Took.{Took}
 use Rattle.master.specs.Admit.{Step}
 use Rattle.master.specs.Fits.{stateFits, frameThere}
-use Rattle.master.specs.Transfers.{isOpen, openLength, openIdentifier, openModel, openChecksum, sends}
+use Rattle.master.specs.Transfers.{formatOf, isOpen, openLength, openIdentifier, openModel, openChecksum, sends}
 use Rattle.master.specs.Status.{statusAfter}
 use Rattle.master.specs.Message.{messageSent}
 use Rattle.master.specs.Closing.{failed, pendingSent, sent, received}
@@ -50,7 +50,7 @@ use Rattle.master.proofs.History.Stepped.{Stepped}
 
 -- what the master sends is stored nowhere
 stored-sent : (t : List ℕ) (o : Opened) (ds bs : List ℕ) → sends t o ≡ true → storedBy t o ds bs ≡ bs
-unfolding storedBy sends
+unfolding storedBy formatOf
 stored-sent t Nothing ds bs s = refl
 stored-sent t (Frame f) ds bs s = rw s
 stored-sent t Request ds bs s = refl
@@ -66,7 +66,7 @@ successReply Response got = record { answer = byte.Response; response = got }
 -- what is answered in a transfer that the master sends, and in one that it receives
 module _ (t : List ℕ) (o : Opened) (due got : List ℕ) (b : ℕ) where
   reply-sent : sends t o ≡ true → byteReply t o due got b ≡ plain (sentReply (openLength t o) due got b)
-  unfolding byteReply sends openLength
+  unfolding byteReply formatOf
   reply-sent s = by o s
     where
       by : (o : Opened) → sends t o ≡ true → byteReply t o due got b ≡ plain (sentReply (openLength t o) due got b)
@@ -76,7 +76,7 @@ module _ (t : List ℕ) (o : Opened) (due got : List ℕ) (b : ℕ) where
       by Response s = never s
 
   reply-received : isOpen o ≡ true → sends t o ≡ false → byteReply t o due got b ≡ receivedReply (openLength t o) (openChecksum t o got) got b (successReply o got)
-  unfolding byteReply isOpen sends openLength openChecksum openIdentifier openModel checksumOver
+  unfolding byteReply isOpen openChecksum checksumOver formatOf
   reply-received p s = by o p s
     where
       by : (o : Opened) → isOpen o ≡ true → sends t o ≡ false
@@ -88,7 +88,7 @@ module _ (t : List ℕ) (o : Opened) (due got : List ℕ) (b : ℕ) where
 
 -- a received transfer leaves the message
 received-message : (t : List ℕ) (o : Opened) (m : Message) → sends t o ≡ false → messageSent o m ≡ m
-unfolding sends messageSent
+unfolding messageSent formatOf
 received-message t Nothing m n = refl
 received-message t (Frame f) m n = refl
 received-message t Request m n = never (sym n)
@@ -296,7 +296,7 @@ module _ (t : List ℕ) (ok : RightTable t) (h : Seq Scheduled) (x : Held) (is :
   goes-accepted : (o′ : Opened) → o ≡ o′ → sends t o ≡ false → early t (s .transfer) ≡ false
       → byteReply t (openAfter t h) (dueAfter t h) (gotAfter h) b ≡ successReply o (gotAfter h)
       → Goes (accepted t s o′ (withByte (s .transfer) b) (x .bytes))
-  unfolding accepted storedBy sends openLength isOpen withByte
+  unfolding accepted storedBy isOpen withByte formatOf
   goes-accepted Nothing p n z r = never (rw p at open-now)
   goes-accepted (Frame g) p n z r =
       let there : frameThere t (Frame g) ≡ true = rw p at (fits-clauses t s (is .fits) .frame-there) in

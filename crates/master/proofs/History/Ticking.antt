@@ -18,7 +18,7 @@ use Rattle.master.specs.declared.tick.TickAnswer.{TickAnswer}
 use Rattle.master.specs.declared.tick.TickAnswer.the-variants as tick
 use Rattle.master.specs.declared.tick.Ticked.{Ticked}
 use Rattle.master.specs.Fits.{stateFits, isSending, lentFits, frameThere, entryOpens}
-use Rattle.master.specs.Transfers.{isOpen, openIdentifier, openProtected, opening}
+use Rattle.master.specs.Transfers.{formatOf, isOpen, openIdentifier, openProtected, opening}
 use Rattle.master.specs.Plan.{waits, waited, entryDue, begun}
 use Rattle.master.specs.Message.{messageFailed}
 use Rattle.master.specs.Tick.{firstPending, slotOpens, abandoned, ticked}
@@ -57,7 +57,7 @@ unfolding isOpen
 answer-silent t o n = rw (not-open o n)
 
 answer-opened : (t : List ℕ) (o : Opened) → isOpen o ≡ true → tick.Opened (openProtected t o) ≡ answerFor t o
-unfolding isOpen openProtected openIdentifier
+unfolding isOpen openProtected formatOf
 answer-opened t Nothing p = never p
 answer-opened t (Frame f) p = refl
 answer-opened t Request p = refl

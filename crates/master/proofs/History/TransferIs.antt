@@ -14,7 +14,7 @@ use Rattle.master.specs.declared.state.Transfer.{Transfer}
 use Rattle.master.specs.declared.byte.ByteAnswer.{ByteAnswer}
 use Rattle.master.specs.declared.byte.ByteAnswer.the-variants.{More}
 use Rattle.master.specs.Fresh.{noTransfer}
-use Rattle.master.specs.Transfers.{isOpen, openLength, sends}
+use Rattle.master.specs.Transfers.{formatOf, isOpen, openLength, sends}
 use Rattle.master.specs.Write.{touchesOpen, rewritten}
 use Rattle.master.specs.Byte.{withByte}
 use Rattle.master.specs.Seq.{Seq, ∅, _▹_}
@@ -46,7 +46,7 @@ pub record TransferIs (t : List ℕ) (h : Seq Scheduled) (x : Transfer) : Type 0
 module _ (t : List ℕ) where
   -- after fresh
   pub transfer-fresh : TransferIs t ∅ noTransfer
-  unfolding openAfter gotAfter dueAfter rewrittenAfter sends
+  unfolding openAfter gotAfter dueAfter rewrittenAfter formatOf
   transfer-fresh = record {
     opened-is = refl;
     count-is = refl;
@@ -59,7 +59,7 @@ module _ (t : List ℕ) where
 
   -- a closing that opens nothing
   pub transfer-closed : (h : Seq Scheduled) (y : Scheduled) → closes y ≡ true → opens t y ≡ Nothing → TransferIs t (h ▹ y) noTransfer
-  unfolding gotAfter dueAfter sends
+  unfolding gotAfter dueAfter formatOf
   transfer-closed h y c n =
       let o = open-new t h y c ∙ n in
       record {
@@ -86,7 +86,7 @@ unfolding isOpen
 not-nothing o p e = let z : false ≡ true = rw e at p in false≢true z
 
 sends-open : (t : List ℕ) (o : Opened) → sends t o ≡ true → o ≡ Nothing → ⊥
-unfolding sends
+unfolding formatOf
 sends-open t o s e = let z : false ≡ true = rw e at s in false≢true z
 
 -- what is due of a transfer that the master sends

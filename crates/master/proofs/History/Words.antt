@@ -16,7 +16,7 @@ use Rattle.master.specs.declared.state.Opened.the-variants.{Nothing, Fra
 use Rattle.master.specs.declared.state.Message.{Message}
 use Rattle.master.specs.declared.state.Message.the-variants as message
 use Rattle.master.specs.Fits.{isSending, lentFits}
-use Rattle.master.specs.Transfers.{isOpen, openIdentifier, openModel, openProtected, openChecksum, frameData}
+use Rattle.master.specs.Transfers.{formatOf, isOpen, openIdentifier, openModel, openProtected, openChecksum, frameData}
 use Rattle.master.specs.Plan.{waits, entryDue}
 use Rattle.master.specs.Message.{sendingAt, moved, messageSent, messageFailed, told}
 use Rattle.master.specs.Schedule.{Slot, none, unscheduled, entry, slotOf, slotDue}
@@ -35,7 +35,7 @@ is-transfer Request = refl
 is-transfer Response = refl
 
 pub protected-of : (t : List ℕ) (o : Opened) → isOpen o ≡ true → openProtected t o ≡ protectedOf t o
-unfolding isOpen openProtected openIdentifier protectedOf
+unfolding isOpen openProtected protectedOf formatOf
 protected-of t Nothing p = never p
 protected-of t (Frame f) p = refl
 protected-of t Request p = refl
@@ -47,7 +47,7 @@ unfolding frameData dataOf
 data-of t bs f h = sym (take-take (frameLength t f) 8 (drop (8 * f) bs) h)
 
 pub checksum-over : (t : List ℕ) (f : ℕ) (ds : List ℕ) → openChecksum t (Frame f) ds ≡ checksumOver t f ds
-unfolding openChecksum openIdentifier openModel checksumOver
+unfolding openChecksum checksumOver formatOf
 checksum-over t f ds = refl
 
 -- ---- the plan

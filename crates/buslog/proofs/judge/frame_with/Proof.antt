@@ -18,27 +18,15 @@ Inv-loop t id n f₀ f = (n ≡ frameCount t) × (frameWith t id ≡ firstFrom (
 abbrev μ-loop : tie.MeasureT-loop
 μ-loop t id n f₀ f = n - f
 
-count-requires : tie.Need-count-requires Inv-loop μ-loop
-count-requires c κs = search needs
-
 loop-holds : tie.Need-loop-holds Inv-loop μ-loop
 unfolding frameWith
 loop-holds c = (c .count .ensures, rw (sub-zero, c .count .ensures) refl)
-
-identifier-requires : tie.Need-identifier-requires Inv-loop μ-loop
-identifier-requires c κs = search needs
 
 returns : tie.Need-returns Inv-loop μ-loop
 returns c =
     sym
     (c .before .before .before .loop .inv .1
     ∙ right _ _ _ (c .before .before .loop-test .taken) (eq-eqb _ _ (sym (c .before .identifier .ensures) ∙ c .if1 .taken)))
-
-add-f : tie.Need-add-f Inv-loop μ-loop
-add-f c = search needs
-
-loop-less : tie.Need-loop-less Inv-loop μ-loop
-loop-less c = search needs
 
 loop-again : tie.Need-loop-again Inv-loop μ-loop
 loop-again c = (
@@ -53,14 +41,5 @@ returns-2 c = sym (c .before .loop .inv .1 ∙ ended _ _ _ (c .loop-test .left))
 pub frame-with-spec : {M : Type 1} → statement M
 frame-with-spec =
     tie.close
-    (tie.spec
-    Inv-loop
-    μ-loop
-    count-requires
-    loop-holds
-    identifier-requires
-    returns
-    add-f
-    loop-less
-    loop-again
-    returns-2)
+    (tie.spec Inv-loop μ-loop (λ c κs. search needs) loop-holds (λ c κs. search needs) returns
+    (λ c. search needs) (λ c. search needs) loop-again returns-2)

@@ -22,9 +22,6 @@ Inv-loop line bytes₀ count₀ at₀ bytes count at =
 abbrev μ-loop : tie.MeasureT-loop
 μ-loop line bytes₀ count₀ at₀ bytes count at = length line - at
 
-text-requires : tie.Need-text-requires Inv-loop μ-loop
-text-requires c κs = search needs
-
 returns : tie.Need-returns Inv-loop μ-loop
 returns c = reads-text _ _ (c .text .ensures) (too-long _ (c .before .if1 .taken))
 
@@ -34,43 +31,16 @@ loop-holds c = (refl, omega arith, refl, refl, refl)
 add-loop : tie.Need-add-loop Inv-loop μ-loop
 add-loop c = omega arith
 
-pair-requires : tie.Need-pair-requires Inv-loop μ-loop
-pair-requires c κs = search needs
-
-text-requires-2 : tie.Need-text-requires-2 Inv-loop μ-loop
-text-requires-2 c κs = search needs
-
 returns-2 : tie.Need-returns-2 Inv-loop μ-loop
 returns-2 c =
     let i = c .before .before .before .before .loop .inv in
     reads-text _ _ (c .text2 .ensures)
     (is-text _ (i .3 ∙ no-pair _ _ (c .before .before .before .loop-test .taken) (omega (arith, c .before .before .pair .ensures))))
 
-cast-bytes : tie.Need-cast-bytes Inv-loop μ-loop
-cast-bytes c = search needs
-
-array-write-bytes : tie.Need-array-write-bytes Inv-loop μ-loop
-array-write-bytes c = search needs
-
-add-count : tie.Need-add-count Inv-loop μ-loop
-add-count c = search needs
-
-add-if3 : tie.Need-add-if3 Inv-loop μ-loop
-add-if3 c = search needs
-
 returns-3 : tie.Need-returns-3 Inv-loop μ-loop
 returns-3 c =
     let i = c .before .before .before .before .loop .inv in
     reads-last _ _ _ (omega arith) _ _ (omega arith) (c .before .before .pair .ensures) (omega arith) (c .if3 .taken) (i .3) (i .4)
-
-add-if4 : tie.Need-add-if4 Inv-loop μ-loop
-add-if4 c = search needs
-
-shared-slice-read-if4 : tie.Need-shared-slice-read-if4 Inv-loop μ-loop
-shared-slice-read-if4 c = search needs
-
-text-requires-3 : tie.Need-text-requires-3 Inv-loop μ-loop
-text-requires-3 c κs = search needs
 
 returns-4 : tie.Need-returns-4 Inv-loop μ-loop
 returns-4 c =
@@ -79,12 +49,6 @@ returns-4 c =
     let at = c .before .before .before .before .before .before .before .loop .at in
     reads-text line _ (c .text3 .ensures)
     (is-text line (i .3 ∙ unspaced line at (omega (arith, c .before .before .before .before .before .pair .ensures)) (omega arith) (c .before .if4 .taken)))
-
-add-at : tie.Need-add-at Inv-loop μ-loop
-add-at c = search needs
-
-loop-less : tie.Need-loop-less Inv-loop μ-loop
-loop-less c = search needs
 
 loop-again : tie.Need-loop-again Inv-loop μ-loop
 loop-again c =
@@ -100,9 +64,6 @@ loop-again c =
       turn (c .before .before .before .before .before .before .loop .bytes) (c .before .before .before .before .before .before .loop .count) _ (omega arith) _ _ _ (i .4) (more-bytes line at p (omega arith) ∙ ap (λ (b : ℕ). b ∷ pairBytes (drop (at + 3) line)) (sym e)),
     )
 
-text-requires-4 : tie.Need-text-requires-4 Inv-loop μ-loop
-text-requires-4 c κs = search needs
-
 returns-5 : tie.Need-returns-5 Inv-loop μ-loop
 returns-5 c =
     reads-text _ _ (c .text4 .ensures)
@@ -111,27 +72,7 @@ returns-5 c =
 pub read-spec : {M : Type 1} → statement M
 read-spec =
     tie.close
-    (tie.spec
-    Inv-loop
-    μ-loop
-    text-requires
-    returns
-    loop-holds
-    add-loop
-    pair-requires
-    text-requires-2
-    returns-2
-    cast-bytes
-    array-write-bytes
-    add-count
-    add-if3
-    returns-3
-    add-if4
-    shared-slice-read-if4
-    text-requires-3
-    returns-4
-    add-at
-    loop-less
-    loop-again
-    text-requires-4
-    returns-5)
+    (tie.spec Inv-loop μ-loop (λ c κs. search needs) returns loop-holds add-loop (λ c κs. search needs)
+    (λ c κs. search needs) returns-2 (λ c. search needs) (λ c. search needs) (λ c. search needs)
+    (λ c. search needs) returns-3 (λ c. search needs) (λ c. search needs) (λ c κs. search needs) returns-4
+    (λ c. search needs) (λ c. search needs) loop-again (λ c κs. search needs) returns-5)

@@ -24,61 +24,22 @@ sub-loop c = omega arith
 find-requires : tie.Need-find-requires Inv-loop μ-loop
 find-requires c κs = omega arith
 
-reported-so-far-requires : tie.Need-reported-so-far-requires Inv-loop μ-loop
-reported-so-far-requires c κs = search needs
-
 same-length : tie.Need-same-length Inv-loop μ-loop
 same-length c = c .before .before .before .before .loop .inv .size
 
 returns : tie.Need-returns Inv-loop μ-loop
 returns c = rw (c .reported-so-far .ensures) (ended _ _ _ _ _ _ _ _ (c .before .before .before .before .loop .inv) _ (c .before .before .find .ensures .0) (c .before .if1 .taken))
 
-sub-of-line : tie.Need-sub-of-line Inv-loop μ-loop
-sub-of-line c = search needs
-
-part-of-line-start : tie.Need-part-of-line-start Inv-loop μ-loop
-part-of-line-start c = search needs
-
-part-of-line-end : tie.Need-part-of-line-end Inv-loop μ-loop
-part-of-line-end c = search needs
-
 of-line-requires : tie.Need-of-line-requires Inv-loop μ-loop
 of-line-requires c κs = c .before .before .before .before .before .before .before .before .pre
 
-wrapping-add-u64-requires : tie.Need-wrapping-add-u64-requires Inv-loop μ-loop
-wrapping-add-u64-requires c κs = search needs
-
-sub-put : tie.Need-sub-put Inv-loop μ-loop
-sub-put c = search needs
-
-part-put-start : tie.Need-part-put-start Inv-loop μ-loop
-part-put-start c = search needs
-
-part-put-end : tie.Need-part-put-end Inv-loop μ-loop
-part-put-end c = search needs
-
-put-requires : tie.Need-put-requires Inv-loop μ-loop
-put-requires c κs = search needs
-
 add-put : tie.Need-add-put Inv-loop μ-loop
 add-put c = omega (arith, behind-within _ (c .before .before .before .before .before .before .before .before .before .before .loop .out) (c .before .before .before .before .before .before .before .before .before .before .loop .put) (omega arith) (c .before .before .put .ensures) (c .before .before .put .kept .0))
-
-add-lines : tie.Need-add-lines Inv-loop μ-loop
-add-lines c = search needs
-
-add-used : tie.Need-add-used Inv-loop μ-loop
-add-used c = search needs
-
-loop-less : tie.Need-loop-less Inv-loop μ-loop
-loop-less c = search needs
 
 loop-again : tie.Need-loop-again Inv-loop μ-loop
 loop-again c =
     one-more _ _ _ _ _ _ _ _ (c .before .before .before .before .before .before .before .before .before .before .loop .inv) _ (c .before .before .before .before .before .before .before .before .find .ensures .0) (omega (arith, c .before .before .before .before .before .before .before .before .find .ensures .1)) (omega (arith, c .before .before .before .before .before .before .before .before .before .before .loop .inv .size)) _ _ _ _ _
     (c .before .before .before .before .before .of-line .ensures) (c .before .before .before .before .wrapping-add-u64 .ensures) (c .before .before .put .ensures) (c .before .before .put .kept .0) refl
-
-reported-so-far-requires-2 : tie.Need-reported-so-far-requires-2 Inv-loop μ-loop
-reported-so-far-requires-2 c κs = search needs
 
 same-length-2 : tie.Need-same-length-2 Inv-loop μ-loop
 same-length-2 c = c .before .before .loop .inv .size
@@ -89,29 +50,8 @@ returns-2 c = rw (c .reported-so-far2 .ensures) (full _ _ _ _ _ _ _ _ (c .before
 pub rows-spec : {M : Type 1} → statement M
 rows-spec =
     tie.close
-    (tie.spec
-    Inv-loop
-    μ-loop
-    loop-holds
-    sub-loop
-    find-requires
-    reported-so-far-requires
-    same-length
-    returns
-    sub-of-line
-    part-of-line-start
-    part-of-line-end
-    of-line-requires
-    wrapping-add-u64-requires
-    sub-put
-    part-put-start
-    part-put-end
-    put-requires
-    add-put
-    add-lines
-    add-used
-    loop-less
-    loop-again
-    reported-so-far-requires-2
-    same-length-2
+    (tie.spec Inv-loop μ-loop loop-holds sub-loop find-requires (λ c κs. search needs) same-length returns
+    (λ c. search needs) (λ c. search needs) (λ c. search needs) of-line-requires (λ c κs. search needs)
+    (λ c. search needs) (λ c. search needs) (λ c. search needs) (λ c κs. search needs) add-put
+    (λ c. search needs) (λ c. search needs) (λ c. search needs) loop-again (λ c κs. search needs) same-length-2
     returns-2)

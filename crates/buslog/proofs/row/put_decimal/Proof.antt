@@ -17,32 +17,11 @@ Inv-loop out number digits₀ at₀ rest₀ digits at rest = (length digits ≡ 
 abbrev μ-loop : tie.MeasureT-loop
 μ-loop out number digits₀ at₀ rest₀ digits at rest = rest
 
-add-digits : tie.Need-add-digits Inv-loop μ-loop
-add-digits c = search needs
-
-cast-digits : tie.Need-cast-digits Inv-loop μ-loop
-cast-digits c = search needs
-
-array-write-digits : tie.Need-array-write-digits Inv-loop μ-loop
-array-write-digits c = search needs
-
 loop-holds : tie.Need-loop-holds Inv-loop μ-loop
 loop-holds c = (refl, omega arith, omega arith, decimal (c .before .args .number) (c .before .fits .number .fits))
 
 sub-at : tie.Need-sub-at Inv-loop μ-loop
 sub-at c = fewer (c .before .loop .at) (c .before .loop .rest) (c .loop-test .taken) (c .before .loop .inv .2)
-
-add-digits-2 : tie.Need-add-digits-2 Inv-loop μ-loop
-add-digits-2 c = search needs
-
-cast-digits-2 : tie.Need-cast-digits-2 Inv-loop μ-loop
-cast-digits-2 c = search needs
-
-array-write-digits-2 : tie.Need-array-write-digits-2 Inv-loop μ-loop
-array-write-digits-2 c = search needs
-
-loop-less : tie.Need-loop-less Inv-loop μ-loop
-loop-less c = search needs
 
 loop-again : tie.Need-loop-again Inv-loop μ-loop
 loop-again c =
@@ -54,20 +33,8 @@ loop-again c =
       i .3 ∙ turn (c .before .loop .at) (c .before .loop .rest) (c .before .loop .digits) (c .loop-test .taken) (i .2) (omega arith),
     )
 
-sub-copy : tie.Need-sub-copy Inv-loop μ-loop
-sub-copy c = search needs
-
-part-copy-start : tie.Need-part-copy-start Inv-loop μ-loop
-part-copy-start c = search needs
-
-part-copy-end : tie.Need-part-copy-end Inv-loop μ-loop
-part-copy-end c = search needs
-
 copy-requires : tie.Need-copy-requires Inv-loop μ-loop
 copy-requires c κs = simp (length-take, length-drop) (omega arith)
-
-same-length : tie.Need-same-length Inv-loop μ-loop
-same-length c = search needs
 
 returns : tie.Need-returns Inv-loop μ-loop
 returns c =
@@ -79,22 +46,6 @@ returns c =
 pub put-decimal-spec : {M : Type 1} → statement M
 put-decimal-spec =
     tie.close
-    (tie.spec
-    Inv-loop
-    μ-loop
-    add-digits
-    cast-digits
-    array-write-digits
-    loop-holds
-    sub-at
-    add-digits-2
-    cast-digits-2
-    array-write-digits-2
-    loop-less
-    loop-again
-    sub-copy
-    part-copy-start
-    part-copy-end
-    copy-requires
-    same-length
-    returns)
+    (tie.spec Inv-loop μ-loop (λ c. search needs) (λ c. search needs) (λ c. search needs) loop-holds sub-at
+    (λ c. search needs) (λ c. search needs) (λ c. search needs) (λ c. search needs) loop-again
+    (λ c. search needs) (λ c. search needs) (λ c. search needs) copy-requires (λ c. search needs) returns)

@@ -18,24 +18,12 @@ Inv-loop t f n m₀ m = (n ≡ memberCount t) × (memberOf t f ≡ firstFrom (λ
 abbrev μ-loop : tie.MeasureT-loop
 μ-loop t f n m₀ m = n - m
 
-count-requires : tie.Need-count-requires Inv-loop μ-loop
-count-requires c κs = search needs
-
 loop-holds : tie.Need-loop-holds Inv-loop μ-loop
 unfolding memberOf
 loop-holds c = (c .count .ensures, rw (c .count .ensures, sub-zero) refl)
 
-frame-requires : tie.Need-frame-requires Inv-loop μ-loop
-frame-requires c κs = search needs
-
 returns : tie.Need-returns Inv-loop μ-loop
 returns c = sym (c .before .before .before .loop .inv .1 ∙ right _ _ _ (c .before .before .loop-test .taken) (eq-eqb _ _ (sym (c .before .frame .ensures) ∙ c .if1 .taken)))
-
-add-m : tie.Need-add-m Inv-loop μ-loop
-add-m c = search needs
-
-loop-less : tie.Need-loop-less Inv-loop μ-loop
-loop-less c = search needs
 
 loop-again : tie.Need-loop-again Inv-loop μ-loop
 loop-again c =
@@ -48,14 +36,5 @@ returns-2 c = sym (c .before .loop .inv .1 ∙ ended _ _ _ (c .loop-test .left))
 pub member-of-spec : {M : Type 1} → statement M
 member-of-spec =
     tie.close
-    (tie.spec
-    Inv-loop
-    μ-loop
-    count-requires
-    loop-holds
-    frame-requires
-    returns
-    add-m
-    loop-less
-    loop-again
-    returns-2)
+    (tie.spec Inv-loop μ-loop (λ c κs. search needs) loop-holds (λ c κs. search needs) returns
+    (λ c. search needs) (λ c. search needs) loop-again returns-2)

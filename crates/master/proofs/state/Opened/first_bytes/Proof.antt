@@ -1,6 +1,6 @@
 -- `state::Opened::first_bytes` meets its contract.
 use borrow.Author.Needs.{needs}
-use Rattle.master.specs.Transfers.{opening, sends, sentData}
+use Rattle.master.specs.Transfers.{formatOf, opening, sends, sentData}
 use Rattle.master.proofs.state.Opened.first_bytes.Statement.{statement}
 use Rattle.master.proofs.state.Opened.first_bytes.Tie as tie
 
@@ -10,19 +10,19 @@ frame-copy-requires c κs =
     (asked .0, asked .1, rw (c .before .self .given .1) at (asked .2))
 
 returns : tie.Need-returns
-unfolding opening sends sentData
+unfolding opening sentData formatOf
 returns c = rw (c .enum-told .given .1)
 
 returns-2 : tie.Need-returns-2
-unfolding opening sends sentData
+unfolding opening sentData formatOf
 returns-2 c = rw (c .before .before .self .given .1, c .frame-copy .ensures)
 
 returns-3 : tie.Need-returns-3
-unfolding opening sends sentData
+unfolding opening sentData formatOf
 returns-3 c = rw (c .before .enum-told2 .given .1, c .request-copy .ensures)
 
 returns-4 : tie.Need-returns-4
-unfolding opening sends sentData
+unfolding opening sentData formatOf
 returns-4 c = rw (c .enum-told3 .given .1)
 
 pub first-bytes-spec : {M : Type 1} → statement M

@@ -1,27 +1,10 @@
--- `state::Opened::identifier` meets its contract.
+-- `state::Opened::identifier` meets its contract: it is part of the format.
 use borrow.Author.Needs.{needs}
-use Rattle.master.specs.Transfers.{openIdentifier}
 use Rattle.master.proofs.state.Opened.identifier.Statement.{statement}
 use Rattle.master.proofs.state.Opened.identifier.Tie as tie
 
 returns : tie.Need-returns
-unfolding openIdentifier
-returns c = rw (c .enum-told .given .1)
-
-returns-2 : tie.Need-returns-2
-unfolding openIdentifier
-returns-2 c = rw (c .before .before .self .given .1, c .identifier .ensures)
-
-returns-3 : tie.Need-returns-3
-unfolding openIdentifier
-returns-3 c = rw (c .enum-told2 .given .1)
-
-returns-4 : tie.Need-returns-4
-unfolding openIdentifier
-returns-4 c = rw (c .enum-told3 .given .1)
+returns c = rw (c .format .ensures)
 
 pub identifier-spec : {M : Type 1} → statement M
-identifier-spec =
-    tie.close
-    (tie.spec (λ c. search needs) (λ c. search needs) (λ c κs. search needs) (λ c. search needs)
-    (λ c. search needs) returns returns-2 returns-3 returns-4)
+identifier-spec = tie.close (tie.spec (λ c κs. search needs) returns)

@@ -1,27 +1,10 @@
--- `state::Opened::sends` meets its contract.
+-- `state::Opened::sends` meets its contract: it is part of the format.
 use borrow.Author.Needs.{needs}
-use Rattle.master.specs.Transfers.{sends}
 use Rattle.master.proofs.state.Opened.sends.Statement.{statement}
 use Rattle.master.proofs.state.Opened.sends.Tie as tie
 
 returns : tie.Need-returns
-unfolding sends
-returns c = rw (c .enum-told .given .1)
-
-returns-2 : tie.Need-returns-2
-unfolding sends
-returns-2 c = rw (c .before .before .self .given .1, c .published .ensures)
-
-returns-3 : tie.Need-returns-3
-unfolding sends
-returns-3 c = rw (c .enum-told2 .given .1)
-
-returns-4 : tie.Need-returns-4
-unfolding sends
-returns-4 c = rw (c .enum-told3 .given .1)
+returns c = rw (c .format .ensures)
 
 pub sends-spec : {M : Type 1} → statement M
-sends-spec =
-    tie.close
-    (tie.spec (λ c. search needs) (λ c. search needs) (λ c κs. search needs) (λ c. search needs)
-    (λ c. search needs) returns returns-2 returns-3 returns-4)
+sends-spec = tie.close (tie.spec (λ c κs. search needs) returns)

@@ -1,0 +1,85 @@
+// The calls that begin a message and tell of it.
+use crate::admit::buffer_size;
+use crate::admit::refused;
+use crate::state::Message;
+use crate::state::Sending;
+use crate::state::State;
+use cluster::Verdict;
+use refusal::Refusal;
+ghost use mathlib.Core.Path.{_≡_};
+ghost use lib.ListN.{length};
+ghost use Rattle.master.specs.Message.{sendVerdict, sendOf, messageOf};
+
+// What send answers.
+pub enum SendAnswer {
+    Sending,
+    Refused(Refusal),
+}
+
+// The state handed back, and the answer.
+pub struct Sent {
+    pub state: State,
+    pub answer: SendAnswer,
+}
+
+// What the message state is.
+pub enum MessageAnswer {
+    None,
+    Sending,
+    Completed,
+    Failed,
+    Refused(Refusal),
+}
+
+impl State {
+    // Begins to send a message of a length to a NAD; its bytes are lent to the ticks.
+    pub fn send(self, t: &[u16], nad: u8, length: u32) -> Sent
+        ensures { λ r. ⌜ r ≡ sendOf (now (t .entry)) self nad length ⌝ }
+    {
+        if let Verdict::Refused(refusal) = self.judge_send(t, length) {
+            return Sent {
+                state: self,
+                answer: SendAnswer::Refused(refusal),
+            };
+        }
+        Sent {
+            state: self.with_message(Message::Sending(Sending {
+                nad,
+                length: length as u16,
+                next: 0,
+            })),
+            answer: SendAnswer::Sending,
+        }
+    }
+
+    // Tells none, sending, completed or failed.
+    pub fn message_state(self, t: &[u16]) -> MessageAnswer
+        ensures { λ r. ⌜ r ≡ messageOf (now (t .entry)) self ⌝ }
+    {
+        if let Verdict::Refused(refusal) = self.admit(t, buffer_size(t)) {
+            return MessageAnswer::Refused(refusal);
+        }
+        let message = self.message;
+        message.told()
+    }
+
+    // The verdict on a send.
+    fn judge_send(self, t: &[u16], length: u32) -> Verdict
+        ensures { λ r. ⌜ r ≡ sendVerdict (now (t .entry)) self length ⌝ }
+    {
+        if let Verdict::Refused(refusal) = self.admit(t, buffer_size(t)) {
+            return Verdict::Refused(refusal);
+        }
+        if length < 1 {
+            return refused(Refusal::MESSAGE_LENGTH);
+        }
+        if (State::LONGEST as u32) < length {
+            return refused(Refusal::MESSAGE_LENGTH);
+        }
+        let message = self.message;
+        if message.is_sending() {
+            return refused(Refusal::SENDING);
+        }
+        Verdict::Accepted
+    }
+}
