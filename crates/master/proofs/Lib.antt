@@ -14,7 +14,6 @@ pub mod Lengths
 pub mod Marking
 pub mod MessageFits
 pub mod Nine
-pub mod NumberLaws
 pub mod NumberZero
 pub mod OpenLaws
 pub mod Parts
@@ -22,10 +21,11 @@ pub mod PendingFits
 pub mod PendingLaws
 pub mod PendingLength
 pub mod ReadBack
-pub mod RefusedLaws
+pub mod StartLaws
 pub mod SlotFits
 pub mod SlotOpens
 pub mod StatusKept
+pub mod StepLaws
 pub mod StatusLaws
 pub mod Tests
 pub mod Verdicts

@@ -27,6 +27,11 @@ use Rattle.master.specs.Message.{sendVerdict}
 use Rattle.master.specs.Tick.{tickVerdict}
 use Rattle.master.specs.Byte.{byteVerdict}
 use Rattle.master.specs.Ahead.{memberOf, aheadVerdict}
+use Rattle.master.specs.Write.{isBytes, fitsSignal}
+use Rattle.master.specs.Calls as call
+use Rattle.master.specs.Calls.{Call}
+use Rattle.master.specs.Run.{Held}
+use Rattle.master.specs.Step.{verdictOf}
 
 -- a verdict that refuses with no 0
 abbrev pub Numbered : Verdict → Type 0
@@ -72,46 +77,32 @@ pub fresh-numbered : (t : List ℕ) (n : ℕ) → Numbered (freshVerdict t n)
 unfolding freshVerdict
 fresh-numbered t n = both (judged t) _ (judged-numbered t) (tested (eqb n (bufferSize t)) 1 Accepted accepting)
 
--- a write
-pub write-numbered : (t : List ℕ) (n : ℕ) (x : State) (s : ℕ) (array fits : Bool) → Numbered (then (admitted t n x) (writable t s array fits))
-unfolding writable
-write-numbered t n x s array fits =
-    both (admitted t n x) _ (admitted-numbered t n x)
-    (tested (ltb s (signalCount t)) 3 _
-    (tested (signalPublished t s) 4 _ (tested (Bool·beq (isArray t s) array) 5 _ (tested fits 6 Accepted accepting))))
-
--- a read
-pub read-numbered : (t : List ℕ) (n : ℕ) (x : State) (s : ℕ) (array : Bool) → Numbered (readVerdict t n x s array)
-unfolding readVerdict
-read-numbered t n x s array =
-    both (admitted t n x) _ (admitted-numbered t n x)
-    (tested (ltb s (signalCount t)) 3 _ (tested (Bool·beq (isArray t s) array) 5 Accepted accepting))
-
--- select
-pub select-numbered : (t : List ℕ) (s : State) (n : ℕ) → Numbered (selectVerdict t s n)
-unfolding selectVerdict
-select-numbered t s n =
-    both (admitted t (bufferSize t) s) _ (admitted-numbered t (bufferSize t) s) (tested (ltb n (scheduleCount t)) 3 Accepted accepting)
-
--- tick
-pub tick-numbered : (t : List ℕ) (n lent : ℕ) (s : State) → Numbered (tickVerdict t n lent s)
-unfolding tickVerdict
-tick-numbered t n lent s = both (admitted t n s) _ (admitted-numbered t n s) (tested (lentFits (s .message) lent) 2 Accepted accepting)
-
--- byte in
-pub byte-numbered : (t : List ℕ) (n : ℕ) (s : State) → Numbered (byteVerdict t n s)
-unfolding byteVerdict
-byte-numbered t n s = both (admitted t n s) _ (admitted-numbered t n s) (tested (isOpen (s .transfer .opened)) 7 Accepted accepting)
-
--- send
-pub send-numbered : (t : List ℕ) (s : State) (n : ℕ) → Numbered (sendVerdict t s n)
-unfolding sendVerdict
-send-numbered t s n =
-    both (admitted t (bufferSize t) s) _ (admitted-numbered t (bufferSize t) s)
-    (tested (isLength n) 8 _ (tested (not (isSending (s .message))) 9 Accepted accepting))
-
--- number ahead
-pub ahead-numbered : (t : List ℕ) (s : State) (f : ℕ) → Numbered (aheadVerdict t s f)
-unfolding aheadVerdict
-ahead-numbered t s f =
-    both (admitted t (bufferSize t) s) _ (admitted-numbered t (bufferSize t) s) (tested (ltb (memberOf t f) (memberCount t)) 3 Accepted accepting)
+-- every other one
+pub step-numbered : (t : List ℕ) (x : Held) (c : Call) → Numbered (verdictOf t x c)
+unfolding verdictOf writable readVerdict selectVerdict tickVerdict byteVerdict sendVerdict aheadVerdict
+step-numbered t x (call.write w) =
+    both (admitted t (length (x .bytes)) (x .state)) _ (admitted-numbered t (length (x .bytes)) (x .state))
+    (tested (ltb (w .signal) (signalCount t)) 3 _
+    (tested (signalPublished t (w .signal)) 4 _
+    (tested (Bool·beq (isArray t (w .signal)) (isBytes (w .value))) 5 _ (tested (fitsSignal t (w .signal) (w .value)) 6 Accepted accepting))))
+step-numbered t x (call.read s) =
+    both (admitted t (length (x .bytes)) (x .state)) _ (admitted-numbered t (length (x .bytes)) (x .state))
+    (tested (ltb s (signalCount t)) 3 _ (tested (Bool·beq (isArray t s) false) 5 Accepted accepting))
+step-numbered t x (call.readArray s) =
+    both (admitted t (length (x .bytes)) (x .state)) _ (admitted-numbered t (length (x .bytes)) (x .state))
+    (tested (ltb s (signalCount t)) 3 _ (tested (Bool·beq (isArray t s) true) 5 Accepted accepting))
+step-numbered t x (call.select n) =
+    both (admitted t (bufferSize t) (x .state)) _ (admitted-numbered t (bufferSize t) (x .state)) (tested (ltb n (scheduleCount t)) 3 Accepted accepting)
+step-numbered t x (call.tick m) =
+    both (admitted t (length (x .bytes)) (x .state)) _ (admitted-numbered t (length (x .bytes)) (x .state))
+    (tested (lentFits (x .state .message) (length m)) 2 Accepted accepting)
+step-numbered t x (call.byteIn b) =
+    both (admitted t (length (x .bytes)) (x .state)) _ (admitted-numbered t (length (x .bytes)) (x .state))
+    (tested (isOpen (x .state .transfer .opened)) 7 Accepted accepting)
+step-numbered t x call.readStatus = admitted-numbered t (bufferSize t) (x .state)
+step-numbered t x (call.send nad n) =
+    both (admitted t (bufferSize t) (x .state)) _ (admitted-numbered t (bufferSize t) (x .state))
+    (tested (isLength n) 8 _ (tested (not (isSending (x .state .message))) 9 Accepted accepting))
+step-numbered t x call.messageState = admitted-numbered t (bufferSize t) (x .state)
+step-numbered t x (call.numberAhead f) =
+    both (admitted t (bufferSize t) (x .state)) _ (admitted-numbered t (bufferSize t) (x .state)) (tested (ltb (memberOf t f) (memberCount t)) 3 Accepted accepting)

@@ -13,7 +13,7 @@ use Rattle.cluster.specs.declared.Verdict.the-variants.{Accepted}
 use Rattle.cluster.specs.Check.{then, RightTable}
 use Rattle.cluster.specs.Table.{frameCount, frameLength, signalCount, signalWidth, isArray}
 use Rattle.cluster.specs.Fresh.{signalPlace, arrayLength}
-use Rattle.cluster.specs.Values.{touches, valueFits, arrayFits, arrayRead, withScalar, withArray}
+use Rattle.cluster.specs.Values.{touches, valueFits, arrayFits, arrayRead}
 use Rattle.cluster.proofs.Accepted.{then-first, then-second}
 use Rattle.cluster.proofs.FrameLaws.{frame-length-high}
 use Rattle.cluster.proofs.ValueLaws.{scalar-length, array-length-stays, read-scalar, read-array, scalar-untouched, array-untouched, scalar-outside, array-outside}
@@ -21,16 +21,16 @@ use Rattle.transport.proofs.Tests.{order}
 use Rattle.master.specs.declared.state.State.{State}
 use Rattle.master.specs.declared.write.WriteAnswer.the-variants.{Written}
 use Rattle.master.specs.declared.write.Wrote.{Wrote}
-use Rattle.master.specs.declared.read.ReadAnswer.the-variants as scalar
-use Rattle.master.specs.declared.read.ArrayAnswer.the-variants as array
+use Rattle.master.specs.declared.read.ReadAnswer.the-variants as read
+use Rattle.master.specs.declared.read.ArrayAnswer.the-variants as bytes
 use Rattle.master.specs.Admit.{admitted, bufferSize, Step}
 use Rattle.master.specs.Transfers.{frameData}
-use Rattle.master.specs.Write.{marked, writable, wrote, writeOf, writeArrayOf}
+use Rattle.master.specs.Write.{marked, writable, Value, scalar, array, Put, put, isBytes, fitsSignal, withValue, writeVerdict, writeOf}
 use Rattle.master.specs.Read.{readVerdict, readOf, readArrayOf}
 use Rattle.master.proofs.Admitted.{admitted-table, admitted-size, admitted-fits, admits, fits-clauses, fits-all}
 use Rattle.master.proofs.FitsKept.{marked-fits}
 use Rattle.master.proofs.Answered.{by-verdict, Writable, writable-signal}
-use Rattle.master.proofs.WriteLaws.{scalarVerdict, arrayVerdict, write-accepts, write-state, write-left, write-array-accepts, write-array-state, write-array-left}
+use Rattle.master.proofs.WriteLaws.{write-accepts, write-state, write-left}
 
 -- ---- reading
 
@@ -66,34 +66,36 @@ known t x bs s kind fits a =
     }
 
 -- a scalar reads as the value that an accepted write put there
-pub write-value : (t : List ℕ) (x : State) (bs : List ℕ) (s v : ℕ) → writeOf t x bs s v .given .answer ≡ Written
-    → readOf t (writeOf t x bs s v .given .state) (writeOf t x bs s v .left) s ≡ scalar.Value v
+pub write-value : (t : List ℕ) (x : State) (bs : List ℕ) (s v : ℕ) → writeOf t x bs (put s (scalar v)) .given .answer ≡ Written
+    → readOf t (writeOf t x bs (put s (scalar v)) .given .state) (writeOf t x bs (put s (scalar v)) .left) s ≡ read.Value v
 unfolding readOf bufferSize
 write-value t x bs s v k =
-    let w = known t x bs s false (valueFits t s v) (write-accepts t x bs s v k) in
+    let w = put s (scalar v) in
+    let knows = known t x bs s false (valueFits t s v) (write-accepts t x bs w k) in
     rw (
-      write-state t x bs s v k,
-      write-left t x bs s v k,
+      write-state t x bs w k,
+      write-left t x bs w k,
       scalar-length t bs s v,
-      readable t (length bs) (marked t s x) s false (w .admits-after) (w .signal .below) (w .signal .kind-is),
-      read-scalar t (w .table-right) s (w .signal .below) (w .signal .kind-is) bs (w .size-right) v (w .signal .value-fits),
+      readable t (length bs) (marked t s x) s false (knows .admits-after) (knows .signal .below) (knows .signal .kind-is),
+      read-scalar t (knows .table-right) s (knows .signal .below) (knows .signal .kind-is) bs (knows .size-right) v (knows .signal .value-fits),
     )
 
 -- an array reads as the bytes that an accepted write put there, and as many
 pub write-array-value : (t : List ℕ) (x : State) (bs : List ℕ) (s : ℕ) (vs : List ℕ) → Bytes vs
-    → writeArrayOf t x bs s vs .given .answer ≡ Written
-    → readArrayOf t (writeArrayOf t x bs s vs .given .state) (writeArrayOf t x bs s vs .left) s
-    ≡ record { answer = array.Bytes (length vs); bytes = vs ++ replicate (8 - length vs) 255 }
+    → writeOf t x bs (put s (array vs)) .given .answer ≡ Written
+    → readArrayOf t (writeOf t x bs (put s (array vs)) .given .state) (writeOf t x bs (put s (array vs)) .left) s
+    ≡ record { answer = bytes.Bytes (length vs); bytes = vs ++ replicate (8 - length vs) 255 }
 unfolding readArrayOf arrayRead bufferSize arrayFits
 write-array-value t x bs s vs hv k =
-    let w = known t x bs s true (arrayFits t s vs) (write-array-accepts t x bs s vs k) in
-    let e : length vs ≡ arrayLength t s = eqb-true (length vs) (arrayLength t s) (w .signal .value-fits) in
+    let w = put s (array vs) in
+    let knows = known t x bs s true (arrayFits t s vs) (write-accepts t x bs w k) in
+    let e : length vs ≡ arrayLength t s = eqb-true (length vs) (arrayLength t s) (knows .signal .value-fits) in
     rw (
-      write-array-state t x bs s vs k,
-      write-array-left t x bs s vs k,
+      write-state t x bs w k,
+      write-left t x bs w k,
       array-length-stays t bs s vs,
-      readable t (length bs) (marked t s x) s true (w .admits-after) (w .signal .below) (w .signal .kind-is),
-      read-array t (w .table-right) s (w .signal .below) (w .signal .kind-is) bs (w .size-right) vs hv (w .signal .value-fits),
+      readable t (length bs) (marked t s x) s true (knows .admits-after) (knows .signal .below) (knows .signal .kind-is),
+      read-array t (knows .table-right) s (knows .signal .below) (knows .signal .kind-is) bs (knows .size-right) vs hv (knows .signal .value-fits),
       e,
     )
 
@@ -128,46 +130,40 @@ module _ (t : List ℕ) (bs cs : List ℕ) (f : ℕ) (ok : RightTable t) (size :
       (λ h. data-none t cs f (omega arith) ∙ sym (data-none t bs f (omega arith)))
       (λ h. data-same t bs cs f e (frame-length-high t ok f h) same)
 
--- a write of a scalar, refused or not, changes the data of no frame that its signal does not touch
-pub write-other-frames : (t : List ℕ) (x : State) (bs : List ℕ) (s v : ℕ) → Bytes bs → (f : ℕ) → touches t s f ≡ false
-    → frameData t (writeOf t x bs s v .left) f ≡ frameData t bs f
-unfolding writeOf wrote
-write-other-frames t x bs s v hb f n =
-    by-verdict (λ (w : Step Wrote). frameData t (w .left) f ≡ frameData t bs f) (scalarVerdict t x bs s v) _ _
-    (λ r e. refl)
-    (λ a. let w = known t x bs s false (valueFits t s v) a in
-    untouched-data t bs (withScalar t bs s v) f (w .table-right) (w .size-right) (scalar-length t bs s v)
-    (scalar-untouched t (w .table-right) s (w .signal .below) bs hb v f (w .signal .kind-is) n))
+-- a value leaves as many bytes
+pub value-length : (t bs : List ℕ) (s : ℕ) (v : Value) → length (withValue t bs s v) ≡ length bs
+value-length t bs s (scalar v) = scalar-length t bs s v
+value-length t bs s (array vs) = array-length-stays t bs s vs
 
--- a write of an array, refused or not, changes the data of no frame that its signal does not touch
-pub write-array-other-frames : (t : List ℕ) (x : State) (bs : List ℕ) (s : ℕ) (vs : List ℕ) → Bytes bs → (f : ℕ) → touches t s f ≡ false
-    → frameData t (writeArrayOf t x bs s vs .left) f ≡ frameData t bs f
-unfolding writeArrayOf wrote
-write-array-other-frames t x bs s vs hb f n =
-    by-verdict (λ (w : Step Wrote). frameData t (w .left) f ≡ frameData t bs f) (arrayVerdict t x bs s vs) _ _
-    (λ r e. refl)
-    (λ a. let w = known t x bs s true (arrayFits t s vs) a in
-    untouched-data t bs (withArray t bs s vs) f (w .table-right) (w .size-right) (array-length-stays t bs s vs)
-    (array-untouched t (w .table-right) s (w .signal .below) bs hb vs f (w .signal .kind-is) (w .signal .value-fits) n))
+module _ (t : List ℕ) (ok : RightTable t) (bs : List ℕ) (s : ℕ) where
+  -- a value leaves the bytes of a frame that its signal does not touch
+  value-untouched : (v : Value) → Writable t s (isBytes v) (fitsSignal t s v) → Bytes bs → (f : ℕ) → touches t s f ≡ false
+      → (k : ℕ) → k < 8 → getD (withValue t bs s v) (8 * f + k) 0 ≡ getD bs (8 * f + k) 0
+  value-untouched (scalar v) w hb f n = scalar-untouched t ok s (w .below) bs hb v f (w .kind-is) n
+  value-untouched (array vs) w hb f n = array-untouched t ok s (w .below) bs hb vs f (w .kind-is) (w .value-fits) n
 
--- ---- the other bits
+  -- and each bit outside the signal
+  value-outside : (v : Value) → Writable t s (isBytes v) (fitsSignal t s v) → (j : ℕ) → inside (signalPlace t s) (signalWidth t s) j ≡ false
+      → bitAt (withValue t bs s v) j ≡ bitAt bs j
+  value-outside (scalar v) w = scalar-outside t ok s (w .below) bs v (w .kind-is)
+  value-outside (array vs) w = array-outside t ok s (w .below) bs vs (w .kind-is) (w .value-fits)
 
--- a write of a scalar, refused or not, changes no bit outside the signal
-pub write-outside : (t : List ℕ) (x : State) (bs : List ℕ) (s v j : ℕ) → inside (signalPlace t s) (signalWidth t s) j ≡ false
-    → bitAt (writeOf t x bs s v .left) j ≡ bitAt bs j
-unfolding writeOf wrote
-write-outside t x bs s v j n =
-    by-verdict (λ (w : Step Wrote). bitAt (w .left) j ≡ bitAt bs j) (scalarVerdict t x bs s v) _ _
-    (λ r e. refl)
-    (λ a. let w = known t x bs s false (valueFits t s v) a in
-    scalar-outside t (w .table-right) s (w .signal .below) bs v (w .signal .kind-is) j n)
+module _ (t : List ℕ) (x : State) (bs : List ℕ) (w : Put) where
+  -- a write, refused or not, changes the data of no frame that its signal does not touch
+  pub write-other-frames : Bytes bs → (f : ℕ) → touches t (w .signal) f ≡ false → frameData t (writeOf t x bs w .left) f ≡ frameData t bs f
+  unfolding writeOf
+  write-other-frames hb f n =
+      by-verdict (λ (z : Step Wrote). frameData t (z .left) f ≡ frameData t bs f) (writeVerdict t (length bs) x w) _ _
+      (λ r e. refl)
+      (λ a. let knows = known t x bs (w .signal) (isBytes (w .value)) (fitsSignal t (w .signal) (w .value)) a in
+      untouched-data t bs (withValue t bs (w .signal) (w .value)) f (knows .table-right) (knows .size-right) (value-length t bs (w .signal) (w .value))
+      (value-untouched t (knows .table-right) bs (w .signal) (w .value) (knows .signal) hb f n))
 
--- a write of an array, refused or not, changes no bit outside the signal
-pub write-array-outside : (t : List ℕ) (x : State) (bs : List ℕ) (s : ℕ) (vs : List ℕ) (j : ℕ)
-    → inside (signalPlace t s) (signalWidth t s) j ≡ false → bitAt (writeArrayOf t x bs s vs .left) j ≡ bitAt bs j
-unfolding writeArrayOf wrote
-write-array-outside t x bs s vs j n =
-    by-verdict (λ (w : Step Wrote). bitAt (w .left) j ≡ bitAt bs j) (arrayVerdict t x bs s vs) _ _
-    (λ r e. refl)
-    (λ a. let w = known t x bs s true (arrayFits t s vs) a in
-    array-outside t (w .table-right) s (w .signal .below) bs vs (w .signal .kind-is) (w .signal .value-fits) j n)
+  -- a write, refused or not, changes no bit outside the signal
+  pub write-outside : (j : ℕ) → inside (signalPlace t (w .signal)) (signalWidth t (w .signal)) j ≡ false → bitAt (writeOf t x bs w .left) j ≡ bitAt bs j
+  unfolding writeOf
+  write-outside j n =
+      by-verdict (λ (z : Step Wrote). bitAt (z .left) j ≡ bitAt bs j) (writeVerdict t (length bs) x w) _ _
+      (λ r e. refl)
+      (λ a. let knows = known t x bs (w .signal) (isBytes (w .value)) (fitsSignal t (w .signal) (w .value)) a in
+      value-outside t (knows .table-right) bs (w .signal) (w .value) (knows .signal) j n)

@@ -2,7 +2,6 @@
 use Prim.Native.Nat.{ℕ}
 use mathlib.Core.Bool.{Bool, true, false}
 use mathlib.Core.List.{List}
-use Rattle.cluster.specs.Values.{withScalar, withArray}
 use Rattle.master.specs.declared.write.WriteAnswer.{WriteAnswer}
 use Rattle.master.specs.declared.write.WriteAnswer.the-variants as write
 use Rattle.master.specs.declared.select.SelectAnswer.{SelectAnswer}
@@ -15,13 +14,9 @@ use Rattle.master.specs.declared.read.StatusAnswer.{StatusAnswer}
 use Rattle.master.specs.declared.read.StatusAnswer.the-variants as status
 use Rattle.master.specs.declared.send.SendAnswer.{SendAnswer}
 use Rattle.master.specs.declared.send.SendAnswer.the-variants as send
+use Rattle.master.specs.Write.{Value}
 use Rattle.master.specs.Calls as call
 use Rattle.master.specs.Calls.{Event, _⇒_}
-
--- what a write puts into a signal
-pub data Value : Type 0 where
-  scalar : ℕ → Value
-  array : List ℕ → Value
 
 -- an accepted call that changes something, with what it was given, and what a tick or a byte was answered
 pub data Act : Type 0 where
@@ -67,8 +62,7 @@ sendAct nad n (send.Refused r) = nothing
 
 -- what counts of an event
 abbrev pub actOf : Event → Act
-actOf (call.write s v ⇒ a) = writeAct s (scalar v) a
-actOf (call.writeArray s vs ⇒ a) = writeAct s (array vs) a
+actOf (call.write w ⇒ a) = writeAct (w .signal) (w .value) a
 actOf (call.read s ⇒ a) = nothing
 actOf (call.readArray s ⇒ a) = nothing
 actOf (call.select n ⇒ a) = selectAct n a
@@ -126,8 +120,3 @@ isStatusRead (ticked m a) = false
 isStatusRead (took b a) = false
 isStatusRead statusRead = true
 isStatusRead (sending nad n) = false
-
--- the frame bytes with a value put into a signal
-abbrev pub withValue : List ℕ → List ℕ → ℕ → Value → List ℕ
-withValue t bs s (scalar v) = withScalar t bs s v
-withValue t bs s (array vs) = withArray t bs s vs

@@ -11,14 +11,13 @@ use Rattle.master.specs.declared.read.StatusAnswer.{StatusAnswer}
 use Rattle.master.specs.declared.send.SendAnswer.{SendAnswer}
 use Rattle.master.specs.declared.send.MessageAnswer.{MessageAnswer}
 use Rattle.master.specs.declared.ahead.AheadAnswer.{AheadAnswer}
+use Rattle.master.specs.Write.{Put}
 
 -- a call behind the fresh one, with what it is given beside the table, the state and the frame bytes; "Values, arrays and lent
 -- messages may be anything"
 pub data Call : Type 0 where
-  -- a signal and a value
-  write : ℕ → ℕ → Call
-  -- a signal and its bytes
-  writeArray : ℕ → List ℕ → Call
+  -- a signal and a value, or its bytes
+  write : Put → Call
   -- a signal
   read readArray : ℕ → Call
   -- a schedule
@@ -41,8 +40,7 @@ pub record Reply : Type 0 where
 
 -- each call has its own answers
 abbrev pub Answer : Call → Type 0
-Answer (write s v) = WriteAnswer
-Answer (writeArray s vs) = WriteAnswer
+Answer (write w) = WriteAnswer
 Answer (read s) = ReadAnswer
 Answer (readArray s) = ReadArray
 Answer (select n) = SelectAnswer

@@ -18,6 +18,7 @@ pub mod Answers
 pub mod Seq
 pub mod Calls
 pub mod Run
+pub mod Step
 pub mod Acts
 pub mod Schedule
 pub mod History

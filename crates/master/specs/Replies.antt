@@ -12,7 +12,7 @@ use Rattle.wire.specs.Checksum.{checksumByte}
 use Rattle.wire.specs.declared.checksum.Model.the-variants.{Classic}
 use Rattle.cluster.specs.Table.{signalCount, scheduleCount, identifier, frameLength, published, isArray, entryKind, entryTarget}
 use Rattle.cluster.specs.Lists.{members}
-use Rattle.cluster.specs.Values.{signalPublished, valueFits, arrayFits, scalarValue, arrayRead}
+use Rattle.cluster.specs.Values.{signalPublished, scalarValue, arrayRead}
 use Rattle.master.specs.declared.state.Opened.{Opened}
 use Rattle.master.specs.declared.state.Opened.the-variants.{Nothing, Frame, Request, Response}
 use Rattle.master.specs.declared.state.Message.{Message}
@@ -37,6 +37,7 @@ use Rattle.master.specs.declared.send.MessageAnswer.the-variants as tell
 use Rattle.master.specs.declared.ahead.AheadAnswer.{AheadAnswer}
 use Rattle.master.specs.declared.ahead.AheadAnswer.the-variants as counted
 use Rattle.master.specs.Seq.{Seq}
+use Rattle.master.specs.Write.{isBytes, fitsSignal}
 use Rattle.master.specs.Calls as call
 use Rattle.master.specs.Calls.{Call, Answer, Reply}
 use Rattle.master.specs.Schedule.{Slot, none, unscheduled, entry, Scheduled, slotDue, planAfter}
@@ -203,8 +204,7 @@ pub record AheadReply (t : List ℕ) (h : Seq Scheduled) (f : ℕ) (a : AheadAns
 
 -- a is what c answers after h
 abbrev pub Replies : List ℕ → Seq Scheduled → (c : Call) → Answer c → Type 0
-Replies t h (call.write s v) a = a ≡ writeReply (writeNumber t s false (valueFits t s v))
-Replies t h (call.writeArray s vs) a = a ≡ writeReply (writeNumber t s true (arrayFits t s vs))
+Replies t h (call.write w) a = a ≡ writeReply (writeNumber t (w .signal) (isBytes (w .value)) (fitsSignal t (w .signal) (w .value)))
 Replies t h (call.read s) a = a ≡ readReply (readNumber t s false) t (bytesAfter t h) s
 Replies t h (call.readArray s) a = a ≡ readArrayReply (readNumber t s true) t (bytesAfter t h) s
 Replies t h (call.select n) a = a ≡ selectReply (selectNumber t n)

@@ -4,7 +4,7 @@ use mathlib.Core.List.{List}
 use Prim.Native.Nat.{ℕ}
 use Rattle.master.specs.declared.state.State.{State}
 use Rattle.master.specs.Start.{freshOf}
-use Rattle.master.specs.Write.{writeOf, writeArrayOf}
+use Rattle.master.specs.Write.{writeOf}
 use Rattle.master.specs.Read.{readOf, readArrayOf}
 use Rattle.master.specs.Select.{selectOf}
 use Rattle.master.specs.Tick.{tickOf}
@@ -13,7 +13,7 @@ use Rattle.master.specs.Status.{statusOf}
 use Rattle.master.specs.Message.{sendOf, messageOf}
 use Rattle.master.specs.Ahead.{aheadOf}
 use Rattle.master.specs.Seq.{Seq, ∅, _▹_}
-use Rattle.master.specs.Calls.{Call, write, writeArray, read, readArray, select, tick, byteIn, readStatus, send, messageState, numberAhead, Answer, Event, _⇒_}
+use Rattle.master.specs.Calls.{Call, write, read, readArray, select, tick, byteIn, readStatus, send, messageState, numberAhead, Answer, Event, _⇒_}
 
 -- what one call leaves to the next
 pub record Held : Type 0 where
@@ -22,8 +22,7 @@ pub record Held : Type 0 where
 
 -- what a call answers
 unfoldable pub answerOf : List ℕ → Held → (c : Call) → Answer c
-answerOf t x (write s v) = writeOf t (x .state) (x .bytes) s v .given .answer
-answerOf t x (writeArray s vs) = writeArrayOf t (x .state) (x .bytes) s vs .given .answer
+answerOf t x (write w) = writeOf t (x .state) (x .bytes) w .given .answer
 answerOf t x (read s) = readOf t (x .state) (x .bytes) s
 answerOf t x (readArray s) = readArrayOf t (x .state) (x .bytes) s
 answerOf t x (select n) = selectOf t (x .state) n .answer
@@ -44,8 +43,7 @@ held s bs = record { state = s; bytes = bs }
 
 -- what a call leaves; a call that only asks hands no state back and is lent its bytes to read
 unfoldable pub leftBy : List ℕ → Held → Call → Held
-leftBy t x (write s v) = held (writeOf t (x .state) (x .bytes) s v .given .state) (writeOf t (x .state) (x .bytes) s v .left)
-leftBy t x (writeArray s vs) = held (writeArrayOf t (x .state) (x .bytes) s vs .given .state) (writeArrayOf t (x .state) (x .bytes) s vs .left)
+leftBy t x (write w) = held (writeOf t (x .state) (x .bytes) w .given .state) (writeOf t (x .state) (x .bytes) w .left)
 leftBy t x (read s) = x
 leftBy t x (readArray s) = x
 leftBy t x (select n) = held (selectOf t (x .state) n .state) (x .bytes)

@@ -1,6 +1,6 @@
 -- Document 01, "Write": a scalar or an array goes into a master-published signal, and its frame is marked as written.
 use Prim.Native.Nat.{ℕ, suc}
-use mathlib.Core.Bool.{Bool, true, false, not, _||_, Bool·beq}
+use mathlib.Core.Bool.{Bool, true, false, _||_, Bool·beq}
 use mathlib.Core.List.{List, [], _∷_}
 use lib.Dec.{ltb}
 use lib.ListN.{length}
@@ -20,13 +20,41 @@ use Rattle.master.specs.declared.write.Wrote.{Wrote}
 use Rattle.master.specs.State.{withPending, withTransfer}
 use Rattle.master.specs.Admit.{unless, admitted, answered, Step}
 
+-- what a write puts into a signal: a number, or bytes
+pub data Value : Type 0 where
+  scalar : ℕ → Value
+  array : List ℕ → Value
+
+-- a write: a signal and its value
+pub record Put : Type 0 where
+  pub signal : ℕ
+  pub value : Value
+
+abbrev pub put : ℕ → Value → Put
+put s v = record { signal = s; value = v }
+
+-- it is a write of an array
+abbrev pub isBytes : Value → Bool
+isBytes (scalar v) = false
+isBytes (array vs) = true
+
+-- refusal 7: "value of 2^width or more; array of another length"
+abbrev pub fitsSignal : List ℕ → ℕ → Value → Bool
+fitsSignal t s (scalar v) = valueFits t s v
+fitsSignal t s (array vs) = arrayFits t s vs
+
+-- the frame bytes with a value put into a signal
+abbrev pub withValue : List ℕ → List ℕ → ℕ → Value → List ℕ
+withValue t bs s (scalar v) = withScalar t bs s v
+withValue t bs s (array vs) = withArray t bs s vs
+
 -- refusals of a write: 4 "no such signal", 5 "write to a signal the master doesn't publish", 6 "scalar call on an array or the reverse",
 -- 7 where the value does not fit
 unfoldable pub writable : List ℕ → ℕ → Bool → Bool → Verdict
-writable t s array fits =
+writable t s bytes fits =
     unless (ltb s (signalCount t)) number.unknown
     (unless (signalPublished t s) number.notPublished
-    (unless (Bool·beq (isArray t s) array) number.kind
+    (unless (Bool·beq (isArray t s) bytes) number.kind
     (unless fits number.value
     verdict.Accepted)))
 
@@ -60,19 +88,13 @@ marked t s x = withTransfer (withPending x (markedFrom t s 0 (x .pending))) (rew
 abbrev pub refusedWrite : State → Refusal → Wrote
 refusedWrite x r = record { state = x; answer = Refused r }
 
+-- refusals of a write: 1 to 7
+abbrev pub writeVerdict : List ℕ → ℕ → State → Put → Verdict
+writeVerdict t size x w = then (admitted t size x) (writable t (w .signal) (isBytes (w .value)) (fitsSignal t (w .signal) (w .value)))
+
 -- what a write hands back and leaves: nothing changes where it is refused
-unfoldable pub wrote : List ℕ → State → List ℕ → ℕ → Verdict → List ℕ → Step Wrote
-wrote t x bs s v after =
-    answered v
+unfoldable pub writeOf : List ℕ → State → List ℕ → Put → Step Wrote
+writeOf t x bs w =
+    answered (writeVerdict t (length bs) x w)
     (λ r. record { given = refusedWrite x r; left = bs })
-    (record { given = record { state = marked t s x; answer = Written }; left = after })
-
--- a write of a scalar: refusals 1 to 7
-unfoldable pub writeOf : List ℕ → State → List ℕ → ℕ → ℕ → Step Wrote
-writeOf t x bs s v =
-    wrote t x bs s (then (admitted t (length bs) x) (writable t s false (valueFits t s v))) (withScalar t bs s v)
-
--- a write of an array: refusals 1 to 7
-unfoldable pub writeArrayOf : List ℕ → State → List ℕ → ℕ → List ℕ → Step Wrote
-writeArrayOf t x bs s vs =
-    wrote t x bs s (then (admitted t (length bs) x) (writable t s true (arrayFits t s vs))) (withArray t bs s vs)
+    (record { given = record { state = marked t (w .signal) x; answer = Written }; left = withValue t bs (w .signal) (w .value) })

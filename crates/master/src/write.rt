@@ -13,7 +13,7 @@ ghost use Rattle.cluster.specs.Check.{RightTable, then};
 ghost use Rattle.master.specs.Admit.{Leaves, admitted};
 ghost use Rattle.cluster.specs.Table.{signalCount};
 ghost use Rattle.cluster.specs.Values.{valueFits, arrayFits};
-ghost use Rattle.master.specs.Write.{writable as writableOf, marked as markedOf, refusedWrite, writeOf, writeArrayOf};
+ghost use Rattle.master.specs.Write.{writable as writableOf, marked as markedOf, refusedWrite, scalar, array, put, writeVerdict, writeOf};
 
 // What a write answers.
 pub enum WriteAnswer {
@@ -30,7 +30,7 @@ pub struct Wrote {
 impl State {
     // Writes a scalar and marks its frame as written.
     pub fn write(self, t: &[u16], bytes: &mut [u8], s: u16, v: u32) -> Wrote
-        ensures { λ r. ⌜ Leaves (writeOf (now (t .entry)) self (now (bytes .entry)) s v) r (now (bytes .exit)) ⌝ }
+        ensures { λ r. ⌜ Leaves (writeOf (now (t .entry)) self (now (bytes .entry)) (put s (scalar v))) r (now (bytes .exit)) ⌝ }
     {
         if let Verdict::Refused(refusal) = self.judge_scalar(t, bytes.len(), s, v) {
             return self.not_written(refusal);
@@ -44,7 +44,7 @@ impl State {
 
     // Writes an array and marks its frame as written.
     pub fn write_array(self, t: &[u16], bytes: &mut [u8], s: u16, values: &[u8]) -> Wrote
-        ensures { λ r. ⌜ Leaves (writeArrayOf (now (t .entry)) self (now (bytes .entry)) s (now (values .entry))) r (now (bytes .exit)) ⌝ }
+        ensures { λ r. ⌜ Leaves (writeOf (now (t .entry)) self (now (bytes .entry)) (put s (array (now (values .entry))))) r (now (bytes .exit)) ⌝ }
     {
         if let Verdict::Refused(refusal) = self.judge_array(t, bytes.len(), s, values) {
             return self.not_written(refusal);
@@ -58,7 +58,7 @@ impl State {
 
     // The verdict on a write of a scalar.
     fn judge_scalar(self, t: &[u16], size: usize, s: u16, v: u32) -> Verdict
-        ensures { λ r. ⌜ r ≡ then (admitted (now (t .entry)) size self) (writableOf (now (t .entry)) s false (valueFits (now (t .entry)) s v)) ⌝ }
+        ensures { λ r. ⌜ r ≡ writeVerdict (now (t .entry)) size self (put s (scalar v)) ⌝ }
     {
         if let Verdict::Refused(refusal) = self.admit(t, size) {
             return Verdict::Refused(refusal);
@@ -68,7 +68,7 @@ impl State {
 
     // The verdict on a write of an array.
     fn judge_array(self, t: &[u16], size: usize, s: u16, values: &[u8]) -> Verdict
-        ensures { λ r. ⌜ r ≡ then (admitted (now (t .entry)) size self) (writableOf (now (t .entry)) s true (arrayFits (now (t .entry)) s (now (values .entry)))) ⌝ }
+        ensures { λ r. ⌜ r ≡ writeVerdict (now (t .entry)) size self (put s (array (now (values .entry)))) ⌝ }
     {
         if let Verdict::Refused(refusal) = self.admit(t, size) {
             return Verdict::Refused(refusal);

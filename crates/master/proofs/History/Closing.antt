@@ -12,7 +12,7 @@ use Rattle.master.specs.declared.state.Opened.the-variants.{Nothing}
 use Rattle.master.specs.declared.state.State.{State}
 use Rattle.master.specs.declared.byte.ByteAnswer.{ByteAnswer}
 use Rattle.master.specs.Fresh.{noTransfer}
-use Rattle.master.specs.Transfers.{formatOf, isOpen, sends, openProtected}
+use Rattle.master.specs.Transfers.{formatOf, isOpen, openProtected}
 use Rattle.master.specs.Status.{counted, statusAfter}
 use Rattle.master.specs.Message.{messageFailed}
 use Rattle.master.specs.Closing.{failed}

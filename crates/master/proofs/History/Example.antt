@@ -28,10 +28,10 @@ use Rattle.master.specs.Admit.{bufferSize, admitted}
 use Rattle.master.specs.Start.{freshVerdict, freshOf}
 use Rattle.master.specs.Fresh.{fresh}
 use Rattle.master.specs.Fits.{entryThere, scheduleThere, frameThere, currentDelay, waitFits, bitFits, pendingFits, isOneOf, entryOpens, canOpen, countFits, messageFits, stateFits, lentFits}
-use Rattle.master.specs.Transfers.{formatOf, isOpen, openLength, openIdentifier, openModel, sends, openProtected, openChecksum, frameData, sentData, copied, opening}
+use Rattle.master.specs.Transfers.{formatOf, isOpen, openProtected, openChecksum, frameData, sentData, copied, opening}
 use Rattle.master.specs.Plan.{asking, waits, entryDue, begun}
 use Rattle.master.specs.Select.{selectVerdict, selectOf}
-use Rattle.master.specs.Write.{writable, markedFrom, touchesOpen, rewritten, marked, wrote, writeOf}
+use Rattle.master.specs.Write.{put, scalar, writable, markedFrom, touchesOpen, rewritten, marked, writeOf}
 use Rattle.master.specs.Tick as tick
 use Rattle.master.specs.Status as status
 use Rattle.master.specs.Message.{messageSent}
@@ -66,10 +66,10 @@ buffer = replicate 16 0
 
 -- both frames are written, and then sent
 abbrev calls : Seq Call
-calls = ∅ ▹ select 0 ▹ write 1 5 ▹ write 0 7 ▹ tick [] ▹ byteIn 7 ▹ byteIn 182 ▹ tick [] ▹ byteIn 5 ▹ byteIn 247
+calls = ∅ ▹ select 0 ▹ write (put 1 (scalar 5)) ▹ write (put 0 (scalar 7)) ▹ tick [] ▹ byteIn 7 ▹ byteIn 182 ▹ tick [] ▹ byteIn 5 ▹ byteIn 247
 
 abbrev writing : Seq Scheduled
-writing = ∅ ▹ event (select 0) Selected none ▹ event (write 1 5) Written none ▹ event (write 0 7) Written none
+writing = ∅ ▹ event (select 0) Selected none ▹ event (write (put 1 (scalar 5))) Written none ▹ event (write (put 0 (scalar 7))) Written none
 
 abbrev sending : Seq Scheduled
 sending =
@@ -86,7 +86,7 @@ unfolding freshOf freshVerdict bufferSize judged faults surplus wordsRight recor
 accepted = refl
 
 record-is : recordOf table buffer calls ≡ writing ⋈ sending
-unfolding scheduled schedule planAfter planBy planWith slotDue slotOf historyOf heldAfter leftBy answerOf freshOf freshVerdict fresh bufferSize admitted judged faults surplus wordsRight records headerRight frameRight identifierRight lengthRight flagsRight anyBelow signalRight signalFrameRight signalKindRight offsetRight widthRight signalWidthRight startLimit startRight takenBefore overlaps memberRight memberFrameRight countsUp entryRight entryKindRight targetRight delayRight word frameCount signalCount memberCount entryCount size identifier frameLength flags published classic signalFrame signalKind signalOffset signalWidth signalStart isArray memberList memberFrame entrySchedule entryKind entryTarget entryDelay counted listCount scheduleCount firstFrom membersFrom members firstEntry nextEntry signalPlace putStart filled freshBytes touches signalPublished valueFits withScalar bitAt number bytesOf inside replaced putBits putScalar bit p0 p1 xor protectedByte withCarry sum covered modelOf inverted checksumByte stateFits entryThere scheduleThere frameThere currentDelay waitFits bitFits pendingFits isOneOf entryOpens canOpen countFits messageFits lentFits isOpen openProtected openChecksum frameData sentData copied opening asking waits entryDue begun selectVerdict selectOf writable markedFrom touchesOpen rewritten marked wrote writeOf tick.firstPending tick.slotOpens tick.abandoned tick.opens tick.slotAt tick.slot tick.ticked tick.tickVerdict tick.tickOf status.counted status.statusAfter messageSent clearedBit pendingSent sent received passed early sentByte taken byteVerdict byteOf formatOf
+unfolding scheduled schedule planAfter planBy planWith slotDue slotOf historyOf heldAfter leftBy answerOf freshOf freshVerdict fresh bufferSize admitted judged faults surplus wordsRight records headerRight frameRight identifierRight lengthRight flagsRight anyBelow signalRight signalFrameRight signalKindRight offsetRight widthRight signalWidthRight startLimit startRight takenBefore overlaps memberRight memberFrameRight countsUp entryRight entryKindRight targetRight delayRight word frameCount signalCount memberCount entryCount size identifier frameLength flags published classic signalFrame signalKind signalOffset signalWidth signalStart isArray memberList memberFrame entrySchedule entryKind entryTarget entryDelay counted listCount scheduleCount firstFrom membersFrom members firstEntry nextEntry signalPlace putStart filled freshBytes touches signalPublished valueFits withScalar bitAt number bytesOf inside replaced putBits putScalar bit p0 p1 xor protectedByte withCarry sum covered modelOf inverted checksumByte stateFits entryThere scheduleThere frameThere currentDelay waitFits bitFits pendingFits isOneOf entryOpens canOpen countFits messageFits lentFits isOpen openProtected openChecksum frameData sentData copied opening asking waits entryDue begun selectVerdict selectOf writable markedFrom touchesOpen rewritten marked writeOf tick.firstPending tick.slotOpens tick.abandoned tick.opens tick.slotAt tick.slot tick.ticked tick.tickVerdict tick.tickOf status.counted status.statusAfter messageSent clearedBit pendingSent sent received passed early sentByte taken byteVerdict byteOf formatOf
 record-is = refl
 
 -- frame 1 is sent by the second success of its list

@@ -22,7 +22,8 @@ use Rattle.master.specs.Admit.{bufferSize}
 use Rattle.master.specs.Closing.{pendingSent}
 use Rattle.master.specs.Write.{markedFrom}
 use Rattle.master.specs.Seq.{Seq, ∅, _▹_}
-use Rattle.master.specs.Acts.{wrote, took, Value, withValue}
+use Rattle.master.specs.Acts.{wrote, took}
+use Rattle.master.specs.Write.{Value, withValue}
 use Rattle.master.specs.Schedule.{Scheduled, act}
 use Rattle.master.specs.History.{writes, isSuccess, succeeds, openAfter, carries, writtenBytes, gotAfter}
 use Rattle.master.specs.Answering.{storedBy, bytesAfter}
@@ -31,7 +32,8 @@ use Rattle.master.proofs.PendingLaws.{marked-bit, marked-only, sent-bit
 use Rattle.master.proofs.PendingLength.{marked-length, sent-length}
 use Rattle.master.proofs.History.Computed.{rewrittenAfter, pendingAfter, pending-wrote, pending-wiped, pending-kept, unwiped-unsent, unwiped-elsewhere, unwiped-rewritten, wipes-when}
 use Rattle.master.proofs.History.Quiet.{isQuiet, quiet-byte, quiet-write, quiet-writes, written-quiet}
-use Rattle.master.proofs.History.SameBytes.{SameBytes, same-refl, same-written, value-length}
+use Rattle.master.proofs.History.SameBytes.{SameBytes, same-refl, same-written}
+use Rattle.master.proofs.ReadBack.{value-length}
 
 -- the bits and the bytes, whatever holds them
 pub record FramesAre (t : List ℕ) (h : Seq Scheduled) (bits : List Bool) (bs : List ℕ) : Type 0 where

@@ -15,7 +15,7 @@ use Rattle.cluster.proofs.Searching.{first-holds, first-least}
 use Rattle.transport.proofs.Tests.{order}
 use Rattle.master.specs.declared.state.Opened.{Opened}
 use Rattle.master.specs.declared.state.Opened.the-variants.{Nothing, Frame, Request, Response}
-use Rattle.master.specs.Transfers.{formatOf, isOpen, openIdentifier, openProtected}
+use Rattle.master.specs.Transfers.{formatOf, isOpen, openProtected}
 use Rattle.master.specs.Fits.{frameThere}
 use Rattle.master.specs.History.{frameNamed, transferNamed}
 use Rattle.master.proofs.Tests.{never, false-unless}

@@ -20,26 +20,26 @@ use Rattle.master.specs.Replies.{test, writeNumber, readNumber, selectNu
 use Rattle.master.proofs.History.Words.{being-sent}
 
 -- 0 accepts
-abbrev pub verdictOf : ℕ → Verdict
-verdictOf n = cond (eqb n 0) Accepted (Refused (number.refused n))
+abbrev pub byNumber : ℕ → Verdict
+byNumber n = cond (eqb n 0) Accepted (Refused (number.refused n))
 
 -- one test in front of others
-tested : (b : Bool) (n later : ℕ) → eqb n 0 ≡ false → unless b n (verdictOf later) ≡ verdictOf (test b n later)
+tested : (b : Bool) (n later : ℕ) → eqb n 0 ≡ false → unless b n (byNumber later) ≡ byNumber (test b n later)
 tested true n later e = refl
 tested false n later e = rw e
 
 -- what is answered by a verdict is what is answered by its number
-pub by-number : {A : Type 0} (n : ℕ) (refuse : Refusal → A) (go : A) → answered (verdictOf n) refuse go ≡ cond (eqb n 0) go (refuse (number.refused n))
-by-number n refuse go = whether (eqb n 0) (λ e. rw e) (λ e. rw e)
+pub answered-by-number : {A : Type 0} (n : ℕ) (refuse : Refusal → A) (go : A) → answered (byNumber n) refuse go ≡ cond (eqb n 0) go (refuse (number.refused n))
+answered-by-number n refuse go = whether (eqb n 0) (λ e. rw e) (λ e. rw e)
 
 -- where the verdict is known
-pub reply-is : {A : Type 0} (n : ℕ) (refuse : Refusal → A) (go : A) (v : Verdict) → verdictOf n ≡ v
+pub reply-is : {A : Type 0} (n : ℕ) (refuse : Refusal → A) (go : A) (v : Verdict) → byNumber n ≡ v
     → answered v refuse go ≡ cond (eqb n 0) go (refuse (number.refused n))
-reply-is n refuse go v e = ap (λ (w : Verdict). answered w refuse go) (sym e) ∙ by-number n refuse go
+reply-is n refuse go v e = ap (λ (w : Verdict). answered w refuse go) (sym e) ∙ answered-by-number n refuse go
 
 -- ---- each call
 
-pub write-verdict : (t : List ℕ) (s : ℕ) (array fits : Bool) → writable t s array fits ≡ verdictOf (writeNumber t s array fits)
+pub write-verdict : (t : List ℕ) (s : ℕ) (array fits : Bool) → writable t s array fits ≡ byNumber (writeNumber t s array fits)
 unfolding writable writeNumber
 write-verdict t s array fits =
     let k = Bool·beq (isArray t s) array in
@@ -49,19 +49,19 @@ write-verdict t s array fits =
     ∙ tested (ltb s (signalCount t)) 4 (test (signalPublished t s) 5 (test k 6 (test fits 7 0))) refl
 
 pub read-verdict : (t : List ℕ) (s : ℕ) (array : Bool)
-    → unless (ltb s (signalCount t)) number.unknown (unless (Bool·beq (isArray t s) array) number.kind Accepted) ≡ verdictOf (readNumber t s array)
+    → unless (ltb s (signalCount t)) number.unknown (unless (Bool·beq (isArray t s) array) number.kind Accepted) ≡ byNumber (readNumber t s array)
 unfolding readNumber
 read-verdict t s array =
     let k = Bool·beq (isArray t s) array in
     ap (λ (v : Verdict). unless (ltb s (signalCount t)) 4 v) (tested k 6 0 refl)
     ∙ tested (ltb s (signalCount t)) 4 (test k 6 0) refl
 
-pub select-verdict : (t : List ℕ) (n : ℕ) → unless (ltb n (scheduleCount t)) number.unknown Accepted ≡ verdictOf (selectNumber t n)
+pub select-verdict : (t : List ℕ) (n : ℕ) → unless (ltb n (scheduleCount t)) number.unknown Accepted ≡ byNumber (selectNumber t n)
 unfolding selectNumber
 select-verdict t n = tested (ltb n (scheduleCount t)) 4 0 refl
 
 pub send-verdict : (x : Message) (n : ℕ)
-    → unless (isLength n) number.messageLength (unless (not (isSending x)) number.sending Accepted) ≡ verdictOf (sendNumber x n)
+    → unless (isLength n) number.messageLength (unless (not (isSending x)) number.sending Accepted) ≡ byNumber (sendNumber x n)
 unfolding sendNumber
 send-verdict x n =
     rw (being-sent x)

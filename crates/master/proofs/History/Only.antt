@@ -143,8 +143,7 @@ module _ (t : List ℕ) (ok : RightTable t) (h : Seq Scheduled) (x : Held) (is :
   -- ---- every call
 
   one-reply : (c : Call) (a b : Answer c) → Replies t h c a → Replies t h c b → a ≡ b
-  one-reply (call.write s v) a b p q = p ∙ sym q
-  one-reply (call.writeArray s vs) a b p q = p ∙ sym q
+  one-reply (call.write w) a b p q = p ∙ sym q
   one-reply (call.read s) a b p q = p ∙ sym q
   one-reply (call.readArray s) a b p q = p ∙ sym q
   one-reply (call.select n) a b p q = p ∙ sym q

@@ -16,7 +16,7 @@ use Rattle.master.specs.declared.state.Message.the-variants as message
 use Rattle.master.specs.declared.tick.TickAnswer.{TickAnswer}
 use Rattle.master.specs.Admit.{bufferSize}
 use Rattle.master.specs.Fits.{frameThere, isSending, messageFits, lentFits}
-use Rattle.master.specs.Transfers.{formatOf, openLength, openIdentifier, openModel, openChecksum, sends, frameData, requestData, sentData, copied, opening}
+use Rattle.master.specs.Transfers.{formatOf, openLength, openChecksum, sends, frameData, requestData, sentData, copied, opening}
 use Rattle.master.specs.Seq.{Seq, _▹_}
 use Rattle.master.specs.Acts.{ticked}
 use Rattle.master.specs.Schedule.{Scheduled, act}

@@ -9,7 +9,8 @@ use Rattle.master.specs.declared.state.Opened.the-variants.{Nothing, Fra
 use Rattle.master.specs.declared.byte.ByteAnswer.{ByteAnswer}
 use Rattle.master.specs.Seq.{Seq, _▹_}
 use Rattle.master.specs.Schedule.{Scheduled, act}
-use Rattle.master.specs.Acts.{Act, nothing, wrote, selected, ticked, took, statusRead, sending, Value, onWrite, onByte, withValue}
+use Rattle.master.specs.Acts.{Act, nothing, wrote, selected, ticked, took, statusRead, sending, onWrite, onByte}
+use Rattle.master.specs.Write.{Value, withValue}
 use Rattle.master.specs.History.{writes, closes, openAfter, writtenBytes, gotBy, gotAfter}
 use Rattle.master.specs.Answering.{dueAfter}
 use Rattle.master.proofs.Tests.{never, or-false}

@@ -8,12 +8,12 @@ use lib.ListN.{length, getD, drop, length-take, length-drop}
 use lib.Seq.{getD-take, getD-drop, ext-getD}
 use Rattle.cluster.specs.Check.{RightTable}
 use Rattle.cluster.specs.Table.{published}
-use Rattle.cluster.proofs.ValueLaws.{scalar-length, array-length-stays, scalar-alike, array-alike}
+use Rattle.cluster.proofs.ValueLaws.{scalar-alike, array-alike}
 use Rattle.master.specs.Admit.{bufferSize}
 use Rattle.master.specs.Transfers.{frameData}
-use Rattle.master.specs.Acts.{Value, scalar, array, withValue}
+use Rattle.master.specs.Write.{Value, scalar, array, withValue}
 use Rattle.master.specs.History.{eightOf}
-use Rattle.master.proofs.ReadBack.{untouched-data}
+use Rattle.master.proofs.ReadBack.{untouched-data, value-length}
 
 -- two buffers of one length have the same eight bytes in each published frame
 pub record SameBytes (t bs cs : List ℕ) : Type 0 where
@@ -22,11 +22,6 @@ pub record SameBytes (t bs cs : List ℕ) : Type 0 where
 
 pub same-refl : (t bs : List ℕ) → SameBytes t bs bs
 same-refl t bs = record { same-length = refl; same-bytes = λ f p k b. refl }
-
--- a write leaves as many bytes
-pub value-length : (t bs : List ℕ) (s : ℕ) (v : Value) → length (withValue t bs s v) ≡ length bs
-value-length t bs s (scalar v) = scalar-length t bs s v
-value-length t bs s (array vs) = array-length-stays t bs s vs
 
 -- a byte after a write goes by what that byte was before
 value-alike : (t bs cs : List ℕ) (s : ℕ) (v : Value) (i : ℕ) → length bs ≡ length cs → getD bs i 0 ≡ getD cs i 0

@@ -7,13 +7,11 @@ use native.Mathlib.Omega.{arith}
 use lib.ListN.{length, replicate}
 use Rattle.refusal.specs.declared.Refusal.{Refusal}
 use Rattle.refusal.specs.Numbers as number
-use Rattle.cluster.specs.declared.Verdict.{Verdict}
 use Rattle.cluster.specs.declared.Verdict.the-variants as verdict
-use Rattle.cluster.specs.Check.{then, RightTable}
-use Rattle.cluster.specs.Values.{valueFits, arrayFits, scalarValue, arrayRead}
+use Rattle.cluster.specs.Check.{RightTable}
+use Rattle.cluster.specs.Values.{scalarValue, arrayRead}
 use Rattle.transport.proofs.Tests.{whether}
 use Rattle.master.specs.declared.state.State.{State}
-use Rattle.master.specs.declared.write.WriteAnswer.{WriteAnswer}
 use Rattle.master.specs.declared.write.WriteAnswer.the-variants as write
 use Rattle.master.specs.declared.write.Wrote.{Wrote}
 use Rattle.master.specs.declared.read.ReadAnswer.the-variants as read
@@ -28,33 +26,33 @@ use Rattle.master.specs.declared.read.StatusAnswer.the-variants as statu
 use Rattle.master.specs.declared.read.StatusRead.{StatusRead}
 use Rattle.master.specs.declared.send.SendAnswer.the-variants as send
 use Rattle.master.specs.declared.send.Sent.{Sent}
-use Rattle.master.specs.Admit.{unless, answered, bufferSize, admitted, Step}
+use Rattle.master.specs.Admit.{unless, bufferSize, admitted, Step}
 use Rattle.master.specs.Fits.{lentFits}
 use Rattle.master.specs.Transfers.{isOpen}
-use Rattle.master.specs.Write.{marked, writable, wrote, writeOf, writeArrayOf}
 use Rattle.master.specs.Read.{readVerdict, readOf, readArrayOf}
 use Rattle.master.specs.Select.{selectVerdict, selectOf}
 use Rattle.master.specs.Status.{statusWord, statusOf}
 use Rattle.master.specs.Message.{sendVerdict, sendOf, messageOf}
 use Rattle.master.specs.Tick.{tickVerdict, tickOf}
 use Rattle.master.specs.Byte.{byteVerdict, byteOf, taken}
-use Rattle.master.specs.Seq.{Seq, _▹_}
+use Rattle.master.specs.Seq.{Seq}
 use Rattle.master.specs.Calls as call
 use Rattle.master.specs.Calls.{Call, Answer, _⇒_}
 use Rattle.master.specs.Run.{Held, held, answerOf, leftBy}
-use Rattle.master.specs.Acts.{Value, scalar, array, nothing, writeAct, actOf, withValue}
-use Rattle.master.specs.Schedule.{Scheduled, act, schedule}
+use Rattle.master.specs.Acts.{nothing, actOf}
+use Rattle.master.specs.Schedule.{Scheduled, schedule}
 use Rattle.master.specs.Answering.{messageAfter, countedAfter}
 use Rattle.master.specs.Replies.{Replies, writeNumber, readNumber, selectNumber, sendNumber, writeReply, readReply, readArrayReply, selectReply, sendReply, byteReply, plain, lentRight}
 use Rattle.master.proofs.Tests.{never}
 use Rattle.master.proofs.Admitted.{admits, fits-clauses, fits-all, unless-test}
 use Rattle.master.proofs.Answered.{by-verdict, writable-signal}
 use Rattle.master.proofs.FitsKept.{marked-fits}
-use Rattle.master.proofs.Keeps.{select-keeps, status-keeps, send-keeps, taken-fits}
+use Rattle.master.proofs.Keeps.{taken-fits}
+use Rattle.master.proofs.StepLaws.{keeps-fit}
 use Rattle.master.proofs.Verdicts.{tick-refusal}
 use Rattle.master.proofs.SlotFits.{not-open}
 use Rattle.master.proofs.History.Words.{lent-right, message-told}
-use Rattle.master.proofs.History.Numbers.{verdictOf, reply-is, write-verdict, read-verdict, select-verdict, send-verdict}
+use Rattle.master.proofs.History.Numbers.{byNumber, reply-is, write-verdict, read-verdict, select-verdict, send-verdict}
 use Rattle.master.proofs.History.StatusOver.{word-over}
 use Rattle.master.proofs.History.Agrees.{Agrees, agrees-nothing, agrees-selected, agrees-status, agrees-sending}
 use Rattle.master.proofs.History.Writing.{agrees-wrote}
@@ -62,6 +60,7 @@ use Rattle.master.proofs.History.Ticking.{tick-goes}
 use Rattle.master.proofs.History.Taking.{byte-goes}
 use Rattle.master.proofs.History.Ahead.{ahead-replies}
 use Rattle.master.proofs.History.Stepped.{Stepped}
+use Rattle.master.specs.Write.{Put, isBytes, fitsSignal, writable, marked, writeVerdict, writeOf}
 
 -- an accepted call is not refused
 refused-never : {A : Type 0} (q : Refusal) → verdict.Accepted ≡ verdict.Refused q → A
@@ -89,51 +88,29 @@ module _ (t : List ℕ) (ok : RightTable t) (h : Seq Scheduled) (x : Held) (is :
 
   -- ---- writes
 
-  written : (r : ℕ) (kind fits : Bool) (v : Value) → writable t r kind fits ≡ verdict.Accepted → (y : Scheduled) → act y ≡ writeAct r v write.Written
-      → Agrees t (h ▹ y) (held (marked t r s) (withValue t (x .bytes) r v))
-  written r kind fits v a y e =
-      let w = writable-signal t r kind fits a in
-      agrees-wrote t ok h x is y r v e (w .below)
-      (fits-all t (marked t r s) (marked-fits t s (fits-clauses t s (is .fits)) ok r (w .below) (w .is-published)))
-
-  -- a write of either kind: what counts of it, and what it answers
-  module _ (r : ℕ) (kind fits : Bool) (v : Value) (c : Call) (says : WriteAnswer → Answer c)
-      (counts : (b : WriteAnswer) → actOf (c ⇒ says b) ≡ writeAct r v b)
-      (told : (b : WriteAnswer) → b ≡ writeReply (writeNumber t r kind fits) → Replies t h c (says b)) where
-    abbrev judged : Verdict
-    judged = then (admitted t (length (x .bytes)) s) (writable t r kind fits)
-
-    inner : judged ≡ writable t r kind fits
-    inner = rw lent-admitted
-
-    replied : (b : WriteAnswer) (w : Verdict) → judged ≡ w → b ≡ answered w (λ q. write.Refused q) write.Written → Replies t h c (says b)
-    unfolding writeReply
-    replied b w e p =
-        told b (p ∙ reply-is (writeNumber t r kind fits) (λ q. write.Refused q) write.Written w (sym (write-verdict t r kind fits) ∙ sym inner ∙ e))
-
-    step-wrote : Stepped t h c (says (wrote t s (x .bytes) r judged (withValue t (x .bytes) r v) .given .answer))
-        (held (wrote t s (x .bytes) r judged (withValue t (x .bytes) r v) .given .state) (wrote t s (x .bytes) r judged (withValue t (x .bytes) r v) .left))
-    unfolding wrote schedule
-    step-wrote =
-        by-verdict (λ (z : Step Wrote). Stepped t h c (says (z .given .answer)) (held (z .given .state) (z .left))) judged _ _
-        (λ q e. step-nothing c (says (write.Refused q)) (counts (write.Refused q)) (replied (write.Refused q) (verdict.Refused q) e refl))
-        (λ a. record {
-          agrees = written r kind fits v (sym inner ∙ a) (schedule t h (c ⇒ says write.Written)) (counts write.Written);
-          replies = replied write.Written verdict.Accepted a refl;
-          lawful = λ e q p k. never (rw (counts write.Written) at q);
-        })
-
-  step-write : (r v : ℕ) → Stepped t h (call.write r v) (answerOf t x (call.write r v)) (leftBy t x (call.write r v))
-  unfolding answerOf leftBy writeOf
-  step-write r v = step-wrote r false (valueFits t r v) (scalar v) (call.write r v) (λ b. b) (λ b. refl) (λ b p. p)
-
-  step-array : (r : ℕ) (vs : List ℕ) → Stepped t h (call.writeArray r vs) (answerOf t x (call.writeArray r vs)) (leftBy t x (call.writeArray r vs))
-  unfolding answerOf leftBy writeArrayOf
-  step-array r vs = step-wrote r true (arrayFits t r vs) (array vs) (call.writeArray r vs) (λ b. b) (λ b. refl) (λ b p. p)
+  -- what counts of a write, and what it answers
+  step-write : (w : Put) → Stepped t h (call.write w) (answerOf t x (call.write w)) (leftBy t x (call.write w))
+  unfolding answerOf leftBy writeOf schedule writeReply
+  step-write w =
+      let r = w .signal in
+      let v = w .value in
+      let n = writeNumber t r (isBytes v) (fitsSignal t r v) in
+      let inner : writeVerdict t (length (x .bytes)) s w ≡ writable t r (isBytes v) (fitsSignal t r v) = rw lent-admitted in
+      let number-is : byNumber n ≡ writeVerdict t (length (x .bytes)) s w = sym (write-verdict t r (isBytes v) (fitsSignal t r v)) ∙ sym inner in
+      by-verdict (λ (z : Step Wrote). Stepped t h (call.write w) (z .given .answer) (held (z .given .state) (z .left))) (writeVerdict t (length (x .bytes)) s w) _ _
+      (λ q e. step-nothing (call.write w) (write.Refused q) refl (reply-is n (λ i. write.Refused i) write.Written (verdict.Refused q) (number-is ∙ e)))
+      (λ a. let k = writable-signal t r (isBytes v) (fitsSignal t r v) (sym inner ∙ a) in
+      record {
+        agrees =
+            agrees-wrote t ok h x is (schedule t h (call.write w ⇒ write.Written)) r v refl (k .below)
+            (fits-all t (marked t r s) (marked-fits t s (fits-clauses t s (is .fits)) ok r (k .below) (k .is-published)));
+        replies = reply-is n (λ i. write.Refused i) write.Written verdict.Accepted (number-is ∙ a);
+        lawful = λ e q p k. never q;
+      })
 
   -- ---- the calls that only ask
 
-  read-inner : (r : ℕ) (kind : Bool) → verdictOf (readNumber t r kind) ≡ readVerdict t (length (x .bytes)) s r kind
+  read-inner : (r : ℕ) (kind : Bool) → byNumber (readNumber t r kind) ≡ readVerdict t (length (x .bytes)) s r kind
   unfolding readVerdict
   read-inner r kind = sym (read-verdict t r kind) ∙ rw lent-admitted
 
@@ -166,8 +143,8 @@ module _ (t : List ℕ) (ok : RightTable t) (h : Seq Scheduled) (x : Held) (is :
   step-select : (n : ℕ) → Stepped t h (call.select n) (answerOf t x (call.select n)) (leftBy t x (call.select n))
   unfolding answerOf leftBy selectOf selectVerdict selectReply schedule
   step-select n =
-      let keeps = select-keeps t s n ok (is .fits) in
-      let number-is : verdictOf (selectNumber t n) ≡ selectVerdict t s n = sym (select-verdict t n) ∙ rw own-admitted in
+      let keeps = keeps-fit t x (call.select n) (is .fits) in
+      let number-is : byNumber (selectNumber t n) ≡ selectVerdict t s n = sym (select-verdict t n) ∙ rw own-admitted in
       by-verdict (λ (z : Chosen). Stepped t h (call.select n) (z .answer) (held (z .state) (x .bytes))) (selectVerdict t s n) _ _
       (λ q e. step-nothing (call.select n) (select.Refused q) refl
       (reply-is (selectNumber t n) (λ i. select.Refused i) select.Selected (verdict.Refused q) (number-is ∙ e)))
@@ -180,7 +157,7 @@ module _ (t : List ℕ) (ok : RightTable t) (h : Seq Scheduled) (x : Held) (is :
   step-status : Stepped t h call.readStatus (answerOf t x call.readStatus) (leftBy t x call.readStatus)
   unfolding answerOf leftBy statusOf schedule
   step-status =
-      let keeps = status-keeps t s ok (is .fits) in
+      let keeps = keeps-fit t x call.readStatus (is .fits) in
       by-verdict (λ (z : StatusRead). Stepped t h call.readStatus (z .answer) (held (z .state) (x .bytes))) (admitted t (bufferSize t) s) _ _
       (λ q e. refused-never q (sym own-admitted ∙ e))
       (λ a. record {
@@ -192,8 +169,8 @@ module _ (t : List ℕ) (ok : RightTable t) (h : Seq Scheduled) (x : Held) (is :
   step-send : (nad n : ℕ) → Stepped t h (call.send nad n) (answerOf t x (call.send nad n)) (leftBy t x (call.send nad n))
   unfolding answerOf leftBy sendOf sendVerdict sendReply schedule
   step-send nad n =
-      let keeps = send-keeps t s nad n ok (is .fits) in
-      let number-is : verdictOf (sendNumber (messageAfter t h) n) ≡ sendVerdict t s n = sym (send-verdict (messageAfter t h) n) ∙ rw (own-admitted, is .message-is) in
+      let keeps = keeps-fit t x (call.send nad n) (is .fits) in
+      let number-is : byNumber (sendNumber (messageAfter t h) n) ≡ sendVerdict t s n = sym (send-verdict (messageAfter t h) n) ∙ rw (own-admitted, is .message-is) in
       by-verdict (λ (z : Sent). Stepped t h (call.send nad n) (z .answer) (held (z .state) (x .bytes))) (sendVerdict t s n) _ _
       (λ q e. step-nothing (call.send nad n) (send.Refused q) refl
       (reply-is (sendNumber (messageAfter t h) n) (λ i. send.Refused i) send.Sending (verdict.Refused q) (number-is ∙ e)))
@@ -237,8 +214,7 @@ module _ (t : List ℕ) (ok : RightTable t) (h : Seq Scheduled) (x : Held) (is :
 
   -- every call
   pub steps : (c : Call) → Stepped t h c (answerOf t x c) (leftBy t x c)
-  steps (call.write r v) = step-write r v
-  steps (call.writeArray r vs) = step-array r vs
+  steps (call.write w) = step-write w
   steps (call.read r) = step-read r
   steps (call.readArray r) = step-read-array r
   steps (call.select n) = step-select n

@@ -22,7 +22,7 @@ use Rattle.master.specs.declared.byte.ByteAnswer.the-variants as byte
 use Rattle.master.specs.declared.byte.Took.{Took}
 use Rattle.master.specs.Admit.{Step}
 use Rattle.master.specs.Fits.{stateFits, frameThere}
-use Rattle.master.specs.Transfers.{formatOf, isOpen, openLength, openIdentifier, openModel, openChecksum, sends}
+use Rattle.master.specs.Transfers.{formatOf, isOpen, openLength, openChecksum, sends}
 use Rattle.master.specs.Status.{statusAfter}
 use Rattle.master.specs.Message.{messageSent}
 use Rattle.master.specs.Closing.{failed, pendingSent, sent, received}

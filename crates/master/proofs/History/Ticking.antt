@@ -18,7 +18,7 @@ use Rattle.master.specs.declared.tick.TickAnswer.{TickAnswer}
 use Rattle.master.specs.declared.tick.TickAnswer.the-variants as tick
 use Rattle.master.specs.declared.tick.Ticked.{Ticked}
 use Rattle.master.specs.Fits.{stateFits, isSending, lentFits, frameThere, entryOpens}
-use Rattle.master.specs.Transfers.{formatOf, isOpen, openIdentifier, openProtected, opening}
+use Rattle.master.specs.Transfers.{formatOf, isOpen, openProtected, opening}
 use Rattle.master.specs.Plan.{waits, waited, entryDue, begun}
 use Rattle.master.specs.Message.{messageFailed}
 use Rattle.master.specs.Tick.{firstPending, slotOpens, abandoned, ticked}

@@ -18,7 +18,8 @@ use Rattle.master.specs.Transfers.{formatOf, isOpen, openLength, sends}
 use Rattle.master.specs.Write.{touchesOpen, rewritten}
 use Rattle.master.specs.Byte.{withByte}
 use Rattle.master.specs.Seq.{Seq, ∅, _▹_}
-use Rattle.master.specs.Acts.{wrote, took, Value}
+use Rattle.master.specs.Acts.{wrote, took}
+use Rattle.master.specs.Write.{Value}
 use Rattle.master.specs.Schedule.{Scheduled, act}
 use Rattle.master.specs.History.{writes, opens, closes, openAfter, gotBy, gotAfter}
 use Rattle.master.specs.Answering.{dueAfter}

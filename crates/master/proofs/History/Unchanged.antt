@@ -1,96 +1,70 @@
--- A call that counts for nothing changes nothing.
+-- A call that counts for nothing changes nothing: it was refused, or only asks.
 use Prim.Native.Nat.{ℕ}
-use mathlib.Core.Path.{_≡_, refl}
+use mathlib.Core.Path.{_≡_, refl, sym, _∙_, ap}
 use mathlib.Core.List.{List}
 use native.Mathlib.Omega.{arith}
-use Rattle.refusal.specs.declared.Refusal.{Refusal}
+use Rattle.cluster.specs.declared.Verdict.{Verdict}
+use Rattle.cluster.specs.declared.Verdict.the-variants.{Accepted, Refused}
+use Rattle.master.specs.declared.state.Opened.{Opened}
+use Rattle.master.specs.declared.state.Opened.the-variants.{Nothing, Frame, Request, Response}
 use Rattle.master.specs.declared.state.State.{State}
-use Rattle.master.specs.declared.write.WriteAnswer.{WriteAnswer}
-use Rattle.master.specs.declared.write.WriteAnswer.the-variants as write
-use Rattle.master.specs.declared.select.SelectAnswer.{SelectAnswer}
-use Rattle.master.specs.declared.select.SelectAnswer.the-variants as select
-use Rattle.master.specs.declared.tick.TickAnswer.{TickAnswer}
-use Rattle.master.specs.declared.tick.TickAnswer.the-variants as tick
-use Rattle.master.specs.declared.byte.ByteAnswer.{ByteAnswer}
-use Rattle.master.specs.declared.byte.ByteAnswer.the-variants as byte
-use Rattle.master.specs.declared.read.StatusAnswer.{StatusAnswer}
-use Rattle.master.specs.declared.read.StatusAnswer.the-variants as status
-use Rattle.master.specs.declared.send.SendAnswer.{SendAnswer}
-use Rattle.master.specs.declared.send.SendAnswer.the-variants as send
-use Rattle.master.specs.Write.{writeOf, writeArrayOf}
+use Rattle.master.specs.declared.write.Wrote.{Wrote}
+use Rattle.master.specs.declared.read.StatusRead.{StatusRead}
+use Rattle.master.specs.declared.select.Chosen.{Chosen}
+use Rattle.master.specs.declared.tick.Ticked.{Ticked}
+use Rattle.master.specs.declared.byte.Took.{Took}
+use Rattle.master.specs.declared.send.Sent.{Sent}
+use Rattle.master.specs.Admit.{Step, answered}
+use Rattle.master.specs.Write.{writeOf}
 use Rattle.master.specs.Select.{selectOf}
 use Rattle.master.specs.Tick.{tickOf}
-use Rattle.master.specs.Byte.{byteOf}
+use Rattle.master.specs.Byte.{accepted, withByte, byteOf}
 use Rattle.master.specs.Status.{statusOf}
 use Rattle.master.specs.Message.{sendOf}
 use Rattle.master.specs.Calls as call
 use Rattle.master.specs.Calls.{Call, _⇒_}
-use Rattle.master.specs.Run.{Held, held, answerOf, leftBy}
-use Rattle.master.specs.Acts.{nothing, Value, scalar, array, writeAct, selectAct, tickAct, byteAct, statusAct, sendAct, actOf}
-use Rattle.master.proofs.RefusedLaws.{write-refused, write-array-refused, select-refused, tick-refused, byte-refused, status-refused, send-refused}
+use Rattle.master.specs.Run.{Held, answerOf, leftBy}
+use Rattle.master.specs.Step.{verdictOf, effectOf}
+use Rattle.master.specs.Acts.{nothing, writeAct, selectAct, tickAct, byteAct, statusAct, sendAct, actOf}
+use Rattle.master.proofs.Cases.{ticked-by, taken-by}
+use Rattle.master.proofs.StepLaws.{goes, left-by-verdict}
 
--- only a refused one of these calls counts for nothing
-write-nothing : (s : ℕ) (v : Value) (a : WriteAnswer) → writeAct s v a ≡ nothing → (r : Refusal) × (a ≡ write.Refused r)
-write-nothing s v write.Written e = absurd (let z : _≡_ {A = ℕ} 0 1 = cc in omega arith)
-write-nothing s v (write.Refused r) e = (r, refl)
+accepted-counts : (t : List ℕ) (s : State) (o : Opened) (nine bs : List ℕ) (b : ℕ) → byteAct b (accepted t s o nine bs .given .answer) ≡ nothing → ⊥
+unfolding accepted
+accepted-counts t s Nothing nine bs b e = let z : _≡_ {A = ℕ} 0 1 = cc in omega arith
+accepted-counts t s (Frame f) nine bs b e = let z : _≡_ {A = ℕ} 0 1 = cc in omega arith
+accepted-counts t s Request nine bs b e = let z : _≡_ {A = ℕ} 0 1 = cc in omega arith
+accepted-counts t s Response nine bs b e = let z : _≡_ {A = ℕ} 0 1 = cc in omega arith
 
-select-nothing : (n : ℕ) (a : SelectAnswer) → selectAct n a ≡ nothing → (r : Refusal) × (a ≡ select.Refused r)
-select-nothing n select.Selected e = absurd (let z : _≡_ {A = ℕ} 0 1 = cc in omega arith)
-select-nothing n (select.Refused r) e = (r, refl)
-
-tick-nothing : (m : List ℕ) (a : TickAnswer) → tickAct m a ≡ nothing → (r : Refusal) × (a ≡ tick.Refused r)
-tick-nothing m tick.Waiting e = absurd (let z : _≡_ {A = ℕ} 0 1 = cc in omega arith)
-tick-nothing m tick.Idle e = absurd (let z : _≡_ {A = ℕ} 0 1 = cc in omega arith)
-tick-nothing m tick.Silent e = absurd (let z : _≡_ {A = ℕ} 0 1 = cc in omega arith)
-tick-nothing m (tick.Opened p) e = absurd (let z : _≡_ {A = ℕ} 0 1 = cc in omega arith)
-tick-nothing m (tick.Refused r) e = (r, refl)
-
-byte-nothing : (b : ℕ) (a : ByteAnswer) → byteAct b a ≡ nothing → (r : Refusal) × (a ≡ byte.Refused r)
-byte-nothing b byte.More e = absurd (let z : _≡_ {A = ℕ} 0 1 = cc in omega arith)
-byte-nothing b byte.Success e = absurd (let z : _≡_ {A = ℕ} 0 1 = cc in omega arith)
-byte-nothing b byte.Failure e = absurd (let z : _≡_ {A = ℕ} 0 1 = cc in omega arith)
-byte-nothing b byte.Response e = absurd (let z : _≡_ {A = ℕ} 0 1 = cc in omega arith)
-byte-nothing b (byte.Refused r) e = (r, refl)
-
-status-nothing : (a : StatusAnswer) → statusAct a ≡ nothing → (r : Refusal) × (a ≡ status.Refused r)
-status-nothing (status.Word w) e = absurd (let z : _≡_ {A = ℕ} 0 1 = cc in omega arith)
-status-nothing (status.Refused r) e = (r, refl)
-
-send-nothing : (nad n : ℕ) (a : SendAnswer) → sendAct nad n a ≡ nothing → (r : Refusal) × (a ≡ send.Refused r)
-send-nothing nad n send.Sending e = absurd (let z : _≡_ {A = ℕ} 0 1 = cc in omega arith)
-send-nothing nad n (send.Refused r) e = (r, refl)
-
--- the same state and the same bytes
-same-held : (x : Held) (s : State) (bs : List ℕ) → s ≡ x .state → bs ≡ x .bytes → held s bs ≡ x
-same-held x s bs p q = λ i. record { state = p i; bytes = q i }
+-- an accepted call that counts for nothing only asks
+only-asks : (t : List ℕ) (x : Held) (c : Call) → verdictOf t x c ≡ Accepted → actOf (c ⇒ answerOf t x c) ≡ nothing → effectOf t x c ≡ x
+unfolding answerOf verdictOf effectOf writeOf selectOf tickOf byteOf statusOf sendOf
+only-asks t x (call.write w) a e = absurd (let q = sym (ap (λ (z : Step Wrote). writeAct (w .signal) (w .value) (z .given .answer)) (goes _ _ _ a)) ∙ e in let z : _≡_ {A = ℕ} 0 1 = cc in omega arith)
+only-asks t x (call.read s) a e = refl
+only-asks t x (call.readArray s) a e = refl
+only-asks t x (call.select n) a e = absurd (let q = sym (ap (λ (z : Chosen). selectAct n (z .answer)) (goes _ _ _ a)) ∙ e in let z : _≡_ {A = ℕ} 0 1 = cc in omega arith)
+only-asks t x (call.tick m) a e =
+    absurd (ticked-by t (x .bytes) m (λ w. tickAct m (w .answer) ≡ nothing → ⊥) (x .state)
+    (λ y q. let z : _≡_ {A = ℕ} 0 1 = cc in omega arith)
+    (λ n c q. let z : _≡_ {A = ℕ} 0 1 = cc in omega arith)
+    (λ i n c p q. let z : _≡_ {A = ℕ} 0 1 = cc in omega arith)
+    (λ i o n c p y q. let z : _≡_ {A = ℕ} 0 1 = cc in omega arith)
+    (sym (ap (λ (z : Ticked). tickAct m (z .answer)) (goes _ _ _ a)) ∙ e))
+only-asks t x (call.byteIn b) a e =
+    absurd (taken-by t (x .state) (x .bytes) b (λ w. byteAct b (w .given .answer) ≡ nothing → ⊥)
+    (λ nine i q. let z : _≡_ {A = ℕ} 0 1 = cc in omega arith)
+    (λ q. let z : _≡_ {A = ℕ} 0 1 = cc in omega arith)
+    (λ y q. let z : _≡_ {A = ℕ} 0 1 = cc in omega arith)
+    (λ n q. accepted-counts t (x .state) (x .state .transfer .opened) (withByte (x .state .transfer) b) (x .bytes) b q)
+    (sym (ap (λ (z : Step Took). byteAct b (z .given .answer)) (goes _ _ _ a)) ∙ e))
+only-asks t x call.readStatus a e = absurd (let q = sym (ap (λ (z : StatusRead). statusAct (z .answer)) (goes _ _ _ a)) ∙ e in let z : _≡_ {A = ℕ} 0 1 = cc in omega arith)
+only-asks t x (call.send nad n) a e = absurd (let q = sym (ap (λ (z : Sent). sendAct nad n (z .answer)) (goes _ _ _ a)) ∙ e in let z : _≡_ {A = ℕ} 0 1 = cc in omega arith)
+only-asks t x call.messageState a e = refl
+only-asks t x (call.numberAhead f) a e = refl
 
 pub unchanged : (t : List ℕ) (x : Held) (c : Call) → actOf (c ⇒ answerOf t x c) ≡ nothing → leftBy t x c ≡ x
-unfolding answerOf leftBy
-unchanged t x (call.write s v) e =
-    let r = write-nothing s (scalar v) (writeOf t (x .state) (x .bytes) s v .given .answer) e in
-    let k = write-refused t (x .state) (x .bytes) s v (r .0) (r .1) in
-    same-held x _ _ (k .0) (k .1)
-unchanged t x (call.writeArray s vs) e =
-    let r = write-nothing s (array vs) (writeArrayOf t (x .state) (x .bytes) s vs .given .answer) e in
-    let k = write-array-refused t (x .state) (x .bytes) s vs (r .0) (r .1) in
-    same-held x _ _ (k .0) (k .1)
-unchanged t x (call.read s) e = refl
-unchanged t x (call.readArray s) e = refl
-unchanged t x (call.select n) e =
-    let r = select-nothing n (selectOf t (x .state) n .answer) e in
-    same-held x _ _ (select-refused t (x .state) n (r .0) (r .1)) refl
-unchanged t x (call.tick m) e =
-    let r = tick-nothing m (tickOf t (x .bytes) m (x .state) .answer) e in
-    same-held x _ _ (tick-refused t (x .bytes) m (x .state) (r .0) (r .1)) refl
-unchanged t x (call.byteIn b) e =
-    let r = byte-nothing b (byteOf t (x .state) (x .bytes) b .given .answer) e in
-    let k = byte-refused t (x .state) (x .bytes) b (r .0) (r .1) in
-    same-held x _ _ (k .0) (k .1)
-unchanged t x call.readStatus e =
-    let r = status-nothing (statusOf t (x .state) .answer) e in
-    same-held x _ _ (status-refused t (x .state) (r .0) (r .1)) refl
-unchanged t x (call.send nad n) e =
-    let r = send-nothing nad n (sendOf t (x .state) nad n .answer) e in
-    same-held x _ _ (send-refused t (x .state) nad n (r .0) (r .1)) refl
-unchanged t x call.messageState e = refl
-unchanged t x (call.numberAhead f) e = refl
+unchanged t x c e = left-by-verdict t x c ∙ by (verdictOf t x c) refl
+  where
+    by : (v : Verdict) → verdictOf t x c ≡ v → answered (verdictOf t x c) (λ r. x) (effectOf t x c) ≡ x
+    by Accepted a = rw a (only-asks t x c a e)
+    by (Refused r) a = rw a

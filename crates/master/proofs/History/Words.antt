@@ -16,7 +16,7 @@ use Rattle.master.specs.declared.state.Opened.the-variants.{Nothing, Fra
 use Rattle.master.specs.declared.state.Message.{Message}
 use Rattle.master.specs.declared.state.Message.the-variants as message
 use Rattle.master.specs.Fits.{isSending, lentFits}
-use Rattle.master.specs.Transfers.{formatOf, isOpen, openIdentifier, openModel, openProtected, openChecksum, frameData}
+use Rattle.master.specs.Transfers.{formatOf, isOpen, openProtected, openChecksum, frameData}
 use Rattle.master.specs.Plan.{waits, entryDue}
 use Rattle.master.specs.Message.{sendingAt, moved, messageSent, messageFailed, told}
 use Rattle.master.specs.Schedule.{Slot, none, unscheduled, entry, slotOf, slotDue}

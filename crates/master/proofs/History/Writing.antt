@@ -9,7 +9,8 @@ use Rattle.master.specs.Fits.{stateFits}
 use Rattle.master.specs.Write.{marked}
 use Rattle.master.specs.Seq.{Seq, _▹_}
 use Rattle.master.specs.Run.{Held, held}
-use Rattle.master.specs.Acts.{wrote, Value, withValue}
+use Rattle.master.specs.Acts.{wrote}
+use Rattle.master.specs.Write.{Value, withValue}
 use Rattle.master.specs.Schedule.{Scheduled, act, planBy, planAfter}
 use Rattle.master.specs.History.{closes}
 use Rattle.master.specs.Answering.{messageAfter, countedAfter}

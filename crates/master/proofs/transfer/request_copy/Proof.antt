@@ -4,7 +4,7 @@ use lib.ListN.{length}
 use mathlib.Core.Path.{_∙_, _≡_, ap}
 use native.Mathlib.Omega.{arith}
 use Rattle.master.proofs.Parts.{first-all, first-length}
-use Rattle.master.specs.Transfers.{formatOf, copied, openIdentifier}
+use Rattle.master.specs.Transfers.{formatOf, copied}
 use Rattle.master.specs.declared.state.Opened.the-variants.{Request}
 use Rattle.master.proofs.transfer.request_copy.Statement.{statement}
 use Rattle.master.proofs.transfer.request_copy.Tie as tie

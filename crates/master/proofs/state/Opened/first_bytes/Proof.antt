@@ -1,6 +1,6 @@
 -- `state::Opened::first_bytes` meets its contract.
 use borrow.Author.Needs.{needs}
-use Rattle.master.specs.Transfers.{formatOf, opening, sends, sentData}
+use Rattle.master.specs.Transfers.{formatOf, opening, sentData}
 use Rattle.master.proofs.state.Opened.first_bytes.Statement.{statement}
 use Rattle.master.proofs.state.Opened.first_bytes.Tie as tie
 

@@ -6,12 +6,12 @@ use mathlib.Core.Path.{_∙_, sym}
 use native.Mathlib.Omega.{arith}
 use Rattle.cluster.specs.Values.{valueFits}
 use Rattle.master.proofs.Verdicts.{write-signal, write-table, write-value-below}
-use Rattle.master.specs.Write.{writeOf, wrote}
+use Rattle.master.specs.Write.{writeOf}
 use Rattle.master.proofs.state.State.write.Statement.{statement}
 use Rattle.master.proofs.state.State.write.Tie as tie
 
 returns : tie.Need-returns
-unfolding writeOf wrote
+unfolding writeOf
 returns c =
     let e = (sym (c .before .before .before .before .judge-scalar .ensures) ∙ c .before .before .refusal .given .1) in
     record { handed = rw (e, c .not-written .ensures); kept = rw e }
@@ -30,7 +30,7 @@ marked-requires c κs =
     (write-table (a .t .now) (length (a .bytes .now)) (a .self) (a .s) false (valueFits (a .t .now) (a .s) (a .v)) e, write-signal (a .t .now) (length (a .bytes .now)) (a .self) (a .s) false (valueFits (a .t .now) (a .s) (a .v)) e .below)
 
 returns-2 : tie.Need-returns-2
-unfolding writeOf wrote
+unfolding writeOf
 returns-2 c =
     let judge-scalar = c .before .before .before .before .before .before .before .judge-scalar in
     let enum-told = c .before .before .before .before .before .enum-told in

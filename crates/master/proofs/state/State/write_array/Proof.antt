@@ -5,12 +5,12 @@ use mathlib.Core.Bool.{true}
 use mathlib.Core.Path.{_∙_, sym}
 use Rattle.cluster.specs.Values.{arrayFits}
 use Rattle.master.proofs.Verdicts.{write-signal, write-table}
-use Rattle.master.specs.Write.{writeArrayOf, wrote}
+use Rattle.master.specs.Write.{writeOf}
 use Rattle.master.proofs.state.State.write_array.Statement.{statement}
 use Rattle.master.proofs.state.State.write_array.Tie as tie
 
 returns : tie.Need-returns
-unfolding writeArrayOf wrote
+unfolding writeOf
 returns c =
     let e = (sym (c .before .before .before .before .judge-array .ensures) ∙ c .before .before .refusal .given .1) in
     record { handed = rw (e, c .not-written .ensures); kept = rw e }
@@ -24,7 +24,7 @@ marked-requires c κs =
     (write-table (a .t .now) (length (a .bytes .now)) (a .self) (a .s) true (arrayFits (a .t .now) (a .s) (a .values .now)) e, write-signal (a .t .now) (length (a .bytes .now)) (a .self) (a .s) true (arrayFits (a .t .now) (a .s) (a .values .now)) e .below)
 
 returns-2 : tie.Need-returns-2
-unfolding writeArrayOf wrote
+unfolding writeOf
 returns-2 c =
     let judge-array = c .before .before .before .before .before .before .before .judge-array in
     let enum-told = c .before .before .before .before .before .enum-told in
