@@ -2,6 +2,7 @@
 pub mod Along
 pub mod Events
 pub mod Opening
+pub mod Outcomes
 pub mod Success
 pub mod Computed
 pub mod Rewriting

@@ -19,13 +19,13 @@ use Rattle.master.specs.Schedule.{Slot, entry, Scheduled, scheduled}
 use Rattle.master.specs.History.{writes, opens, closes, openAfter, Succeeded, Pending, successes, writtenBytes, eightOf, responseOf, gotAfter}
 use Rattle.master.specs.Replies.{Takes, Count, AheadReply, Replies}
 
--- the history of some calls after a fresh call, each event with the slot that it starts
+-- the history of some calls after a fresh call, each event with its slots
 abbrev pub recordOf : List ℕ → List ℕ → Seq Call → Seq Scheduled
 recordOf t bs cs = scheduled t (historyOf t bs cs)
 
--- a call with its answer, and the slot that it starts
-abbrev pub event : (c : Call) → Answer c → Slot → Scheduled
-event c a s = record { event = c ⇒ a; slot = s }
+-- a call with its answer, the slot that it starts, and the one that it stands in
+abbrev pub event : (c : Call) → Answer c → Slot → Slot → Scheduled
+event c a s k = record { event = c ⇒ a; slot = s; within = k }
 
 -- the event is no accepted write to one of the frames fs
 abbrev pub Spares : List ℕ → List ℕ → Scheduled → Type 0
@@ -45,22 +45,22 @@ pub record Claim (t bs : List ℕ) (cs : Seq Call) : Type 0 where
       eightOf (heldAfter t bs before .bytes) f ≡ eightOf (writtenBytes t (recordOf t bs before)) f
   -- (b) a slot of a list opens the first member that is pending just before its tick, and is silent exactly when there is none
   pub slots :
-      (before after : Seq Scheduled) (m : List ℕ) (a : TickAnswer) (e : ℕ) →
-      recordOf t bs cs ≡ before ▹ event (tick m) a (entry e) ⋈ after →
+      (before after : Seq Scheduled) (m : List ℕ) (a : TickAnswer) (e : ℕ) (k : Slot) →
+      recordOf t bs cs ≡ before ▹ event (tick m) a (entry e) k ⋈ after →
       entryKind t e ≡ 1 →
       Takes t (Pending t before) (members t (entryTarget t e)) a
   -- (c) in a transfer of a published frame success is answered exactly at byte length + 1, when the bytes were those at its opening tick
   pub success :
-      (before : Seq Scheduled) (start : Scheduled) (during after : Seq Scheduled) (b : ℕ) (r : Reply) (s : Slot) (f : ℕ) →
-      recordOf t bs cs ≡ before ▹ start ⋈ during ▹ event (byteIn b) r s ⋈ after →
+      (before : Seq Scheduled) (start : Scheduled) (during after : Seq Scheduled) (b : ℕ) (r : Reply) (s k : Slot) (f : ℕ) →
+      recordOf t bs cs ≡ before ▹ start ⋈ during ▹ event (byteIn b) r s k ⋈ after →
       opens t start ≡ Frame f →
       published t f ≡ true →
       Each (λ x. closes x ≡ false) during →
       (r .answer ≡ byte.Success) ↔ (gotAfter during ++ (b ∷ []) ≡ responseOf t (writtenBytes t before) f)
   -- (d) number ahead is the number of pending members ahead in the frame's list
   pub ahead :
-      (before after : Seq Scheduled) (f : ℕ) (a : AheadAnswer) (s : Slot) →
-      recordOf t bs cs ≡ before ▹ event (numberAhead f) a s ⋈ after →
+      (before after : Seq Scheduled) (f : ℕ) (a : AheadAnswer) (s k : Slot) →
+      recordOf t bs cs ≡ before ▹ event (numberAhead f) a s k ⋈ after →
       AheadReply t before f a
   -- (e) at a moment with no transfer open, a pending member f of list l with p pending members ahead of it: unless one of those is written, f is
   -- sent by the time that the list's slots have had p + 1 more successful transfers
@@ -76,8 +76,8 @@ pub record Claim (t bs : List ℕ) (cs : Seq Call) : Type 0 where
       Succeeded t h₂ f
   -- (f) every answer is the one that the table and the history before it give
   pub answers :
-      (before after : Seq Scheduled) (c : Call) (a : Answer c) (s : Slot) →
-      recordOf t bs cs ≡ before ▹ event c a s ⋈ after →
+      (before after : Seq Scheduled) (c : Call) (a : Answer c) (s k : Slot) →
+      recordOf t bs cs ≡ before ▹ event c a s k ⋈ after →
       Replies t before c a
   -- (f) and what counts for nothing changes nothing
   pub unchanged :

@@ -99,6 +99,23 @@ carries (Frame g) f = eqb g f
 carries Request f = false
 carries Response f = false
 
+-- ---- the outcome of a slot's transfer
+
+-- it has not ended yet, or how it ended
+pub data Outcome : Type 0 where
+  running success failure : Outcome
+
+-- with one more event: the first closing one decides
+abbrev pub endedBy : Outcome → Scheduled → Outcome
+endedBy running x = cond (closes x) (cond (succeeds x) success failure) running
+endedBy success x = success
+endedBy failure x = failure
+
+-- of a transfer, by what came after its opening
+unfoldable pub outcomeOf : Seq Scheduled → Outcome
+outcomeOf ∅ = running
+outcomeOf (h ▹ x) = endedBy (outcomeOf h) x
+
 -- ---- sent, and pending
 
 -- a transfer of frame f that was opened in h has succeeded in h: the first closing event after its opening is a byte answered with success

@@ -23,10 +23,13 @@ pub data Slot : Type 0 where
   -- one with its entry
   entry : ℕ → Slot
 
--- an event with the slot that it starts
+-- an event with its slots
 pub record Scheduled : Type 0 where
   pub event : Event
+  -- the one that it starts
   pub slot : Slot
+  -- the one that it stands in: that, or else the one that was started last
+  pub within : Slot
 
 -- what counts of it
 abbrev pub act : Scheduled → Act
@@ -67,15 +70,6 @@ planAfter t (h ▹ x) = planBy t (planAfter t h) (act x)
 
 -- ---- the slots
 
--- an event after a history, with the slot that it starts: only accepted ticks start one
-unfoldable pub schedule : List ℕ → Seq Scheduled → Event → Scheduled
-schedule t h e = record { event = e; slot = onTick (λ m a. slotDue t (planAfter t h)) none (actOf e) }
-
--- a history, each event with the slot that it starts
-unfoldable pub scheduled : List ℕ → Seq Event → Seq Scheduled
-scheduled t ∅ = ∅
-scheduled t (h ▹ e) = scheduled t h ▹ schedule t (scheduled t h) e
-
 -- a slot, and not none
 abbrev pub isStart : Slot → Bool
 isStart none = false
@@ -90,6 +84,19 @@ starts x = onTick (λ m a. isStart (x .slot)) false (act x)
 unfoldable pub slotAfter : Seq Scheduled → Slot
 slotAfter ∅ = none
 slotAfter (h ▹ x) = cond (starts x) (x .slot) (slotAfter h)
+
+-- the slot that an event starts after a history: only accepted ticks start one
+unfoldable pub slotBegun : List ℕ → Seq Scheduled → Event → Slot
+slotBegun t h e = onTick (λ m a. slotDue t (planAfter t h)) none (actOf e)
+
+-- an event after a history, with its slots
+unfoldable pub schedule : List ℕ → Seq Scheduled → Event → Scheduled
+schedule t h e = record { event = e; slot = slotBegun t h e; within = cond (isStart (slotBegun t h e)) (slotBegun t h e) (slotAfter h) }
+
+-- a history, each event with its slots
+unfoldable pub scheduled : List ℕ → Seq Event → Seq Scheduled
+scheduled t ∅ = ∅
+scheduled t (h ▹ e) = scheduled t h ▹ schedule t (scheduled t h) e
 
 -- "A list's slots are those with kind 1 and that target."
 abbrev pub ofList : List ℕ → Slot → ℕ → Bool

@@ -15,7 +15,7 @@ use Rattle.master.specs.Seq.{Seq, _▹_, _⋈_}
 use Rattle.master.specs.Calls.{Call, tick}
 use Rattle.master.specs.Run.{heldAfter}
 use Rattle.master.specs.Acts.{tickAct, onTick}
-use Rattle.master.specs.Schedule.{Slot, none, entry, Scheduled, slotDue, planAfter, schedule}
+use Rattle.master.specs.Schedule.{slotBegun, Slot, none, entry, Scheduled, slotDue, planAfter, schedule}
 use Rattle.master.specs.History.{Pending}
 use Rattle.master.specs.Answering.{messageAfter}
 use Rattle.master.specs.Replies.{Takes, lentRight}
@@ -46,10 +46,10 @@ slot-accepted m a s e p r q =
     omega arith
 
 -- part (b)
-list-slot : (t : List ℕ) (h : Seq Scheduled) (m : List ℕ) (a : TickAnswer) (e : ℕ) → Good t h (event (tick m) a (entry e)) → entryKind t e ≡ 1
+list-slot : (t : List ℕ) (h : Seq Scheduled) (m : List ℕ) (a : TickAnswer) (e : ℕ) (s : Slot) → Good t h (event (tick m) a (entry e) s) → entryKind t e ≡ 1
     → Takes t (Pending t h) (members t (entryTarget t e)) a
-unfolding schedule
-list-slot t h m a e good k =
+unfolding schedule slotBegun
+list-slot t h m a e s good k =
     let due = slot-due m a (slotDue t (planAfter t h)) e (good .placed) in
     whether (lentRight (messageAfter t h) (length m))
     (λ l. (rw due at (good .replies .goes-on l)) .list k)
@@ -66,13 +66,13 @@ demand-3 t bs accepted cs =
       bytes = λ before after p f b q.
           let is = agrees t bs accepted before .frames in
           same-eight t _ _ (is .size) (is .written-are) f q;
-      slots = λ before after m a e p k. list-slot t before m a e (good before _ after p) k;
-      success = λ before start during after b r s f p o q d. sent-exactly t before start during b r s f (good _ _ after p) o q d;
-      ahead = λ before after f a s p. good before _ after p .replies;
+      slots = λ before after m a e s p k. list-slot t before m a e s (good before _ after p) k;
+      success = λ before start during after b r s k f p o q d. sent-exactly t before start during b r s k f (good _ _ after p) o q d;
+      ahead = λ before after f a s k p. good before _ after p .replies;
       progress = λ h₁ h₂ l f p ahead behind split idle place waits count unwritten enough.
           sent-in-time t h₁ l f ahead behind idle place (pending-iff t h₁ f .1 waits) h₂
           (along-each (λ h x g. g .lawful) (h₁ ⋈ h₂) (rw split at (goods t bs accepted cs))) unwritten
           (rw (count-is (pendingAfter t h₁) (Pending t h₁) (pending-iff t h₁) count) enough);
-      answers = λ before after c a s p. good before _ after p .replies;
+      answers = λ before after c a s k p. good before _ after p .replies;
       unchanged = λ before after c p n. unchanged t (heldAfter t bs before) c n;
     }

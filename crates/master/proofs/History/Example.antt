@@ -40,7 +40,7 @@ use Rattle.master.specs.Byte.{passed, early, sentByte, taken, byteVerdic
 use Rattle.master.specs.Seq.{Seq, ∅, _▹_, _⋈_}
 use Rattle.master.specs.Calls.{Call, select, write, tick, byteIn}
 use Rattle.master.specs.Run.{answerOf, leftBy, heldAfter, historyOf}
-use Rattle.master.specs.Schedule.{none, entry, Scheduled, slotOf, slotDue, planWith, planBy, planAfter, schedule, scheduled, slotAfter}
+use Rattle.master.specs.Schedule.{slotBegun, none, entry, Scheduled, slotOf, slotDue, planWith, planBy, planAfter, schedule, scheduled, slotAfter}
 use Rattle.master.specs.History.{writes, frameNamed, transferNamed, opens, closes, succeeds, openAfter, Succeeded, successes}
 use Rattle.master.specs.Replies.{plain, none-left, one-more}
 use Rattle.master.specs.Claim.{recordOf, event}
@@ -69,24 +69,24 @@ abbrev calls : Seq Call
 calls = ∅ ▹ select 0 ▹ write (put 1 (scalar 5)) ▹ write (put 0 (scalar 7)) ▹ tick [] ▹ byteIn 7 ▹ byteIn 182 ▹ tick [] ▹ byteIn 5 ▹ byteIn 247
 
 abbrev writing : Seq Scheduled
-writing = ∅ ▹ event (select 0) Selected none ▹ event (write (put 1 (scalar 5))) Written none ▹ event (write (put 0 (scalar 7))) Written none
+writing = ∅ ▹ event (select 0) Selected none none ▹ event (write (put 1 (scalar 5))) Written none none ▹ event (write (put 0 (scalar 7))) Written none none
 
 abbrev sending : Seq Scheduled
 sending =
     ∅
-    ▹ event (tick []) (Opened 66) (entry 0)
-    ▹ event (byteIn 7) (plain More) none
-    ▹ event (byteIn 182) (plain Success) none
-    ▹ event (tick []) (Opened 3) (entry 0)
-    ▹ event (byteIn 5) (plain More) none
-    ▹ event (byteIn 247) (plain Success) none
+    ▹ event (tick []) (Opened 66) (entry 0) (entry 0)
+    ▹ event (byteIn 7) (plain More) none (entry 0)
+    ▹ event (byteIn 182) (plain Success) none (entry 0)
+    ▹ event (tick []) (Opened 3) (entry 0) (entry 0)
+    ▹ event (byteIn 5) (plain More) none (entry 0)
+    ▹ event (byteIn 247) (plain Success) none (entry 0)
 
 accepted : freshOf table buffer .given .answer ≡ Fresh
 unfolding freshOf freshVerdict bufferSize judged faults surplus wordsRight records headerRight frameRight identifierRight lengthRight flagsRight anyBelow signalRight signalFrameRight signalKindRight offsetRight widthRight signalWidthRight startLimit startRight takenBefore overlaps memberRight memberFrameRight countsUp entryRight entryKindRight targetRight delayRight word frameCount signalCount memberCount entryCount size identifier frameLength flags published signalFrame signalKind signalOffset signalWidth signalStart isArray memberList memberFrame entrySchedule entryKind entryTarget entryDelay counted listCount inside bit
 accepted = refl
 
 record-is : recordOf table buffer calls ≡ writing ⋈ sending
-unfolding scheduled schedule planAfter planBy planWith slotDue slotOf historyOf heldAfter leftBy answerOf freshOf freshVerdict fresh bufferSize admitted judged faults surplus wordsRight records headerRight frameRight identifierRight lengthRight flagsRight anyBelow signalRight signalFrameRight signalKindRight offsetRight widthRight signalWidthRight startLimit startRight takenBefore overlaps memberRight memberFrameRight countsUp entryRight entryKindRight targetRight delayRight word frameCount signalCount memberCount entryCount size identifier frameLength flags published classic signalFrame signalKind signalOffset signalWidth signalStart isArray memberList memberFrame entrySchedule entryKind entryTarget entryDelay counted listCount scheduleCount firstFrom membersFrom members firstEntry nextEntry signalPlace putStart filled freshBytes touches signalPublished valueFits withScalar bitAt number bytesOf inside replaced putBits putScalar bit p0 p1 xor protectedByte withCarry sum covered modelOf inverted checksumByte stateFits entryThere scheduleThere frameThere currentDelay waitFits bitFits pendingFits isOneOf entryOpens canOpen countFits messageFits lentFits isOpen openProtected openChecksum frameData sentData copied opening asking waits entryDue begun selectVerdict selectOf writable markedFrom touchesOpen rewritten marked writeOf tick.firstPending tick.slotOpens tick.abandoned tick.opens tick.slotAt tick.slot tick.ticked tick.tickVerdict tick.tickOf status.counted status.statusAfter messageSent clearedBit pendingSent sent received passed early sentByte taken byteVerdict byteOf formatOf
+unfolding scheduled schedule slotBegun slotAfter planAfter planBy planWith slotDue slotOf historyOf heldAfter leftBy answerOf freshOf freshVerdict fresh bufferSize admitted judged faults surplus wordsRight records headerRight frameRight identifierRight lengthRight flagsRight anyBelow signalRight signalFrameRight signalKindRight offsetRight widthRight signalWidthRight startLimit startRight takenBefore overlaps memberRight memberFrameRight countsUp entryRight entryKindRight targetRight delayRight word frameCount signalCount memberCount entryCount size identifier frameLength flags published classic signalFrame signalKind signalOffset signalWidth signalStart isArray memberList memberFrame entrySchedule entryKind entryTarget entryDelay counted listCount scheduleCount firstFrom membersFrom members firstEntry nextEntry signalPlace putStart filled freshBytes touches signalPublished valueFits withScalar bitAt number bytesOf inside replaced putBits putScalar bit p0 p1 xor protectedByte withCarry sum covered modelOf inverted checksumByte stateFits entryThere scheduleThere frameThere currentDelay waitFits bitFits pendingFits isOneOf entryOpens canOpen countFits messageFits lentFits isOpen openProtected openChecksum frameData sentData copied opening asking waits entryDue begun selectVerdict selectOf writable markedFrom touchesOpen rewritten marked writeOf tick.firstPending tick.slotOpens tick.abandoned tick.opens tick.slotAt tick.slot tick.ticked tick.tickVerdict tick.tickOf status.counted status.statusAfter messageSent clearedBit pendingSent sent received passed early sentByte taken byteVerdict byteOf formatOf
 record-is = refl
 
 -- frame 1 is sent by the second success of its list

@@ -17,7 +17,7 @@ use Rattle.master.specs.Transfers.{isOpen, openLength, sends}
 use Rattle.master.specs.Seq.{Seq, ∅, _▹_}
 use Rattle.master.specs.Calls.{Call, Event, _⇒_}
 use Rattle.master.specs.Run.{Held, answerOf, leftBy, heldAfter, historyOf}
-use Rattle.master.specs.Schedule.{Scheduled, schedule, scheduled}
+use Rattle.master.specs.Schedule.{slotBegun, Scheduled, schedule, scheduled}
 use Rattle.master.specs.History.{openAfter, gotAfter}
 use Rattle.master.specs.Answering.{dueAfter}
 use Rattle.master.specs.Replies.{Replies}
@@ -47,7 +47,7 @@ pub record Good (t : List ℕ) (h : Seq Scheduled) (x : Scheduled) : Type 0 wher
 
 module _ (t : List ℕ) (h : Seq Scheduled) (x : Held) (is : Agrees t h x) (c : Call) (st : Stepped t h c (answerOf t x c) (leftBy t x c)) where
   good-step : Good t h (schedule t h (c ⇒ answerOf t x c))
-  unfolding schedule
+  unfolding schedule slotBegun
   good-step = record {
     placed = refl;
     replies = st .replies;

@@ -88,11 +88,11 @@ module _ (n : ℕ) (due got : List ℕ) (b : ℕ) (long : length due ≡ suc n) 
   success-iff = (all-due, due-all)
 
 -- part (c), at an event of which all is good
-pub sent-exactly : (t : List ℕ) (before : Seq Scheduled) (start : Scheduled) (during : Seq Scheduled) (b : ℕ) (r : Reply) (s : Slot) (f : ℕ)
-    → Good t (before ▹ start ⋈ during) (event (byteIn b) r s) → opens t start ≡ Frame f → published t f ≡ true → Each (λ x. closes x ≡ false) during
+pub sent-exactly : (t : List ℕ) (before : Seq Scheduled) (start : Scheduled) (during : Seq Scheduled) (b : ℕ) (r : Reply) (s k : Slot) (f : ℕ)
+    → Good t (before ▹ start ⋈ during) (event (byteIn b) r s k) → opens t start ≡ Frame f → published t f ≡ true → Each (λ x. closes x ≡ false) during
     → (r .answer ≡ byte.Success) ↔ (gotAfter during ++ (b ∷ []) ≡ responseOf t (writtenBytes t before) f)
 unfolding isOpen byteReply formatOf
-sent-exactly t before start during b r s f good o p q =
+sent-exactly t before start during b r s k f good o p q =
     let h = before ▹ start ⋈ during in
     let st = opens-starts t start (rw o) in
     let c : closes start ≡ true = starts-closes start st in

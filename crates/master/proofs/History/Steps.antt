@@ -40,7 +40,7 @@ use Rattle.master.specs.Calls as call
 use Rattle.master.specs.Calls.{Call, Answer, _⇒_}
 use Rattle.master.specs.Run.{Held, held, answerOf, leftBy}
 use Rattle.master.specs.Acts.{nothing, actOf}
-use Rattle.master.specs.Schedule.{Scheduled, schedule}
+use Rattle.master.specs.Schedule.{slotBegun, Scheduled, schedule}
 use Rattle.master.specs.Answering.{messageAfter, countedAfter}
 use Rattle.master.specs.Replies.{Replies, writeNumber, readNumber, selectNumber, sendNumber, writeReply, readReply, readArrayReply, selectReply, sendReply, byteReply, plain, lentRight}
 use Rattle.master.proofs.Tests.{never}
@@ -79,7 +79,7 @@ module _ (t : List ℕ) (ok : RightTable t) (h : Seq Scheduled) (x : Held) (is :
 
   -- a call that counts for nothing
   step-nothing : (c : Call) (a : Answer c) → actOf (c ⇒ a) ≡ nothing → Replies t h c a → Stepped t h c a x
-  unfolding schedule
+  unfolding schedule slotBegun
   step-nothing c a n r = record {
     agrees = agrees-nothing t h x is (schedule t h (c ⇒ a)) n;
     replies = r;
@@ -90,7 +90,7 @@ module _ (t : List ℕ) (ok : RightTable t) (h : Seq Scheduled) (x : Held) (is :
 
   -- what counts of a write, and what it answers
   step-write : (w : Put) → Stepped t h (call.write w) (answerOf t x (call.write w)) (leftBy t x (call.write w))
-  unfolding answerOf leftBy writeOf schedule writeReply
+  unfolding answerOf leftBy writeOf schedule writeReply slotBegun
   step-write w =
       let r = w .signal in
       let v = w .value in
@@ -141,7 +141,7 @@ module _ (t : List ℕ) (ok : RightTable t) (h : Seq Scheduled) (x : Held) (is :
   -- ---- select, status, send
 
   step-select : (n : ℕ) → Stepped t h (call.select n) (answerOf t x (call.select n)) (leftBy t x (call.select n))
-  unfolding answerOf leftBy selectOf selectVerdict selectReply schedule
+  unfolding answerOf leftBy selectOf selectVerdict selectReply schedule slotBegun
   step-select n =
       let keeps = keeps-fit t x (call.select n) (is .fits) in
       let number-is : byNumber (selectNumber t n) ≡ selectVerdict t s n = sym (select-verdict t n) ∙ rw own-admitted in
@@ -155,7 +155,7 @@ module _ (t : List ℕ) (ok : RightTable t) (h : Seq Scheduled) (x : Held) (is :
       })
 
   step-status : Stepped t h call.readStatus (answerOf t x call.readStatus) (leftBy t x call.readStatus)
-  unfolding answerOf leftBy statusOf schedule
+  unfolding answerOf leftBy statusOf schedule slotBegun
   step-status =
       let keeps = keeps-fit t x call.readStatus (is .fits) in
       by-verdict (λ (z : StatusRead). Stepped t h call.readStatus (z .answer) (held (z .state) (x .bytes))) (admitted t (bufferSize t) s) _ _
@@ -167,7 +167,7 @@ module _ (t : List ℕ) (ok : RightTable t) (h : Seq Scheduled) (x : Held) (is :
       })
 
   step-send : (nad n : ℕ) → Stepped t h (call.send nad n) (answerOf t x (call.send nad n)) (leftBy t x (call.send nad n))
-  unfolding answerOf leftBy sendOf sendVerdict sendReply schedule
+  unfolding answerOf leftBy sendOf sendVerdict sendReply schedule slotBegun
   step-send nad n =
       let keeps = keeps-fit t x (call.send nad n) (is .fits) in
       let number-is : byNumber (sendNumber (messageAfter t h) n) ≡ sendVerdict t s n = sym (send-verdict (messageAfter t h) n) ∙ rw (own-admitted, is .message-is) in

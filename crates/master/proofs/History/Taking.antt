@@ -32,7 +32,7 @@ use Rattle.master.specs.Calls as call
 use Rattle.master.specs.Calls.{Reply, _⇒_}
 use Rattle.master.specs.Run.{Held, held}
 use Rattle.master.specs.Acts.{took, byteAct}
-use Rattle.master.specs.Schedule.{Scheduled, act, planBy, planAfter, schedule}
+use Rattle.master.specs.Schedule.{slotBegun, Scheduled, act, planBy, planAfter, schedule}
 use Rattle.master.specs.History.{opens, isSuccess, isEnd, closes, openAfter, checksumOver, gotAfter}
 use Rattle.master.specs.Answering.{messageAfter, dueAfter, storedBy, countedAfter}
 use Rattle.master.specs.Replies.{plain, sentReply, receivedReply, byteReply}
@@ -234,7 +234,7 @@ module _ (t : List ℕ) (ok : RightTable t) (h : Seq Scheduled) (x : Held) (is :
 
   -- what counts of a byte
   event-act : (r : Reply) → act (event r) ≡ byteAct b (r .answer)
-  unfolding schedule
+  unfolding schedule slotBegun
   event-act r = refl
 
   -- an answer that leaves the frame bytes
@@ -243,7 +243,7 @@ module _ (t : List ℕ) (ok : RightTable t) (h : Seq Scheduled) (x : Held) (is :
 
   goes-more : (nine : List ℕ) → byteReply t (openAfter t h) (dueAfter t h) (gotAfter h) b ≡ plain byte.More
       → TransferIs t (h ▹ event (plain byte.More)) (passed s nine .transfer) → Goes (leaving (passed s nine) byte.More)
-  unfolding schedule
+  unfolding schedule slotBegun
   goes-more nine r tr f = record {
     agrees = agrees-more (event (plain byte.More)) refl nine f tr;
     replies = sym r;
@@ -251,7 +251,7 @@ module _ (t : List ℕ) (ok : RightTable t) (h : Seq Scheduled) (x : Held) (is :
   }
 
   goes-failed : byteReply t (openAfter t h) (dueAfter t h) (gotAfter h) b ≡ plain byte.Failure → Goes (leaving (failed t s true) byte.Failure)
-  unfolding schedule
+  unfolding schedule slotBegun
   goes-failed r f = record {
     agrees = agrees-failed (event (plain byte.Failure)) refl f;
     replies = sym r;
@@ -263,7 +263,7 @@ module _ (t : List ℕ) (ok : RightTable t) (h : Seq Scheduled) (x : Held) (is :
       → length after ≡ length (x .bytes) → after ≡ storedBy t o (gotAfter h) (x .bytes)
       → ((f : ℕ) → published t f ≡ true → (k : ℕ) → k < 8 → getD after (8 * f + k) 0 ≡ getD (x .bytes) (8 * f + k) 0)
       → Goes (record { given = record { state = s′; answer = c; response = r }; left = after })
-  unfolding schedule
+  unfolding schedule slotBegun
   goes-succeeded s′ ends c r after p a e g l st same f = record {
     agrees = ends (event (record { answer = c; response = r })) c a e g f after
         (frames-sent t h (s .pending) (x .bytes) (is .frames) (event (record { answer = c; response = r })) b c a g o (is .transfer .opened-is)

@@ -27,7 +27,7 @@ use Rattle.master.specs.Calls as call
 use Rattle.master.specs.Calls.{_⇒_}
 use Rattle.master.specs.Run.{Held, held}
 use Rattle.master.specs.Acts as acts
-use Rattle.master.specs.Schedule.{Slot, none, unscheduled, entry, Scheduled, act, isStart, slotDue, planWith, planBy, planAfter, schedule}
+use Rattle.master.specs.Schedule.{slotBegun, Slot, none, unscheduled, entry, Scheduled, act, isStart, slotDue, planWith, planBy, planAfter, schedule}
 use Rattle.master.specs.History.{openedAs, opens, closes, openAfter, Pending}
 use Rattle.master.specs.Answering.{messageClosed, messageAfter}
 use Rattle.master.specs.Replies.{EntryReply, SlotReply, isBeingSent, TickReply}
@@ -177,7 +177,7 @@ module _ (t : List ℕ) (ok : RightTable t) (h : Seq Scheduled) (x : Held) (is :
     Goes w = stateFits t (w .state) ≡ true → Stepped t h (call.tick m) (w .answer) (held (w .state) (x .bytes))
 
     goes-waiting : waits (s .plan) ≡ true → Goes (record { state = withPlan s (waited (s .plan)); answer = tick.Waiting })
-    unfolding schedule
+    unfolding schedule slotBegun
     goes-waiting w f = record {
       agrees = agrees-waited t h x is (schedule t h (call.tick m ⇒ tick.Waiting)) m tick.Waiting refl (due-waits w) (due-waits w) f;
       replies = tick-replies tick.Waiting (rw (due-waits w));
@@ -186,7 +186,7 @@ module _ (t : List ℕ) (ok : RightTable t) (h : Seq Scheduled) (x : Held) (is :
 
     goes-idle : waits (s .plan) ≡ false → entryDue t (s .plan .requested) (s .plan .current) ≡ current.None
         → Goes (record { state = abandoned t s; answer = tick.Idle })
-    unfolding schedule planWith
+    unfolding schedule planWith slotBegun
     goes-idle w c f =
         let y = schedule t h (call.tick m ⇒ tick.Idle) in
         let d = due-none w c in
@@ -200,7 +200,7 @@ module _ (t : List ℕ) (ok : RightTable t) (h : Seq Scheduled) (x : Held) (is :
 
     goes-silent : (e : ℕ) → waits (s .plan) ≡ false → entryDue t (s .plan .requested) (s .plan .current) ≡ current.Entry e
         → isOpen (slotBy e) ≡ false → Goes (record { state = withPlan (abandoned t s) (begun t e); answer = tick.Silent })
-    unfolding schedule planWith opens begun
+    unfolding schedule planWith opens begun slotBegun
     goes-silent e w c n f =
         let y = schedule t h (call.tick m ⇒ tick.Silent) in
         let d = due-entry e w c in
@@ -218,7 +218,7 @@ module _ (t : List ℕ) (ok : RightTable t) (h : Seq Scheduled) (x : Held) (is :
     goes-opened : (e : ℕ) (o : Opened) → waits (s .plan) ≡ false → entryDue t (s .plan .requested) (s .plan .current) ≡ current.Entry e
         → o ≡ slotBy e → isOpen o ≡ true
         → Goes (record { state = opened t (x .bytes) m (withPlan (abandoned t s) (begun t e)) o; answer = tick.Opened (openProtected t o) })
-    unfolding schedule planWith opens begun
+    unfolding schedule planWith opens begun slotBegun
     goes-opened e o w c q p f =
         let a = tick.Opened (openProtected t o) in
         let y = schedule t h (call.tick m ⇒ a) in
