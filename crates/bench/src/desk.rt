@@ -9,7 +9,7 @@ use master::state::Sending;
 use master::state::State;
 use master::state::Status;
 use master::state::Transfer;
-use transport::reassembly::Message as Open;
+use transport::reassembly::Assembly as Open;
 use transport::reassembly::Reassembly;
 
 pub(crate) const SIZE: usize = 128;

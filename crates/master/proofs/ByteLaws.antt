@@ -24,7 +24,7 @@ use Rattle.master.specs.Answers.{successful}
 use Rattle.master.specs.Fits.{frameThere}
 use Rattle.master.specs.Transfers.{formatOf, openLength, sends, frameData}
 use Rattle.master.specs.Closing.{failed, pendingSent, sent, received}
-use Rattle.master.specs.Byte.{plain, passed, withByte, sentByte, accepted, taken, byteVerdict, byteOf}
+use Rattle.master.specs.Byte.{noResponse, passed, withByte, sentByte, accepted, byteEffect, byteVerdict, byteOf}
 use Rattle.master.proofs.Admitted.{admitted-table, admitted-size, admitted-fits, fits-clauses, open-length-high}
 use Rattle.master.proofs.Answered.{by-verdict}
 use Rattle.master.proofs.Cases.{keeping, taken-by, accepted-state}
@@ -52,7 +52,7 @@ pub byte-pending : (t : List ℕ) (s : State) (bs : List ℕ) (b : ℕ)
 unfolding byteOf byteVerdict passed failed sent received
 byte-pending t s bs b =
     by-verdict (λ (w : Step Took). w .given .state .pending ≡ bitsAfter s (w .given .answer)) (byteVerdict t (length bs) s)
-    (λ r. keeping (plain s (answer.Refused r)) bs) (taken t s bs b)
+    (λ r. keeping (noResponse s (answer.Refused r)) bs) (byteEffect t s bs b)
     (λ r e. refl)
     (λ a. taken-by t s bs b (λ w. w .given .state .pending ≡ bitsAfter s (w .given .answer)) (λ nine e. refl) refl (λ y. refl)
     (λ n. let o = s .transfer .opened in let nine = withByte (s .transfer) b in
@@ -107,11 +107,11 @@ module _ (t : List ℕ) (s : State) (bs : List ℕ) (b g : ℕ) where
 -- a byte of a sent transfer is answered by the copy: whatever the live bytes are
 pub byte-by-copy : (t : List ℕ) (s : State) (bs cs : List ℕ) (b : ℕ) → length bs ≡ length cs → sends t (s .transfer .opened) ≡ true
     → byteOf t s bs b .given ≡ byteOf t s cs b .given
-unfolding byteOf taken
+unfolding byteOf byteEffect
 byte-by-copy t s bs cs b e h = rw (e, h) (by-copy (byteVerdict t (length cs) s))
   where
     by-copy : (v : Verdict) →
-        answered {A = Step Took} v (λ r. record { given = plain s (answer.Refused r); left = bs }) (record { given = sentByte t s b; left = bs }) .given
-        ≡ answered {A = Step Took} v (λ r. record { given = plain s (answer.Refused r); left = cs }) (record { given = sentByte t s b; left = cs }) .given
+        answered {A = Step Took} v (λ r. record { given = noResponse s (answer.Refused r); left = bs }) (record { given = sentByte t s b; left = bs }) .given
+        ≡ answered {A = Step Took} v (λ r. record { given = noResponse s (answer.Refused r); left = cs }) (record { given = sentByte t s b; left = cs }) .given
     by-copy Accepted = refl
     by-copy (Refused r) = refl

@@ -19,8 +19,8 @@ use Rattle.master.specs.Admit.{Step}
 use Rattle.master.specs.Transfers.{isOpen, sends, openProtected, opening}
 use Rattle.master.specs.Plan.{waits, waited, entryDue, begun}
 use Rattle.master.specs.Closing.{failed, sent, received}
-use Rattle.master.specs.Tick.{slotOpens, abandoned, opens, slotAt, slot, ticked}
-use Rattle.master.specs.Byte.{plain, passed, early, sentByte, withByte, checksumRight, accepted, lastByte, receivedByte, taken}
+use Rattle.master.specs.Tick.{slotOpens, abandoned, opensOrSilent, slotAt, slot, tickEffect}
+use Rattle.master.specs.Byte.{noResponse, passed, early, sentByte, withByte, checksumRight, accepted, lastByte, receivedByte, byteEffect}
 use Rattle.master.specs.State.{withPlan, withTransfer}
 
 -- a byte that changes no frame byte
@@ -30,12 +30,12 @@ keeping r bs = record { given = r; left = bs }
 module _ (t : List ℕ) (s : State) (bs : List ℕ) (b : ℕ) (P : Step Took → Type 0) where
   -- a byte is one of more, the failing one, the last of a sent transfer, or the last of a received one with a right checksum
   pub taken-by :
-      ((nine : List ℕ) → early t (s .transfer) ≡ true → P (keeping (plain (passed s nine) byte.More) bs))
-      → P (keeping (plain (failed t s true) byte.Failure) bs)
-      → (sends t (s .transfer .opened) ≡ true → P (keeping (plain (sent t s) byte.Success) bs))
+      ((nine : List ℕ) → early t (s .transfer) ≡ true → P (keeping (noResponse (passed s nine) byte.More) bs))
+      → P (keeping (noResponse (failed t s true) byte.Failure) bs)
+      → (sends t (s .transfer .opened) ≡ true → P (keeping (noResponse (sent t s) byte.Success) bs))
       → (sends t (s .transfer .opened) ≡ false → P (accepted t s (s .transfer .opened) (withByte (s .transfer) b) bs))
-      → P (taken t s bs b)
-  unfolding taken sentByte receivedByte lastByte
+      → P (byteEffect t s bs b)
+  unfolding byteEffect sentByte receivedByte lastByte
   taken-by more failure last-sent last-received =
       whether (sends t (s .transfer .opened))
       (λ y. whether (eqb (getD (s .transfer .bytes) (s .transfer .count) 0) b)
@@ -63,13 +63,13 @@ module _ (t bs m : List ℕ) (P : Ticked → Type 0) where
   opens-by : (s : State) (o : Opened)
       → (isOpen o ≡ false → P (record { state = s; answer = tick.Silent }))
       → (isOpen o ≡ true → P (record { state = opened t bs m s o; answer = tick.Opened (openProtected t o) }))
-      → P (opens t bs m s o)
-  unfolding opens
+      → P (opensOrSilent t bs m s o)
+  unfolding opensOrSilent
   opens-by s o silent opening = whether (isOpen o) (λ y. rw y (opening y)) (λ n. rw n (silent n))
 
   slot-by : (s : State) (c : Current)
       → (c ≡ current.None → P (record { state = s; answer = tick.Idle }))
-      → ((e : ℕ) → c ≡ current.Entry e → P (opens t bs m (withPlan s (begun t e)) (slotOpens t (s .pending) (s .message) e)))
+      → ((e : ℕ) → c ≡ current.Entry e → P (opensOrSilent t bs m (withPlan s (begun t e)) (slotOpens t (s .pending) (s .message) e)))
       → P (slotAt t bs m s c)
   unfolding slotAt
   slot-by s current.None idle entry = idle refl
@@ -86,8 +86,8 @@ module _ (t bs m : List ℕ) (P : Ticked → Type 0) where
       → ((e : ℕ) (o : Opened) → waits (s .plan) ≡ false → entryDue t (s .plan .requested) (s .plan .current) ≡ current.Entry e
       → o ≡ slotOpens t (abandoned t s .pending) (abandoned t s .message) e → isOpen o ≡ true
       → P (record { state = opened t bs m (withPlan (abandoned t s) (begun t e)) o; answer = tick.Opened (openProtected t o) }))
-      → P (ticked t bs m s)
-  unfolding ticked slot
+      → P (tickEffect t bs m s)
+  unfolding tickEffect slot
   ticked-by s waiting idle silent opening =
       whether (waits (s .plan)) (λ y. rw y (waiting y))
       (λ n. rw n (slot-by (abandoned t s) (entryDue t (s .plan .requested) (s .plan .current)) (idle n)

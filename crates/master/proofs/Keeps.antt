@@ -3,13 +3,13 @@ use Prim.Native.Nat.{ℕ}
 use mathlib.Core.Bool.{true}
 use mathlib.Core.List.{List}
 use Rattle.master.specs.declared.state.State.{State}
-use Rattle.master.specs.Byte.{withByte, taken}
+use Rattle.master.specs.Byte.{withByte, byteEffect}
 use Rattle.master.proofs.Admitted.{Fits}
 use Rattle.master.proofs.Cases.{taken-by, accepted-state}
 use Rattle.master.proofs.FitsKept.{failed-fits, all-sent-fits, received-fits, passed-fits}
 
 -- the state after a byte fits
-pub taken-fits : (t : List ℕ) (s : State) → Fits t s → (bs : List ℕ) (b : ℕ) → Fits t (taken t s bs b .given .state)
+pub taken-fits : (t : List ℕ) (s : State) → Fits t s → (bs : List ℕ) (b : ℕ) → Fits t (byteEffect t s bs b .given .state)
 taken-fits t s fits bs b =
     taken-by t s bs b (λ w. Fits t (w .given .state))
     (λ nine e. passed-fits t s fits nine e)

@@ -13,7 +13,7 @@ use Rattle.master.specs.declared.byte.Took.{Took}
 use Rattle.master.specs.Admit.{Leaves}
 use Rattle.master.specs.Transfers.{openLength}
 use Rattle.master.specs.Closing.{received}
-use Rattle.master.specs.Byte.{plain, responding, checksumRight, accepted, lastByte}
+use Rattle.master.specs.Byte.{noResponse, responding, checksumRight, accepted, lastByte}
 
 module _ (t : List ℕ) (s : State) (nine bs : List ℕ) (right : checksumRight t (s .transfer .opened) nine ≡ true) where
   by-opened : (o : Opened) → s .transfer .opened ≡ o → lastByte t s nine bs ≡ accepted t s o nine bs
@@ -28,16 +28,16 @@ module _ (t : List ℕ) (s : State) (nine bs : List ℕ) (right : checksumRight 
       kept = k ∙ sym (ap (λ x. x .left) (by-opened o e));
     }
 
-    pub last-nothing : s .transfer .opened ≡ Nothing → r ≡ plain (received t s) Success → after ≡ bs → Leaves (lastByte t s nine bs) r after
+    pub last-nothing : s .transfer .opened ≡ Nothing → r ≡ noResponse (received t s) Success → after ≡ bs → Leaves (lastByte t s nine bs) r after
     unfolding accepted
     last-nothing e h k = leaves Nothing e h k
 
-    pub last-frame : (f n : ℕ) → s .transfer .opened ≡ Frame f → r ≡ plain (received t s) Success → n ≡ openLength t (Frame f)
+    pub last-frame : (f n : ℕ) → s .transfer .opened ≡ Frame f → r ≡ noResponse (received t s) Success → n ≡ openLength t (Frame f)
         → after ≡ written bs (8 * f) (take n nine) → Leaves (lastByte t s nine bs) r after
     unfolding accepted
     last-frame f n e h l k = leaves (Frame f) e h (k ∙ ap (λ m. written bs (8 * f) (take m nine)) l)
 
-    pub last-request : s .transfer .opened ≡ Request → r ≡ plain (received t s) Success → after ≡ bs → Leaves (lastByte t s nine bs) r after
+    pub last-request : s .transfer .opened ≡ Request → r ≡ noResponse (received t s) Success → after ≡ bs → Leaves (lastByte t s nine bs) r after
     unfolding accepted
     last-request e h k = leaves Request e h k
 

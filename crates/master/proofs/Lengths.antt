@@ -13,7 +13,7 @@ use Rattle.master.specs.declared.state.State.{State}
 use Rattle.master.specs.Transfers.{openLength}
 use Rattle.master.specs.Fits.{frameThere}
 use Rattle.master.specs.Admit.{bufferSize}
-use Rattle.master.specs.Byte.{withByte, accepted, taken}
+use Rattle.master.specs.Byte.{withByte, accepted, byteEffect}
 use Rattle.master.proofs.Admitted.{frame-below, open-length-high}
 use Rattle.master.proofs.Cases.{taken-by}
 
@@ -33,7 +33,7 @@ module _ (t : List ℕ) (ok : RightTable t) (s : State) (bs : List ℕ) (size : 
   accepted-length Response nine h = refl
 
   -- a byte of a frame that is there leaves as many bytes
-  pub taken-length : (b : ℕ) → frameThere t (s .transfer .opened) ≡ true → length (taken t s bs b .left) ≡ length bs
+  pub taken-length : (b : ℕ) → frameThere t (s .transfer .opened) ≡ true → length (byteEffect t s bs b .left) ≡ length bs
   taken-length b h =
       taken-by t s bs b (λ w. length (w .left) ≡ length bs) (λ nine e. refl) refl (λ y. refl)
       (λ n. accepted-length (s .transfer .opened) (withByte (s .transfer) b) h)

@@ -11,7 +11,7 @@ use Rattle.master.specs.declared.state.State.{State}
 use Rattle.master.specs.Transfers.{isOpen}
 use Rattle.master.specs.Write.{markedFrom}
 use Rattle.master.specs.Closing.{failed, clearedBit, pendingSent}
-use Rattle.master.specs.Tick.{abandoned, ticked}
+use Rattle.master.specs.Tick.{abandoned, tickEffect}
 use Rattle.master.proofs.Cases.{ticked-by}
 
 -- closing what is open at a slot start leaves them
@@ -20,7 +20,7 @@ unfolding abandoned failed
 abandoned-pending t s = whether (isOpen (s .transfer .opened)) (λ y. rw y) (λ n. rw n)
 
 module _ (t bs m : List ℕ) where
-  pub ticked-pending : (s : State) → ticked t bs m s .state .pending ≡ s .pending
+  pub ticked-pending : (s : State) → tickEffect t bs m s .state .pending ≡ s .pending
   ticked-pending s =
       ticked-by t bs m (λ w. w .state .pending ≡ s .pending) s
       (λ y. refl) (λ n c. abandoned-pending t s) (λ e n c q. abandoned-pending t s) (λ e o n c p y. abandoned-pending t s)

@@ -26,7 +26,7 @@ use Rattle.master.specs.declared.read.ArrayAnswer.the-variants as bytes
 use Rattle.master.specs.Admit.{admitted, bufferSize, Step}
 use Rattle.master.specs.Transfers.{frameData}
 use Rattle.master.specs.Write.{marked, writable, Value, scalar, array, Put, put, isBytes, fitsSignal, withValue, writeVerdict, writeOf}
-use Rattle.master.specs.Read.{readVerdict, readOf, readArrayOf}
+use Rattle.master.specs.Read.{readVerdict, readScalarOf, readArrayOf}
 use Rattle.master.proofs.Admitted.{admitted-table, admitted-size, admitted-fits, admits, fits-clauses, fits-all}
 use Rattle.master.proofs.FitsKept.{marked-fits}
 use Rattle.master.proofs.Answered.{by-verdict, Writable, writable-signal}
@@ -67,8 +67,8 @@ known t x bs s kind fits a =
 
 -- a scalar reads as the value that an accepted write put there
 pub write-value : (t : List ℕ) (x : State) (bs : List ℕ) (s v : ℕ) → writeOf t x bs (put s (scalar v)) .given .answer ≡ Written
-    → readOf t (writeOf t x bs (put s (scalar v)) .given .state) (writeOf t x bs (put s (scalar v)) .left) s ≡ read.Value v
-unfolding readOf bufferSize
+    → readScalarOf t (writeOf t x bs (put s (scalar v)) .given .state) (writeOf t x bs (put s (scalar v)) .left) s ≡ read.Value v
+unfolding readScalarOf bufferSize
 write-value t x bs s v k =
     let w = put s (scalar v) in
     let knows = known t x bs s false (valueFits t s v) (write-accepts t x bs w k) in

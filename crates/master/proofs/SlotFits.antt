@@ -18,7 +18,7 @@ use Rattle.master.specs.Transfers.{isOpen, openLength, opening}
 use Rattle.master.specs.Fits.{entryThere, scheduleThere, currentDelay, waitFits, canOpen, countFits}
 use Rattle.master.specs.Plan.{waits, entryDue, begun}
 use Rattle.master.specs.Closing.{failed}
-use Rattle.master.specs.Tick.{slotOpens, abandoned, opens, slotAt, slot, ticked}
+use Rattle.master.specs.Tick.{slotOpens, abandoned, opensOrSilent, slotAt, slot, tickEffect}
 use Rattle.master.proofs.Admitted.{Fits}
 use Rattle.master.proofs.FitsKept.{waited-fits, failed-fits}
 use Rattle.master.proofs.MessageFits.{nothing-open}
@@ -68,8 +68,8 @@ module _ (t bs m : List ℕ) (s : State) (fits : Fits t s) where
   }
 
   -- a state that opens what its entry can open fits
-  pub opens-fits : (e : ℕ) (o : Opened) → s .plan .current ≡ current.Entry e → Opens t (s .message) e o → Fits t (opens t bs m s o .state)
-  unfolding opens opening canOpen countFits
+  pub opens-fits : (e : ℕ) (o : Opened) → s .plan .current ≡ current.Entry e → Opens t (s .message) e o → Fits t (opensOrSilent t bs m s o .state)
+  unfolding opensOrSilent opening canOpen countFits
   opens-fits e o c w =
       whether (isOpen o)
       (λ y. rw y (record {
@@ -101,6 +101,6 @@ module _ (t : List ℕ) (ok : RightTable t) (bs m : List ℕ) where
       (due-there t ok (s .plan .requested) (s .plan .current) (fits .schedule-there) (fits .entry-there))
 
   -- the state that a tick leaves fits
-  pub ticked-fits : (s : State) → Fits t s → Fits t (ticked t bs m s .state)
-  unfolding ticked
+  pub ticked-fits : (s : State) → Fits t s → Fits t (tickEffect t bs m s .state)
+  unfolding tickEffect
   ticked-fits s fits = whether (waits (s .plan)) (λ y. rw y (waited-fits t s fits)) (λ n. rw n (slot-fits s fits))

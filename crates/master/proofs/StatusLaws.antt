@@ -15,7 +15,7 @@ use Rattle.master.specs.declared.read.StatusAnswer.the-variants.{Word}
 use Rattle.master.specs.declared.read.StatusRead.{StatusRead}
 use Rattle.master.specs.Transfers.{isOpen}
 use Rattle.master.specs.Admit.{admitted, bufferSize}
-use Rattle.master.specs.Status.{counted, statusAfter, statusWord, statusOf}
+use Rattle.master.specs.Status.{withCounted, statusAfter, statusWord, statusOf}
 use Rattle.master.specs.Closing.{failed}
 use Rattle.master.specs.Tick.{abandoned}
 use Rattle.master.proofs.Admitted.{admitted-table, admitted-fits, admits, fits-clauses, fits-all}
@@ -29,28 +29,28 @@ use Rattle.master.specs.Fresh.{noStatus}
 
 module _ (x : Status) (last : ℕ) where
   -- a failed transfer sets the error bit
-  pub counted-error : counted x false last .error ≡ true
-  unfolding counted
+  pub counted-error : withCounted x false last .error ≡ true
+  unfolding withCounted
   counted-error = or-true (x .error)
 
   -- a successful transfer sets the success bit
-  pub counted-success : counted x true last .success ≡ true
-  unfolding counted
+  pub counted-success : withCounted x true last .success ≡ true
+  unfolding withCounted
   counted-success = or-true (x .success)
 
   -- a counted transfer is the last one
-  pub counted-last : (success : Bool) → counted x success last .last ≡ last
-  unfolding counted
+  pub counted-last : (success : Bool) → withCounted x success last .last ≡ last
+  unfolding withCounted
   counted-last success = refl
 
   -- a successful transfer leaves the error bit
-  pub error-only : counted x true last .error ≡ x .error
-  unfolding counted
+  pub error-only : withCounted x true last .error ≡ x .error
+  unfolding withCounted
   error-only = or-false (x .error)
 
   -- a failed transfer leaves the success bit
-  pub success-only : counted x false last .success ≡ x .success
-  unfolding counted
+  pub success-only : withCounted x false last .success ≡ x .success
+  unfolding withCounted
   success-only = or-false (x .success)
 
 -- every bit that is set in one status is set in another
@@ -61,7 +61,7 @@ pub record Stays (x y : Status) : Type 0 where
 
 -- "either stays set until read", and so does overrun
 pub stays-set : (x : Status) (counts success : Bool) (last : ℕ) → Stays x (statusAfter x counts success last)
-unfolding statusAfter counted
+unfolding statusAfter withCounted
 stays-set x true success last = record {
   error-stays = λ h. rw h;
   success-stays = λ h. rw h;
@@ -74,25 +74,25 @@ stays-set x false success last = record {
 }
 
 -- overrun stays set
-pub overrun-stays : (x : Status) (success : Bool) (last : ℕ) → x .overrun ≡ true → counted x success last .overrun ≡ true
-unfolding counted
+pub overrun-stays : (x : Status) (success : Bool) (last : ℕ) → x .overrun ≡ true → withCounted x success last .overrun ≡ true
+unfolding withCounted
 overrun-stays x success last h = rw h
 
-some-bit : (x : Status) (success : Bool) (last : ℕ) → (counted x success last .error || counted x success last .success) ≡ true
-unfolding counted
+some-bit : (x : Status) (success : Bool) (last : ℕ) → (withCounted x success last .error || withCounted x success last .success) ≡ true
+unfolding withCounted
 some-bit x true last = rw (or-true (x .success)) (or-true (x .error || false))
 some-bit x false last = rw (or-true (x .error))
 
 -- "overrun means two or more since the last reading": not after the first transfer counted
 pub overrun-first : (x : Status) (success : Bool) (last : ℕ) → x .error ≡ false → x .success ≡ false → x .overrun ≡ false
-    → counted x success last .overrun ≡ false
-unfolding counted
+    → withCounted x success last .overrun ≡ false
+unfolding withCounted
 overrun-first x success last e s o = rw (e, s, o)
 
 -- but after the second
-pub overrun-second : (x : Status) (first second : Bool) (last later : ℕ) → counted (counted x first last) second later .overrun ≡ true
-unfolding counted
-overrun-second x first second last later = rw (some-bit x first last) (or-true (counted x first last .overrun))
+pub overrun-second : (x : Status) (first second : Bool) (last later : ℕ) → withCounted (withCounted x first last) second later .overrun ≡ true
+unfolding withCounted
+overrun-second x first second last later = rw (some-bit x first last) (or-true (withCounted x first last .overrun))
 
 -- "Only closed transfers with at least one response byte count": a slot that closes one without any leaves status as it was
 pub uncounted : (t : List ℕ) (s : State) → s .transfer .count ≡ 0 → abandoned t s .status ≡ s .status

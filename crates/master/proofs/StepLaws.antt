@@ -36,10 +36,10 @@ use Rattle.master.specs.Fits.{stateFits}
 use Rattle.master.specs.Admit.{Step, admitted, answered, bufferSize}
 use Rattle.master.specs.Answers.{verdictNumber, readRefusal, writeRefusal, arrayRefusal, selectRefusal, tickRefusal, byteRefusal, statusRefusal, sendRefusal, messageRefusal, aheadRefusal}
 use Rattle.master.specs.Write.{marked, isBytes, fitsSignal, writeVerdict, writeOf}
-use Rattle.master.specs.Read.{readVerdict, readOf, readArrayOf}
+use Rattle.master.specs.Read.{readVerdict, readScalarOf, readArrayOf}
 use Rattle.master.specs.Select.{selectVerdict, selectOf}
-use Rattle.master.specs.Tick.{ticked, tickVerdict, tickOf}
-use Rattle.master.specs.Byte.{accepted, withByte, taken, byteVerdict, byteOf}
+use Rattle.master.specs.Tick.{tickEffect, tickVerdict, tickOf}
+use Rattle.master.specs.Byte.{accepted, withByte, byteEffect, byteVerdict, byteOf}
 use Rattle.master.specs.Status.{statusOf}
 use Rattle.master.specs.Message.{sendVerdict, sendOf, told, messageOf}
 use Rattle.master.specs.Ahead.{aheadVerdict, aheadOf}
@@ -92,7 +92,7 @@ goes v refuse go e = rw e
 
 -- a refused call answers its refusal
 pub refused-answer : (t : List ℕ) (x : Held) (c : Call) (r : Refusal) → verdictOf t x c ≡ Refused r → answerOf t x c ≡ refusalOf c r
-unfolding answerOf verdictOf refusalOf writeOf readOf readArrayOf selectOf tickOf byteOf statusOf sendOf messageOf aheadOf
+unfolding answerOf verdictOf refusalOf writeOf readScalarOf readArrayOf selectOf tickOf byteOf statusOf sendOf messageOf aheadOf
 refused-answer t x (call.write w) r e = ap (λ (z : Step Wrote). z .given .answer) (refuses _ _ _ r e)
 refused-answer t x (call.read s) r e = refuses _ _ _ r e
 refused-answer t x (call.readArray s) r e = refuses _ _ _ r e
@@ -121,7 +121,7 @@ told-answers Failed r k = let z : _≡_ {A = ℕ} 0 1 = cc in omega arith
 
 -- an accepted one answers none
 accepted-answer : (t : List ℕ) (x : Held) (c : Call) (r : Refusal) → verdictOf t x c ≡ Accepted → answerOf t x c ≡ refusalOf c r → ⊥
-unfolding answerOf verdictOf refusalOf writeOf readOf readArrayOf selectOf tickOf byteOf statusOf sendOf messageOf aheadOf
+unfolding answerOf verdictOf refusalOf writeOf readScalarOf readArrayOf selectOf tickOf byteOf statusOf sendOf messageOf aheadOf
 accepted-answer t x (call.write w) r a k = let z = sym (ap (λ (z : Step Wrote). z .given .answer) (goes _ _ _ a)) ∙ k in let y : _≡_ {A = ℕ} 0 1 = cc in omega arith
 accepted-answer t x (call.read s) r a k = let z = sym (goes _ _ _ a) ∙ k in let y : _≡_ {A = ℕ} 0 1 = cc in omega arith
 accepted-answer t x (call.readArray s) r a k = let z = ap (λ (w : ReadArray). w .answer) (sym (goes _ _ _ a) ∙ k) in let y : _≡_ {A = ℕ} 0 1 = cc in omega arith
@@ -191,7 +191,7 @@ told-number Completed = refl
 told-number Failed = refl
 
 pub number-told : (t : List ℕ) (x : Held) (c : Call) → numberTold c (answerOf t x c) ≡ verdictNumber (verdictOf t x c)
-unfolding numberTold answerOf verdictOf writeOf readOf readArrayOf selectOf tickOf byteOf statusOf sendOf messageOf aheadOf
+unfolding numberTold answerOf verdictOf writeOf readScalarOf readArrayOf selectOf tickOf byteOf statusOf sendOf messageOf aheadOf
 number-told t x (call.write w) = numbered (λ (z : Step Wrote). writeRefusal (z .given .answer)) (writeVerdict t (length (x .bytes)) (x .state) w) _ _ (λ r. refl) refl
 number-told t x (call.read s) = numbered readRefusal (readVerdict t (length (x .bytes)) (x .state) s false) _ _ (λ r. refl) refl
 number-told t x (call.readArray s) = numbered (λ (z : ReadArray). arrayRefusal (z .answer)) (readVerdict t (length (x .bytes)) (x .state) s true) _ _ (λ r. refl) refl
@@ -243,8 +243,8 @@ effect-fits t x c a =
     by (call.select n) a ok h fits =
         let k = then-second (admitted t (bufferSize t) (x .state)) _ a in
         fits-all t _ (asking-fits t (x .state) fits n (ltb-true n (scheduleCount t) (unless-test (ltb n (scheduleCount t)) number.unknown _ k)))
-    by (call.tick m) a ok h fits = fits-all t (ticked t (x .bytes) m (x .state) .state) (ticked-fits t ok (x .bytes) m (x .state) fits)
-    by (call.byteIn b) a ok h fits = fits-all t (taken t (x .state) (x .bytes) b .given .state) (taken-fits t (x .state) fits (x .bytes) b)
+    by (call.tick m) a ok h fits = fits-all t (tickEffect t (x .bytes) m (x .state) .state) (ticked-fits t ok (x .bytes) m (x .state) fits)
+    by (call.byteIn b) a ok h fits = fits-all t (byteEffect t (x .state) (x .bytes) b .given .state) (taken-fits t (x .state) fits (x .bytes) b)
     by call.readStatus a ok h fits = fits-all t _ (status-fits t (x .state) fits)
     by (call.send nad n) a ok h fits =
         let k = then-second (admitted t (bufferSize t) (x .state)) _ a in

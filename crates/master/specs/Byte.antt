@@ -22,8 +22,8 @@ use Rattle.master.specs.State.{withTransfer}
 use Rattle.master.specs.Closing.{failed, sent, received}
 
 -- an answer that brings no response bytes, which are 255 then
-abbrev pub plain : State → ByteAnswer → Took
-plain s a = record { state = s; answer = a; response = replicate 8 255 }
+abbrev pub noResponse : State → ByteAnswer → Took
+noResponse s a = record { state = s; answer = a; response = replicate 8 255 }
 
 -- "answers its eight bytes"
 abbrev pub responding : State → List ℕ → Took
@@ -48,9 +48,9 @@ unfoldable pub sentByte : List ℕ → State → ℕ → Took
 sentByte t s b =
     cond (eqb (getD (s .transfer .bytes) (s .transfer .count) 0) b)
     (cond (early t (s .transfer))
-    (plain (passed s (s .transfer .bytes)) answer.More)
-    (plain (sent t s) answer.Success))
-    (plain (failed t s true) answer.Failure)
+    (noResponse (passed s (s .transfer .bytes)) answer.More)
+    (noResponse (sent t s) answer.Success))
+    (noResponse (failed t s true) answer.Failure)
 
 -- "a right checksum": of the data, in the byte behind them
 unfoldable pub checksumRight : List ℕ → Opened → List ℕ → Bool
@@ -58,10 +58,10 @@ checksumRight t o nine = eqb (getD nine (openLength t o) 0) (openChecksum t o (t
 
 -- "stores the data and succeeds"; "A successful response frame stores nothing in the buffer and answers its eight bytes."
 unfoldable pub accepted : List ℕ → State → Opened → List ℕ → List ℕ → Step Took
-accepted t s Nothing nine bs = record { given = plain (received t s) answer.Success; left = bs }
+accepted t s Nothing nine bs = record { given = noResponse (received t s) answer.Success; left = bs }
 accepted t s (Frame f) nine bs =
-    record { given = plain (received t s) answer.Success; left = lent.written bs (8 * f) (take (openLength t (Frame f)) nine) }
-accepted t s Request nine bs = record { given = plain (received t s) answer.Success; left = bs }
+    record { given = noResponse (received t s) answer.Success; left = lent.written bs (8 * f) (take (openLength t (Frame f)) nine) }
+accepted t s Request nine bs = record { given = noResponse (received t s) answer.Success; left = bs }
 accepted t s Response nine bs =
     record { given = responding (received t s) nine; left = bs }
 
@@ -70,7 +70,7 @@ unfoldable pub lastByte : List ℕ → State → List ℕ → List ℕ → Step 
 lastByte t s nine bs =
     cond (checksumRight t (s .transfer .opened) nine)
     (accepted t s (s .transfer .opened) nine bs)
-    (record { given = plain (failed t s true) answer.Failure; left = bs })
+    (record { given = noResponse (failed t s true) answer.Failure; left = bs })
 
 -- the nine bytes with one more
 unfoldable pub withByte : Transfer → ℕ → List ℕ
@@ -80,12 +80,12 @@ withByte x b = set (x .bytes) (x .count) b
 unfoldable pub receivedByte : List ℕ → State → List ℕ → ℕ → Step Took
 receivedByte t s bs b =
     cond (early t (s .transfer))
-    (record { given = plain (passed s (withByte (s .transfer) b)) answer.More; left = bs })
+    (record { given = noResponse (passed s (withByte (s .transfer) b)) answer.More; left = bs })
     (lastByte t s (withByte (s .transfer) b) bs)
 
 -- "Byte in belongs to the open transfer."
-unfoldable pub taken : List ℕ → State → List ℕ → ℕ → Step Took
-taken t s bs b =
+unfoldable pub byteEffect : List ℕ → State → List ℕ → ℕ → Step Took
+byteEffect t s bs b =
     cond (sends t (s .transfer .opened))
     (record { given = sentByte t s b; left = bs })
     (receivedByte t s bs b)
@@ -100,5 +100,5 @@ byteVerdict t size s =
 unfoldable pub byteOf : List ℕ → State → List ℕ → ℕ → Step Took
 byteOf t s bs b =
     answered (byteVerdict t (length bs) s)
-    (λ r. record { given = plain s (answer.Refused r); left = bs })
-    (taken t s bs b)
+    (λ r. record { given = noResponse s (answer.Refused r); left = bs })
+    (byteEffect t s bs b)

@@ -26,8 +26,8 @@ readVerdict t size x s array =
     verdict.Accepted))
 
 -- what a read of a scalar answers
-unfoldable pub readOf : List ℕ → State → List ℕ → ℕ → ReadAnswer
-readOf t x bs s = answered (readVerdict t (length bs) x s false) (λ r. scalar.Refused r) (scalar.Value (scalarValue t bs s))
+unfoldable pub readScalarOf : List ℕ → State → List ℕ → ℕ → ReadAnswer
+readScalarOf t x bs s = answered (readVerdict t (length bs) x s false) (λ r. scalar.Refused r) (scalar.Value (scalarValue t bs s))
 
 -- what a read of an array answers: how many bytes, and eight of which the unused ones are 255
 unfoldable pub readArrayOf : List ℕ → State → List ℕ → ℕ → ReadArray

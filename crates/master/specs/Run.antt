@@ -5,7 +5,7 @@ use Prim.Native.Nat.{ℕ}
 use Rattle.master.specs.declared.state.State.{State}
 use Rattle.master.specs.Start.{freshOf}
 use Rattle.master.specs.Write.{writeOf}
-use Rattle.master.specs.Read.{readOf, readArrayOf}
+use Rattle.master.specs.Read.{readScalarOf, readArrayOf}
 use Rattle.master.specs.Select.{selectOf}
 use Rattle.master.specs.Tick.{tickOf}
 use Rattle.master.specs.Byte.{byteOf}
@@ -23,7 +23,7 @@ pub record Held : Type 0 where
 -- what a call answers
 unfoldable pub answerOf : List ℕ → Held → (c : Call) → Answer c
 answerOf t x (write w) = writeOf t (x .state) (x .bytes) w .given .answer
-answerOf t x (read s) = readOf t (x .state) (x .bytes) s
+answerOf t x (read s) = readScalarOf t (x .state) (x .bytes) s
 answerOf t x (readArray s) = readArrayOf t (x .state) (x .bytes) s
 answerOf t x (select n) = selectOf t (x .state) n .answer
 answerOf t x (tick m) = tickOf t (x .bytes) m (x .state) .answer

@@ -12,8 +12,8 @@ use Rattle.master.specs.State.{withStatus}
 use Rattle.master.specs.Admit.{admitted, answered, bufferSize}
 
 -- "a failed one sets bit 0, a successful one bit 1, and either stays set until read; overrun means two or more since the last reading"
-unfoldable pub counted : Status → Bool → ℕ → Status
-counted x success last =
+unfoldable pub withCounted : Status → Bool → ℕ → Status
+withCounted x success last =
     record {
       error = x .error || not success;
       success = x .success || success;
@@ -23,7 +23,7 @@ counted x success last =
 
 -- "Only closed transfers with at least one response byte count"
 unfoldable pub statusAfter : Status → Bool → Bool → ℕ → Status
-statusAfter x counts success last = cond counts (counted x success last) x
+statusAfter x counts success last = cond counts (withCounted x success last) x
 
 -- "bit 0 error in response, bit 1 successful transfer, bit 2 overrun, bits 8 to 15 the protected identifier of the last transfer
 -- counted, other bits 0"

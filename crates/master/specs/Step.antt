@@ -24,8 +24,8 @@ use Rattle.master.specs.Write.{withValue, marked, writeVerdict}
 use Rattle.master.specs.Read.{readVerdict}
 use Rattle.master.specs.Plan.{asking}
 use Rattle.master.specs.Select.{selectVerdict}
-use Rattle.master.specs.Tick.{ticked, tickVerdict}
-use Rattle.master.specs.Byte.{taken, byteVerdict}
+use Rattle.master.specs.Tick.{tickEffect, tickVerdict}
+use Rattle.master.specs.Byte.{byteEffect, byteVerdict}
 use Rattle.master.specs.Message.{sendVerdict}
 use Rattle.master.specs.Ahead.{aheadVerdict}
 use Rattle.master.specs.Answers.{writeRefusal, readRefusal, arrayRefusal, selectRefusal, tickRefusal, byteRefusal, statusRefusal, sendRefusal, messageRefusal, aheadRefusal}
@@ -52,8 +52,8 @@ effectOf t x (call.write w) = held (marked t (w .signal) (x .state)) (withValue 
 effectOf t x (call.read s) = x
 effectOf t x (call.readArray s) = x
 effectOf t x (call.select n) = held (withPlan (x .state) (asking (x .state .plan) n)) (x .bytes)
-effectOf t x (call.tick m) = held (ticked t (x .bytes) m (x .state) .state) (x .bytes)
-effectOf t x (call.byteIn b) = held (taken t (x .state) (x .bytes) b .given .state) (taken t (x .state) (x .bytes) b .left)
+effectOf t x (call.tick m) = held (tickEffect t (x .bytes) m (x .state) .state) (x .bytes)
+effectOf t x (call.byteIn b) = held (byteEffect t (x .state) (x .bytes) b .given .state) (byteEffect t (x .state) (x .bytes) b .left)
 effectOf t x call.readStatus = held (withStatus (x .state) noStatus) (x .bytes)
 effectOf t x (call.send nad n) = held (withMessage (x .state) (Sending (record { nad = nad; length = n; next = 0 }))) (x .bytes)
 effectOf t x call.messageState = x

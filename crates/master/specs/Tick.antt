@@ -44,8 +44,8 @@ unfoldable pub abandoned : List ℕ → State → State
 abandoned t s = cond (isOpen (s .transfer .opened)) (failed t s (ltb 0 (s .transfer .count))) s
 
 -- "Opening answers the protected identifier", and nothing opened is silent
-unfoldable pub opens : List ℕ → List ℕ → List ℕ → State → Opened → Ticked
-opens t bs m s o =
+unfoldable pub opensOrSilent : List ℕ → List ℕ → List ℕ → State → Opened → Ticked
+opensOrSilent t bs m s o =
     cond (isOpen o)
     (record { state = withTransfer s (opening t bs (s .message) m o); answer = answer.Opened (openProtected t o) })
     (record { state = s; answer = answer.Silent })
@@ -53,15 +53,15 @@ opens t bs m s o =
 -- a slot with its entry; "with no schedule the answer is "idle" and the wait stays 0"
 unfoldable pub slotAt : List ℕ → List ℕ → List ℕ → State → Current → Ticked
 slotAt t bs m s current.None = record { state = s; answer = answer.Idle }
-slotAt t bs m s (current.Entry e) = opens t bs m (withPlan s (begun t e)) (slotOpens t (s .pending) (s .message) e)
+slotAt t bs m s (current.Entry e) = opensOrSilent t bs m (withPlan s (begun t e)) (slotOpens t (s .pending) (s .message) e)
 
 -- "Otherwise a slot starts": the open transfer is closed first
 unfoldable pub slot : List ℕ → List ℕ → List ℕ → State → Ticked
 slot t bs m s = slotAt t bs m (abandoned t s) (entryDue t (s .plan .requested) (s .plan .current))
 
 -- "If the wait is above 1, it falls by one and the answer is "waiting". Otherwise a slot starts"
-unfoldable pub ticked : List ℕ → List ℕ → List ℕ → State → Ticked
-ticked t bs m s =
+unfoldable pub tickEffect : List ℕ → List ℕ → List ℕ → State → Ticked
+tickEffect t bs m s =
     cond (waits (s .plan))
     (record { state = withPlan s (waited (s .plan)); answer = answer.Waiting })
     (slot t bs m s)
@@ -77,4 +77,4 @@ unfoldable pub tickOf : List ℕ → List ℕ → List ℕ → State → Ticked
 tickOf t bs m s =
     answered (tickVerdict t (length bs) (length m) s)
     (λ r. record { state = s; answer = answer.Refused r })
-    (ticked t bs m s)
+    (tickEffect t bs m s)

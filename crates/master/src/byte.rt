@@ -12,7 +12,7 @@ ghost use Prim.Native.Nat.{_≤_};
 ghost use lib.ListN.{length};
 ghost use Rattle.master.specs.Admit.{bufferSize, Leaves};
 ghost use Rattle.cluster.specs.declared.Verdict.the-variants.{Accepted};
-ghost use Rattle.master.specs.Byte.{plain as plainOf, passed as passedOf, sentByte, responding as respondingOf, lastByte};
+ghost use Rattle.master.specs.Byte.{noResponse as plainOf, passed as passedOf, sentByte, responding as respondingOf, lastByte};
 ghost use Rattle.master.specs.Byte.{receivedByte, byteVerdict, byteOf};
 
 // What a byte in answers; response says that the response's eight bytes are there.

@@ -115,7 +115,7 @@ pub(crate) fn count_pending(t: &[u16], pending: [bool; 60], l: u16, end: u16) ->
     let mut n: u16 = 0;
     let mut m: u16 = 0;
     while m < end {
-        n += counted(is_pending_member(t, pending, l, m));
+        n += one_if(is_pending_member(t, pending, l, m));
         m += 1;
     }
     n
@@ -133,7 +133,7 @@ pub(crate) fn is_pending_member(t: &[u16], pending: [bool; 60], l: u16, m: u16) 
 }
 
 // One for a yes.
-pub(crate) fn counted(yes: bool) -> u16
+fn one_if(yes: bool) -> u16
     ensures { λ r. ⌜ r ≡ cond yes 1 0 ⌝ }
     ensures { λ r. ⌜ r ≤ 1 ⌝ }
 {

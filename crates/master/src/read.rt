@@ -8,7 +8,7 @@ use cluster::signals;
 use cluster::values;
 use refusal::Refusal;
 ghost use mathlib.Core.Path.{_≡_};
-ghost use Rattle.master.specs.Read.{readVerdict, readOf, readArrayOf};
+ghost use Rattle.master.specs.Read.{readVerdict, readScalarOf, readArrayOf};
 ghost use Rattle.master.specs.Status.{statusOf};
 
 // What a read of a scalar answers.
@@ -44,7 +44,7 @@ pub struct StatusRead {
 impl State {
     // Reads a scalar.
     pub fn read(self, t: &[u16], bytes: &[u8], s: u16) -> ReadAnswer
-        ensures { λ r. ⌜ r ≡ readOf (now (t .entry)) self (now (bytes .entry)) s ⌝ }
+        ensures { λ r. ⌜ r ≡ readScalarOf (now (t .entry)) self (now (bytes .entry)) s ⌝ }
     {
         if let Verdict::Refused(refusal) = self.judge_read(t, bytes.len(), s, false) {
             return ReadAnswer::Refused(refusal);

@@ -7,7 +7,6 @@ use crate::state::State;
 use cluster::Verdict;
 use refusal::Refusal;
 ghost use mathlib.Core.Path.{_≡_};
-ghost use lib.ListN.{length};
 ghost use Rattle.master.specs.Message.{sendVerdict, sendOf, messageOf};
 
 // What send answers.
@@ -33,10 +32,10 @@ pub enum MessageAnswer {
 
 impl State {
     // Begins to send a message of a length to a NAD; its bytes are lent to the ticks.
-    pub fn send(self, t: &[u16], nad: u8, length: u32) -> Sent
-        ensures { λ r. ⌜ r ≡ sendOf (now (t .entry)) self nad length ⌝ }
+    pub fn send(self, t: &[u16], nad: u8, size: u32) -> Sent
+        ensures { λ r. ⌜ r ≡ sendOf (now (t .entry)) self nad size ⌝ }
     {
-        if let Verdict::Refused(refusal) = self.judge_send(t, length) {
+        if let Verdict::Refused(refusal) = self.judge_send(t, size) {
             return Sent {
                 state: self,
                 answer: SendAnswer::Refused(refusal),
@@ -45,7 +44,7 @@ impl State {
         Sent {
             state: self.with_message(Message::Sending(Sending {
                 nad,
-                length: length as u16,
+                length: size as u16,
                 next: 0,
             })),
             answer: SendAnswer::Sending,
@@ -64,16 +63,16 @@ impl State {
     }
 
     // The verdict on a send.
-    fn judge_send(self, t: &[u16], length: u32) -> Verdict
-        ensures { λ r. ⌜ r ≡ sendVerdict (now (t .entry)) self length ⌝ }
+    fn judge_send(self, t: &[u16], size: u32) -> Verdict
+        ensures { λ r. ⌜ r ≡ sendVerdict (now (t .entry)) self size ⌝ }
     {
         if let Verdict::Refused(refusal) = self.admit(t, buffer_size(t)) {
             return Verdict::Refused(refusal);
         }
-        if length < 1 {
+        if size < 1 {
             return refused(Refusal::MESSAGE_LENGTH);
         }
-        if (State::LONGEST as u32) < length {
+        if (State::LONGEST as u32) < size {
             return refused(Refusal::MESSAGE_LENGTH);
         }
         let message = self.message;

@@ -1,10 +1,9 @@
 // Status in its parts: what a closed transfer does to them, and the word.
-use crate::pending::counted;
 use crate::state::Status;
 ghost use mathlib.Core.Path.{_≡_};
 ghost use Prim.Native.Nat.{_≤_};
 ghost use Rattle.master.specs.Fresh.{noStatus};
-ghost use Rattle.master.specs.Status.{statusAfter, counted as countedOf, statusWord};
+ghost use Rattle.master.specs.Status.{statusAfter, withCounted as countedOf, statusWord};
 ghost use mathlib.Core.Bool.{_||_};
 ghost use Rattle.wire.specs.Bits.{digit};
 

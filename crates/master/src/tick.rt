@@ -19,7 +19,7 @@ ghost use Rattle.master.specs.Fits.{frameThere, isSending};
 ghost use Rattle.master.specs.declared.state.Opened.the-variants.{Request, Nothing};
 ghost use Rattle.master.specs.Transfers.{openIdentifier};
 ghost use Rattle.cluster.specs.declared.Verdict.the-variants.{Accepted};
-ghost use Rattle.master.specs.Tick.{slotOpens, abandoned as abandonedOf, opens, slot as slotOf, tickVerdict, tickOf};
+ghost use Rattle.master.specs.Tick.{slotOpens, abandoned as abandonedOf, opensOrSilent, slot as slotOf, tickVerdict, tickOf};
 
 // What a tick answers; opened tells the protected identifier.
 pub enum TickAnswer {
@@ -110,7 +110,7 @@ impl State {
     // Opens a transfer, or is silent.
     fn open(self, t: &[u16], bytes: &[u8], lent: &[u8], opened: Opened) -> Ticked
         requires { ⌜ RightTable (now t) × (length (now bytes) ≡ bufferSize (now t)) × (frameThere (now t) opened ≡ true) ⌝ }
-        ensures { λ r. ⌜ r ≡ opens (now (t .entry)) (now (bytes .entry)) (now (lent .entry)) self opened ⌝ }
+        ensures { λ r. ⌜ r ≡ opensOrSilent (now (t .entry)) (now (bytes .entry)) (now (lent .entry)) self opened ⌝ }
     {
         if !opened.is_open() {
             return Ticked {

@@ -7,14 +7,14 @@ use native.Mathlib.Omega.{arith}
 use borrow.Author.Tests.{leb-true, ltb-true, eqb-true, eqb-false, not-true, lt-ltb, eq-eqb, ne-eqb}
 use lib.Dec.{leb, ltb, eqb}
 use Rattle.transport.specs.Cutting.{longest}
-use Rattle.transport.specs.Reassembly.{between, nextFrames, messageFits, fits}
-use Rattle.transport.specs.declared.reassembly.Message.{Message}
+use Rattle.transport.specs.Reassembly.{between, nextFrames, assemblyFits, fits}
+use Rattle.transport.specs.declared.reassembly.Assembly.{Assembly}
 use Rattle.transport.specs.declared.reassembly.Reassembly.the-variants.{Open}
 use Rattle.transport.proofs.KindLaws.{between-true}
 use Rattle.transport.proofs.Tests.{and-left, and-right}
 
 -- an open message with a NAD, a length of 7..4095, 5 + 6k bytes below the length, and the counter due then
-pub record FitMessage (m : Message) : Type 0 where
+pub record FitAssembly (m : Assembly) : Type 0 where
   pub k : ℕ
   pub nad-not-0 : m .nad ≡ 0 → ⊥
   pub length-low : 7 ≤ m .length
@@ -23,9 +23,9 @@ pub record FitMessage (m : Message) : Type 0 where
   pub count-below : m .count < m .length
   pub counter-is : m .counter ≡ (1 + k) % 16
 
-module _ (m : Message) where
-  fit-facts : messageFits m ≡ true → FitMessage m
-  unfolding messageFits
+module _ (m : Assembly) where
+  fit-facts : assemblyFits m ≡ true → FitAssembly m
+  unfolding assemblyFits
   fit-facts h =
       let nad = not (eqb (m .nad) 0) in
       let range = between 7 longest (m .length) in
@@ -46,8 +46,8 @@ module _ (m : Message) where
         counter-is = eqb-true (m .counter) _ (and-right (nad && range && count && below) counter h);
       }
 
-  facts-fit : FitMessage m → messageFits m ≡ true
-  unfolding messageFits
+  facts-fit : FitAssembly m → assemblyFits m ≡ true
+  unfolding assemblyFits
   facts-fit f =
       rw (
         ne-eqb (m .nad) 0 (f .nad-not-0),
@@ -58,10 +58,10 @@ module _ (m : Message) where
       )
 
   -- refusal 3 spares an open message exactly when the facts above hold
-  pub fits-exactly : (messageFits m ≡ true) ↔ FitMessage m
+  pub fits-exactly : (assemblyFits m ≡ true) ↔ FitAssembly m
   fits-exactly = (fit-facts, facts-fit)
 
   -- the same of a state with that message open
-  pub open-fits : fits (Open m) ≡ true → FitMessage m
+  pub open-fits : fits (Open m) ≡ true → FitAssembly m
   unfolding fits
   open-fits = fit-facts

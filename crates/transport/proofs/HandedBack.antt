@@ -10,10 +10,10 @@ use lib.ListN.{length}
 use Rattle.transport.specs.Reassembly.{step, fits, Kind, single, first, next, other, frameNad, framePci}
 use Rattle.transport.specs.Reassembly.{kindOf, kindIgnored, kindStep, singleStep, firstStep, nextStep, counterDue, continued, reached, bytesDue}
 use Rattle.transport.specs.Exchange.{Between, after}
-use Rattle.transport.specs.declared.reassembly.Message.{Message}
+use Rattle.transport.specs.declared.reassembly.Assembly.{Assembly}
 use Rattle.transport.specs.declared.reassembly.Reassembly.{Reassembly}
 use Rattle.transport.specs.declared.reassembly.Reassembly.the-variants.{Nothing, Open}
-use Rattle.transport.proofs.FitLaws.{FitMessage, fits-exactly, open-fits}
+use Rattle.transport.proofs.FitLaws.{FitAssembly, fits-exactly, open-fits}
 use Rattle.transport.proofs.FrameBytes.{Bytes}
 use Rattle.transport.proofs.KindLaws.{Pci, pci-of-kind}
 use Rattle.transport.proofs.StepCases.{Room, Accepted, step-cases, listens-known, first-room}
@@ -22,7 +22,7 @@ use Rattle.transport.proofs.Tests.{whether}
 use Rattle.transport.proofs.WrittenLaws.{written-length}
 
 -- once the bytes due are there, a message that is still open fits
-reached-fits : (m : Message) → FitMessage m → fits (reached m (m .count + bytesDue m) .state) ≡ true
+reached-fits : (m : Assembly) → FitAssembly m → fits (reached m (m .count + bytesDue m) .state) ≡ true
 unfolding reached bytesDue fits
 reached-fits m h =
     whether (ltb (m .count + bytesDue m) (m .length))
@@ -70,7 +70,7 @@ handed-fits s f b fit bytes =
     (λ a. fit)
     (λ a. kind-fits (kindOf (framePci f)) s f b a bytes (a .not-ignored) (pci-of-kind (framePci f)))
 
-reached-room : (m : Message) (n : ℕ) (b : List ℕ) → m .length ≤ length b → Room (reached m n .state) b
+reached-room : (m : Assembly) (n : ℕ) (b : List ℕ) → m .length ≤ length b → Room (reached m n .state) b
 unfolding reached
 reached-room m n b h = whether (ltb n (m .length)) (λ t. rw t h) (λ t. rw t tt)
 

@@ -9,7 +9,7 @@ use lib.Seq.{getD-take}
 use Rattle.transport.specs.Cutting.{isLength, messageFrames, messageFrame}
 use Rattle.transport.specs.Reassembly.{Step, fits, listens}
 use Rattle.transport.specs.Exchange.{Between, Foreign, answerTo, answerDue, after, afterAll, afterFrames, afterMixed}
-use Rattle.transport.specs.declared.reassembly.Message.{Message}
+use Rattle.transport.specs.declared.reassembly.Assembly.{Assembly}
 use Rattle.transport.specs.declared.reassembly.Reassembly.the-variants.{Nothing, Open}
 use Rattle.transport.specs.declared.reassembly.Answer.the-variants.{Ignored}
 use Rattle.transport.proofs.Received.{midway}
@@ -22,11 +22,11 @@ abbrev pub AllForeign : ℕ → List (List ℕ) → Type 0
 AllForeign nad fs = (i : ℕ) → i < length fs → Foreign nad (getD fs i [])
 
 -- an open message, and a buffer
-abbrev pub opened : Message → List ℕ → Between
+abbrev pub opened : Assembly → List ℕ → Between
 opened m b = record { state = Open m; buffer = b }
 
 -- from an open message that fits
-module _ (m : Message) (b : List ℕ) (fit : fits (Open m) ≡ true) where
+module _ (m : Assembly) (b : List ℕ) (fit : fits (Open m) ≡ true) where
   foreign-nothing : (f : List ℕ) → Foreign (m .nad) f → after (opened m b) f ≡ opened m b
   unfolding after
   foreign-nothing f h = rw (foreign-ignored m fit f b h, written-none b 0)

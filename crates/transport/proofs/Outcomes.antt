@@ -5,9 +5,9 @@ use mathlib.Core.List.{List}
 use borrow.Author.Tests.{lt-ltb, le-ltb, eq-eqb, ne-eqb}
 use lib.ListN.{length, take, drop}
 use Rattle.refusal.specs.Numbers.{refused, buffer}
-use Rattle.transport.specs.Reassembly.{Step, Leaves, written, plain, framePci, firstLength, kindIgnored, kindStep, single, first, singleStep, firstStep, counterDue, continued, bytesDue, reached}
+use Rattle.transport.specs.Reassembly.{Step, Leaves, written, stepTo, framePci, firstLength, kindIgnored, kindStep, single, first, singleStep, firstStep, counterDue, continued, bytesDue, reached}
 use Rattle.transport.specs.Parts.{kindOutcome, messageOutcome}
-use Rattle.transport.specs.declared.reassembly.Message.{Message}
+use Rattle.transport.specs.declared.reassembly.Assembly.{Assembly}
 use Rattle.transport.specs.declared.reassembly.Reassembly.{Reassembly}
 use Rattle.transport.specs.declared.reassembly.Reassembly.the-variants.{Nothing, Open}
 use Rattle.transport.specs.declared.reassembly.Answer.{Answer}
@@ -15,7 +15,7 @@ use Rattle.transport.specs.declared.reassembly.Answer.the-variants.{Igno
 use Rattle.transport.specs.declared.reassembly.Taken.{Taken}
 
 -- a step that delivers nothing leaves the buffer as it was
-pub leaves-plain : (st : Step) (b : List ℕ) (s : Reassembly) (a : Answer) (r : Taken) → st ≡ plain s a → r ≡ plain s a .taken → Leaves st b r b
+pub leaves-plain : (st : Step) (b : List ℕ) (s : Reassembly) (a : Answer) (r : Taken) → st ≡ stepTo s a → r ≡ stepTo s a .taken → Leaves st b r b
 unfolding written
 leaves-plain st b s a r e h = rw e (record { handed = h; left = refl })
 
@@ -24,7 +24,7 @@ pub leaves-written : (st due : Step) (b after : List ℕ) (r : Taken) → st ≡
 leaves-written st due b after r e h w = rw e (record { handed = h; left = w })
 
 module _ (s : Reassembly) (f b : List ℕ) where
-  pub single-ignored : length b < framePci f → kindOutcome single s f b ≡ plain s Ignored
+  pub single-ignored : length b < framePci f → kindOutcome single s f b ≡ stepTo s Ignored
   unfolding kindOutcome kindIgnored
   single-ignored h = rw (lt-ltb _ _ h)
 
@@ -32,11 +32,11 @@ module _ (s : Reassembly) (f b : List ℕ) where
   unfolding kindOutcome kindIgnored kindStep
   single-taken h = rw (le-ltb _ _ h)
 
-  pub first-low : firstLength f < 7 → kindOutcome first s f b ≡ plain s Ignored
+  pub first-low : firstLength f < 7 → kindOutcome first s f b ≡ stepTo s Ignored
   unfolding kindOutcome kindIgnored
   first-low h = rw (lt-ltb _ _ h)
 
-  pub first-high : 7 ≤ firstLength f → length b < firstLength f → kindOutcome first s f b ≡ plain s Ignored
+  pub first-high : 7 ≤ firstLength f → length b < firstLength f → kindOutcome first s f b ≡ stepTo s Ignored
   unfolding kindOutcome kindIgnored
   first-high l h = rw (le-ltb _ _ l, lt-ltb _ _ h)
 
@@ -44,12 +44,12 @@ module _ (s : Reassembly) (f b : List ℕ) where
   unfolding kindOutcome kindIgnored kindStep
   first-taken l h = rw (le-ltb _ _ l, le-ltb _ _ h)
 
-module _ (m : Message) (f b : List ℕ) where
-  pub next-broken : (framePci f ≡ 32 + m .counter → ⊥) → messageOutcome m f b ≡ plain Nothing Broken
+module _ (m : Assembly) (f b : List ℕ) where
+  pub next-broken : (framePci f ≡ 32 + m .counter → ⊥) → messageOutcome m f b ≡ stepTo Nothing Broken
   unfolding messageOutcome counterDue
   next-broken h = rw (ne-eqb _ _ h)
 
-  pub next-short : framePci f ≡ 32 + m .counter → length b < m .length → messageOutcome m f b ≡ plain (Open m) (Refused (refused buffer))
+  pub next-short : framePci f ≡ 32 + m .counter → length b < m .length → messageOutcome m f b ≡ stepTo (Open m) (Refused (refused buffer))
   unfolding messageOutcome counterDue
   next-short e h = rw (eq-eqb _ _ e, lt-ltb _ _ h)
 

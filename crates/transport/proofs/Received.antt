@@ -10,7 +10,7 @@ use Rattle.transport.specs.Cutting.{dataBytes, singleFrame, firstFrame, 
 use Rattle.transport.specs.Reassembly.{Step, step, fits, listens, single, first, next, kindIgnored, kindStep, singleStep, firstStep, nextStep}
 use Rattle.transport.specs.Reassembly.{counterDue, continued, reached, bytesDue}
 use Rattle.transport.specs.Exchange.{Between, answerTo, after}
-use Rattle.transport.specs.declared.reassembly.Message.{Message}
+use Rattle.transport.specs.declared.reassembly.Assembly.{Assembly}
 use Rattle.transport.specs.declared.reassembly.Reassembly.the-variants.{Nothing, Open}
 use Rattle.transport.specs.declared.reassembly.Answer.{Answer}
 use Rattle.transport.specs.declared.reassembly.Answer.the-variants.{Started, More, Done}
@@ -42,7 +42,7 @@ received x f t c n e m b s q p h k =
     }
 
 -- the open message with next frame i due
-abbrev openAt : ℕ → List ℕ → ℕ → Message
+abbrev openAt : ℕ → List ℕ → ℕ → Assembly
 openAt nad m i = record { nad = nad; length = length m; count = 5 + 6 * i; counter = (1 + i) % 16 }
 
 -- that message is open, and its bytes so far are in the buffer

@@ -8,9 +8,9 @@ use borrow.Author.Tests.{le-ltb, ltb-false, eq-eqb, ne-eqb, eqb-true, eqb-false,
 use lib.Dec.{ltb, eqb}
 use lib.ListN.{length}
 use Rattle.refusal.specs.Numbers.{refused, buffer, state, frame}
-use Rattle.transport.specs.Reassembly.{Step, plain, step, tooShort, fits, listens, ignored, Kind, kindOf, kindIgnored, kindStep}
+use Rattle.transport.specs.Reassembly.{Step, stepTo, step, tooShort, fits, listens, ignored, Kind, kindOf, kindIgnored, kindStep}
 use Rattle.transport.specs.Reassembly.{first, frameNad, framePci, firstLength, wouldBeTaken, counterDue}
-use Rattle.transport.specs.declared.reassembly.Message.{Message}
+use Rattle.transport.specs.declared.reassembly.Assembly.{Assembly}
 use Rattle.transport.specs.declared.reassembly.Reassembly.{Reassembly}
 use Rattle.transport.specs.declared.reassembly.Reassembly.the-variants.{Nothing, Open}
 use Rattle.transport.specs.declared.reassembly.Answer.{Answer}
@@ -24,7 +24,7 @@ listens-known Nothing nad h = eqb-false nad 0 (not-true (eqb nad 0) h)
 listens-known (Open m) nad h = eqb-false nad 0 (not-true (eqb nad 0) (and-left (not (eqb nad 0)) (eqb nad (m .nad)) h))
 
 -- with a message open, a NAD that is listened to is the message's
-pub listens-same : (m : Message) (nad : ℕ) → listens (Open m) nad ≡ true → nad ≡ m .nad
+pub listens-same : (m : Assembly) (nad : ℕ) → listens (Open m) nad ≡ true → nad ≡ m .nad
 unfolding listens
 listens-same m nad h = eqb-true nad (m .nad) (and-right (not (eqb nad 0)) (eqb nad (m .nad)) h)
 
@@ -42,7 +42,7 @@ never-too-short Nothing f b h = refl
 never-too-short (Open m) f b h = simp (le-ltb (length b) (m .length) h, and-false)
 
 -- nor is any buffer for a frame with another PCI than that of the next frame due
-pub other-pci-not-too-short : (m : Message) (f b : List ℕ) → (framePci f ≡ 32 + m .counter → ⊥) → tooShort (Open m) f b ≡ false
+pub other-pci-not-too-short : (m : Assembly) (f b : List ℕ) → (framePci f ≡ 32 + m .counter → ⊥) → tooShort (Open m) f b ≡ false
 unfolding tooShort wouldBeTaken counterDue
 other-pci-not-too-short m f b h = simp (ne-eqb (framePci f) (32 + m .counter) h, and-false)
 
@@ -79,7 +79,7 @@ module _ (s : Reassembly) (f b : List ℕ) where
       )
 
   -- what holds of every step that does nothing, and of every accepted frame's, holds of every step
-  pub step-cases : (P : Step → Type 0) → ((a : Answer) → P (plain s a)) → (Accepted → P (kindStep (kindOf (framePci f)) s f)) → P (step s f b)
+  pub step-cases : (P : Step → Type 0) → ((a : Answer) → P (stepTo s a)) → (Accepted → P (kindStep (kindOf (framePci f)) s f)) → P (step s f b)
   unfolding step ignored
   step-cases P nothing accepted =
       whether (tooShort s f b) (λ t. rw t (nothing (Refused (refused buffer))))
@@ -94,7 +94,7 @@ module _ (s : Reassembly) (f b : List ℕ) where
       (λ t. rw (t₁, t) (nothing (Refused (refused state)))))
 
 -- an accepted next frame with the counter due meets a buffer that holds its message
-pub accepted-room : (m : Message) (f b : List ℕ) → Accepted (Open m) f b → counterDue m f ≡ true → m .length ≤ length b
+pub accepted-room : (m : Assembly) (f b : List ℕ) → Accepted (Open m) f b → counterDue m f ≡ true → m .length ≤ length b
 unfolding tooShort wouldBeTaken fits
 accepted-room m f b a due =
     ltb-false (length b) (m .length)

@@ -8,11 +8,11 @@ use borrow.Author.Tests.{ltb-false, eq-eqb, ne-eqb}
 use lib.Dec.{ltb}
 use lib.ListN.{length, length-take}
 use Rattle.refusal.specs.declared.Refusal.{Refusal}
-use Rattle.transport.specs.Reassembly.{plain, step, tooShort, fits, listens, ignored, Kind, single, first, next, other}
+use Rattle.transport.specs.Reassembly.{stepTo, step, tooShort, fits, listens, ignored, Kind, single, first, next, other}
 use Rattle.transport.specs.Reassembly.{frameNad, framePci, kindOf, kindIgnored, kindStep, singleStep, firstStep, nextStep}
 use Rattle.transport.specs.Reassembly.{wouldBeTaken, counterDue, continued, reached, bytesDue}
 use Rattle.transport.specs.Exchange.{Foreign}
-use Rattle.transport.specs.declared.reassembly.Message.{Message}
+use Rattle.transport.specs.declared.reassembly.Assembly.{Assembly}
 use Rattle.transport.specs.declared.reassembly.Reassembly.{Reassembly}
 use Rattle.transport.specs.declared.reassembly.Reassembly.the-variants.{Nothing, Open}
 use Rattle.transport.specs.declared.reassembly.Answer.{Answer}
@@ -23,28 +23,28 @@ use Rattle.transport.proofs.StepCases.{other-pci-not-too-short, early-n
 use Rattle.transport.proofs.Tests.{whether}
 
 -- a frame of the open NAD is not ignored for its NAD
-heard-open : (m : Message) (f : List ℕ) → fits (Open m) ≡ true → frameNad f ≡ m .nad → listens (Open m) (frameNad f) ≡ true
+heard-open : (m : Assembly) (f : List ℕ) → fits (Open m) ≡ true → frameNad f ≡ m .nad → listens (Open m) (frameNad f) ≡ true
 unfolding listens
 heard-open m f fit same = rw (same, ne-eqb (m .nad) 0 (open-fits m fit .nad-not-0), eq-eqb (m .nad) (m .nad) refl)
 
-module _ (m : Message) (fit : fits (Open m) ≡ true) (f b : List ℕ) where
+module _ (m : Assembly) (fit : fits (Open m) ≡ true) (f b : List ℕ) where
   -- a next frame of the open NAD with a wrong counter answers broken, closes the message and writes no byte
   pub wrong-counter : length f ≡ 8 → frameNad f ≡ m .nad → kindOf (framePci f) ≡ next → (framePci f ≡ 32 + m .counter → ⊥)
-      → step (Open m) f b ≡ plain Nothing Broken
+      → step (Open m) f b ≡ stepTo Nothing Broken
   unfolding kindIgnored kindStep nextStep counterDue
   wrong-counter eight same kind wrong =
       step-by-kind (Open m) f b next (other-pci-not-too-short m f b wrong) fit eight (heard-open m f fit same) kind refl
       ∙ rw (ne-eqb (framePci f) (32 + m .counter) wrong)
 
   -- a frame for another node is ignored
-  pub foreign-ignored : Foreign (m .nad) f → step (Open m) f b ≡ plain (Open m) Ignored
+  pub foreign-ignored : Foreign (m .nad) f → step (Open m) f b ≡ stepTo (Open m) Ignored
   unfolding step tooShort wouldBeTaken ignored listens
   foreign-ignored foreign =
       simp (eq-eqb (length f) 8 (foreign .eight), ne-eqb (frameNad f) (m .nad) (foreign .elsewhere), fit, and-false)
 
 -- "A single or first frame of the open NAD drops the open message and begins anew, unless ignored": it does what it does with
 -- nothing open
-module _ (m : Message) (fit : fits (Open m) ≡ true) (f b : List ℕ) (eight : length f ≡ 8) (same : frameNad f ≡ m .nad) where
+module _ (m : Assembly) (fit : fits (Open m) ≡ true) (f b : List ℕ) (eight : length f ≡ 8) (same : frameNad f ≡ m .nad) where
   heard-anew : listens Nothing (frameNad f) ≡ true
   unfolding listens
   heard-anew = rw (same, ne-eqb (m .nad) 0 (open-fits m fit .nad-not-0))
@@ -77,7 +77,7 @@ notTaken Broken = false
 notTaken (Refused r) = true
 
 -- a next frame of an open message is taken, or breaks it
-next-taken : (m : Message) (f : List ℕ) → notTaken (nextStep (Open m) f .taken .answer) ≡ false
+next-taken : (m : Assembly) (f : List ℕ) → notTaken (nextStep (Open m) f .taken .answer) ≡ false
 unfolding nextStep continued reached
 next-taken m f =
     whether (counterDue m f)
@@ -86,7 +86,7 @@ next-taken m f =
 
 -- by kind: a frame that is not taken changes nothing
 kind-nothing : (k : Kind) (s : Reassembly) (f : List ℕ)
-    → notTaken (kindStep k s f .taken .answer) ≡ true → kindStep k s f ≡ plain s (kindStep k s f .taken .answer)
+    → notTaken (kindStep k s f .taken .answer) ≡ true → kindStep k s f ≡ stepTo s (kindStep k s f .taken .answer)
 unfolding kindStep singleStep firstStep nextStep
 kind-nothing single s f h = cc
 kind-nothing first s f h = cc
@@ -95,19 +95,19 @@ kind-nothing next (Open m) f h = cc (next-taken m f)
 kind-nothing other s f h = refl
 
 module _ (s : Reassembly) (f b : List ℕ) where
-  nothing : notTaken (step s f b .taken .answer) ≡ true → step s f b ≡ plain s (step s f b .taken .answer)
+  nothing : notTaken (step s f b .taken .answer) ≡ true → step s f b ≡ stepTo s (step s f b .taken .answer)
   nothing =
-      step-cases s f b (λ st. notTaken (st .taken .answer) ≡ true → st ≡ plain s (st .taken .answer))
+      step-cases s f b (λ st. notTaken (st .taken .answer) ≡ true → st ≡ stepTo s (st .taken .answer))
       (λ a h. refl)
       (λ a. kind-nothing (kindOf (framePci f)) s f)
 
   -- a refused frame changes nothing: the state is handed back and no byte is written
-  pub refused-nothing : (r : Refusal) → step s f b .taken .answer ≡ Refused r → step s f b ≡ plain s (Refused r)
-  refused-nothing r h = nothing (rw h) ∙ ap (plain s) h
+  pub refused-nothing : (r : Refusal) → step s f b .taken .answer ≡ Refused r → step s f b ≡ stepTo s (Refused r)
+  refused-nothing r h = nothing (rw h) ∙ ap (stepTo s) h
 
   -- an ignored frame changes nothing
-  pub ignored-nothing : step s f b .taken .answer ≡ Ignored → step s f b ≡ plain s Ignored
-  ignored-nothing h = nothing (rw h) ∙ ap (plain s) h
+  pub ignored-nothing : step s f b .taken .answer ≡ Ignored → step s f b ≡ stepTo s Ignored
+  ignored-nothing h = nothing (rw h) ∙ ap (stepTo s) h
 
 -- ---- where the bytes go
 

@@ -8,9 +8,9 @@ use borrow.Author.Tests.{eq-eqb, ne-eqb, eqb-true}
 use lib.Dec.{ltb, eqb}
 use lib.ListN.{length}
 use Rattle.refusal.specs.Numbers.{refused, state, frame}
-use Rattle.transport.specs.Reassembly.{Kind, single, first, next, other, plain, framePci, frameNad, kindOf, step, fits, messageFits, listens, counterDue, wouldBeTaken, tooShort, kindIgnored, ignored, kindStep, nextStep}
+use Rattle.transport.specs.Reassembly.{Kind, single, first, next, other, stepTo, framePci, frameNad, kindOf, step, fits, assemblyFits, listens, counterDue, wouldBeTaken, tooShort, kindIgnored, ignored, kindStep, nextStep}
 use Rattle.transport.specs.Parts.{kindOutcome, messageOutcome, nextOutcome}
-use Rattle.transport.specs.declared.reassembly.Message.{Message}
+use Rattle.transport.specs.declared.reassembly.Assembly.{Assembly}
 use Rattle.transport.specs.declared.reassembly.Reassembly.{Reassembly}
 use Rattle.transport.specs.declared.reassembly.Reassembly.the-variants.{Nothing, Open}
 use Rattle.transport.specs.declared.reassembly.Answer.the-variants.{Ignored, Refused}
@@ -64,17 +64,17 @@ not-short-kind (Open m) f b e h =
     omega arith)
 
 module _ (s : Reassembly) (f b : List ℕ) where
-  pub step-unfit : fits s ≡ false → step s f b ≡ plain s (Refused (refused state))
+  pub step-unfit : fits s ≡ false → step s f b ≡ stepTo s (Refused (refused state))
   unfolding step
   step-unfit h = rw (not-short-unfit s f b h, h)
 
   module _ (fit : fits s ≡ true) where
-    pub step-length : (length f ≡ 8 → ⊥) → step s f b ≡ plain s (Refused (refused frame))
+    pub step-length : (length f ≡ 8 → ⊥) → step s f b ≡ stepTo s (Refused (refused frame))
     unfolding step
     step-length h = rw (not-short-length s f b h, fit, ne-eqb (length f) 8 h)
 
     module _ (eight : length f ≡ 8) where
-      pub step-nad : listens s (frameNad f) ≡ false → step s f b ≡ plain s Ignored
+      pub step-nad : listens s (frameNad f) ≡ false → step s f b ≡ stepTo s Ignored
       unfolding step ignored
       step-nad h = rw (not-short-nad s f b fit h, fit, eq-eqb (length f) 8 eight, h)
 
@@ -84,7 +84,7 @@ module _ (s : Reassembly) (f b : List ℕ) where
         step-kind k e n = rw (not-short-kind s f b fit (rw e n), fit, eq-eqb (length f) 8 eight, heard, e)
 
 -- a next frame of the open NAD, in a state that fits
-next-open : (m : Message) (f b : List ℕ) → messageFits m ≡ true → length f ≡ 8 → listens (Open m) (frameNad f) ≡ true → kindOf (framePci f) ≡ next
+next-open : (m : Assembly) (f b : List ℕ) → assemblyFits m ≡ true → length f ≡ 8 → listens (Open m) (frameNad f) ≡ true → kindOf (framePci f) ≡ next
     → step (Open m) f b ≡ messageOutcome m f b
 unfolding step fits tooShort wouldBeTaken ignored kindIgnored kindStep nextStep messageOutcome
 next-open m f b e l h k =
@@ -104,6 +104,6 @@ step-next (Open m) f b e l h k = next-open m f b e l h k
 
 -- a frame that is none of the three kinds
 pub step-other : (s : Reassembly) (f b : List ℕ) → fits s ≡ true → length f ≡ 8 → listens s (frameNad f) ≡ true → kindOf (framePci f) ≡ other
-    → step s f b ≡ plain s Ignored
+    → step s f b ≡ stepTo s Ignored
 unfolding kindOutcome kindIgnored
 step-other s f b e l h k = step-kind s f b e l h other k refl

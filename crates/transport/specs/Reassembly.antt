@@ -8,7 +8,7 @@ use lib.ListN.{length, getD, take, drop}
 use Rattle.refusal.specs.Numbers.{buffer, state, frame}
 use Rattle.transport.specs.Answers.{takeRefused}
 use Rattle.transport.specs.Cutting.{longest}
-use Rattle.transport.specs.declared.reassembly.Message.{Message}
+use Rattle.transport.specs.declared.reassembly.Assembly.{Assembly}
 use Rattle.transport.specs.declared.reassembly.Reassembly.{Reassembly}
 use Rattle.transport.specs.declared.reassembly.Reassembly.the-variants.{Nothing, Open}
 use Rattle.transport.specs.declared.reassembly.Answer.{Answer}
@@ -26,8 +26,8 @@ unfoldable pub written : List ℕ → ℕ → List ℕ → List ℕ
 written b at ds = take at b ++ (ds ++ drop (at + length ds) b)
 
 -- a step that delivers no byte and changes no buffer
-abbrev pub plain : Reassembly → Answer → Step
-plain s a = record { taken = record { state = s; answer = a }; place = 0; bytes = [] }
+abbrev pub stepTo : Reassembly → Answer → Step
+stepTo s a = record { taken = record { state = s; answer = a }; place = 0; bytes = [] }
 
 -- the NAD of a frame
 abbrev pub frameNad : List ℕ → ℕ
@@ -62,8 +62,8 @@ nextFrames count = (count - 5) / 6
 
 -- refusal 3: "an open reassembly with NAD 0, length not 7..4095, a count of bytes not 5 + 6k below the length, or a counter that
 -- isn't the one due then"
-unfoldable pub messageFits : Message → Bool
-messageFits m =
+unfoldable pub assemblyFits : Assembly → Bool
+assemblyFits m =
     not (eqb (m .nad) 0)
     && between 7 longest (m .length)
     && eqb (m .count) (5 + 6 * nextFrames (m .count))
@@ -73,12 +73,12 @@ messageFits m =
 -- a state that is not refused with 3
 unfoldable pub fits : Reassembly → Bool
 fits Nothing = true
-fits (Open m) = messageFits m
+fits (Open m) = assemblyFits m
 
 -- a message is open
-abbrev pub isOpen : Reassembly → Bool
-isOpen Nothing = false
-isOpen (Open m) = true
+abbrev pub isAssembling : Reassembly → Bool
+isAssembling Nothing = false
+isAssembling (Open m) = true
 
 -- a NAD that is not ignored; ignored are "NAD 0; .. another NAD than the open one"
 unfoldable pub listens : Reassembly → ℕ → Bool
@@ -86,24 +86,24 @@ listens Nothing nad = not (eqb nad 0)
 listens (Open m) nad = not (eqb nad 0) && eqb nad (m .nad)
 
 -- the next frame brings the counter due
-unfoldable pub counterDue : Message → List ℕ → Bool
+unfoldable pub counterDue : Assembly → List ℕ → Bool
 counterDue m f = eqb (framePci f) (32 + m .counter)
 
 -- "a next frame that would be taken": eight bytes, of the open NAD and with the counter due
-unfoldable pub wouldBeTaken : Message → List ℕ → Bool
+unfoldable pub wouldBeTaken : Assembly → List ℕ → Bool
 wouldBeTaken m f = eqb (length f) 8 && eqb (frameNad f) (m .nad) && counterDue m f
 
 -- refusal 2: "a next frame that would be taken, in a state 3 doesn't refuse, meets a buffer shorter than its open message"
 unfoldable pub tooShort : Reassembly → List ℕ → List ℕ → Bool
 tooShort Nothing f b = false
-tooShort (Open m) f b = messageFits m && wouldBeTaken m f && ltb (length b) (m .length)
+tooShort (Open m) f b = assemblyFits m && wouldBeTaken m f && ltb (length b) (m .length)
 
 -- what is ignored by its kind: "PCI 0, 7..15 or 48 and above; a first length below 7 or above the buffer; a single length above
 -- the buffer; a next frame with none open"
 unfoldable pub kindIgnored : Kind → Reassembly → List ℕ → List ℕ → Bool
 kindIgnored single s f b = ltb (length b) (framePci f)
 kindIgnored first s f b = ltb (firstLength f) 7 || ltb (length b) (firstLength f)
-kindIgnored next s f b = not (isOpen s)
+kindIgnored next s f b = not (isAssembling s)
 kindIgnored other s f b = true
 
 -- "Ignored": for its NAD, or by its kind
@@ -132,7 +132,7 @@ firstStep f =
     }
 
 -- the state and the answer once n bytes of an open message are there
-unfoldable pub reached : Message → ℕ → Taken
+unfoldable pub reached : Assembly → ℕ → Taken
 reached m n =
     cond (ltb n (m .length))
     (record {
@@ -142,11 +142,11 @@ reached m n =
     (record { state = Nothing; answer = Done (m .length) })
 
 -- the bytes that a next frame brings: six, or the rest where fewer are left
-unfoldable pub bytesDue : Message → ℕ
+unfoldable pub bytesDue : Assembly → ℕ
 bytesDue m = min 6 (m .length - m .count)
 
 -- a next frame with the counter due
-unfoldable pub continued : Message → List ℕ → Step
+unfoldable pub continued : Assembly → List ℕ → Step
 continued m f =
     record {
       taken = reached m (m .count + bytesDue m);
@@ -156,23 +156,23 @@ continued m f =
 
 -- a next frame of the open NAD: "A wrong counter answers broken and closes."
 unfoldable pub nextStep : Reassembly → List ℕ → Step
-nextStep Nothing f = plain Nothing Ignored
-nextStep (Open m) f = cond (counterDue m f) (continued m f) (plain Nothing Broken)
+nextStep Nothing f = stepTo Nothing Ignored
+nextStep (Open m) f = cond (counterDue m f) (continued m f) (stepTo Nothing Broken)
 
 -- a frame that is neither refused nor ignored, by its kind
 unfoldable pub kindStep : Kind → Reassembly → List ℕ → Step
 kindStep single s f = singleStep f
 kindStep first s f = firstStep f
 kindStep next s f = nextStep s f
-kindStep other s f = plain s Ignored
+kindStep other s f = stepTo s Ignored
 
 -- what a frame does: refusals 2, 3 and 11, "the lowest number is given"; ignored; or by its kind
 unfoldable pub step : Reassembly → List ℕ → List ℕ → Step
 step s f b =
-    cond (tooShort s f b) (plain s (takeRefused buffer))
-    (cond (not (fits s)) (plain s (takeRefused state))
-    (cond (not (eqb (length f) 8)) (plain s (takeRefused frame))
-    (cond (ignored s f b) (plain s Ignored)
+    cond (tooShort s f b) (stepTo s (takeRefused buffer))
+    (cond (not (fits s)) (stepTo s (takeRefused state))
+    (cond (not (eqb (length f) 8)) (stepTo s (takeRefused frame))
+    (cond (ignored s f b) (stepTo s Ignored)
     (kindStep (kindOf (framePci f)) s f))))
 
 -- what a step leaves: the answer with the state handed back, and the buffer ("Only the bytes delivered by a frame are written,

@@ -1,5 +1,5 @@
 // Cutting a message into frames: NAD, PCI, then data; unused bytes are 255.
-use crate::reassembly::Message;
+use crate::reassembly::Assembly;
 use refusal::Refusal;
 ghost use mathlib.Core.Path.{_≡_};
 ghost use mathlib.Core.List.{_∷_};
@@ -31,7 +31,7 @@ pub struct Cut {
 pub fn count(length: usize) -> Counted
     ensures { λ r. ⌜ r ≡ countOf length ⌝ }
 {
-    if 1 <= length && length <= Message::LONGEST as usize {
+    if 1 <= length && length <= Assembly::LONGEST as usize {
         Counted::Frames(frames(length))
     } else {
         Counted::Refused(Refusal::of(Refusal::MESSAGE_LENGTH))

@@ -6,11 +6,11 @@ ghost use Prim.Native.Nat.{_+_, _%_, _≤_};
 ghost use lib.ListN.{length, take, drop};
 ghost use Rattle.transport.specs.Parts.{kindOutcome, nextOutcome, messageOutcome};
 ghost use Rattle.transport.specs.Answers.{takeRefused};
-ghost use Rattle.transport.specs.Reassembly.{Leaves, written, plain, step, fits, messageFits, listens};
+ghost use Rattle.transport.specs.Reassembly.{Leaves, written, stepTo, step, fits, assemblyFits, listens};
 ghost use Rattle.transport.specs.Reassembly.{frameNad, framePci, bytesDue, reached, single, first};
 
 // An open message: its NAD, its length, the bytes that are there, and the counter due.
-pub struct Message {
+pub struct Assembly {
     pub nad: u8,
     pub length: u16,
     pub count: u16,
@@ -20,7 +20,7 @@ pub struct Message {
 // The state from frame to frame.
 pub enum Reassembly {
     Nothing,
-    Open(Message),
+    Open(Assembly),
 }
 
 // What is answered for a frame; done tells the length.
@@ -39,13 +39,13 @@ pub struct Taken {
     pub answer: Answer,
 }
 
-impl Message {
+impl Assembly {
     // The length of the longest message.
     pub const LONGEST: u16 = 4095;
 
     // A message that a reassembly can have open, with the counter due.
     fn fits(self) -> bool
-        ensures { λ r. ⌜ r ≡ messageFits self ⌝ }
+        ensures { λ r. ⌜ r ≡ assemblyFits self ⌝ }
     {
         if self.nad == 0 {
             return false;
@@ -53,7 +53,7 @@ impl Message {
         if self.length < 7 {
             return false;
         }
-        if Message::LONGEST < self.length {
+        if Assembly::LONGEST < self.length {
             return false;
         }
         if self.count % 6 != 5 {
@@ -67,7 +67,7 @@ impl Message {
 
     // Takes a next frame of the message's NAD.
     fn next(self, frame: &[u8], buffer: &mut [u8]) -> Taken
-        requires { ⌜ (messageFits self ≡ true) × (length (now frame) ≡ 8) ⌝ }
+        requires { ⌜ (assemblyFits self ≡ true) × (length (now frame) ≡ 8) ⌝ }
         ensures { λ r. ⌜ Leaves (messageOutcome self (now (frame .entry)) (now (buffer .entry))) (now (buffer .entry)) r (now (buffer .exit)) ⌝ }
     {
         if frame[1] != 32 + self.counter {
@@ -98,7 +98,7 @@ impl Message {
     {
         if n < self.length {
             Taken {
-                state: Reassembly::Open(Message {
+                state: Reassembly::Open(Assembly {
                     nad: self.nad,
                     length: self.length,
                     count: n,
@@ -168,7 +168,7 @@ impl Reassembly {
 
     // This state beside an answer.
     fn answering(self, answer: Answer) -> Taken
-        ensures { λ r. ⌜ r ≡ plain self answer .taken ⌝ }
+        ensures { λ r. ⌜ r ≡ stepTo self answer .taken ⌝ }
     {
         Taken {
             state: self,
@@ -178,7 +178,7 @@ impl Reassembly {
 
     // This state beside a refusal.
     fn refused(self, number: u8) -> Taken
-        ensures { λ r. ⌜ r ≡ plain self (takeRefused number) .taken ⌝ }
+        ensures { λ r. ⌜ r ≡ stepTo self (takeRefused number) .taken ⌝ }
     {
         self.answering(Answer::Refused(Refusal::of(number)))
     }
@@ -210,7 +210,7 @@ impl Reassembly {
         }
         deliver(frame, 3, 5, buffer, 0);
         Taken {
-            state: Reassembly::Open(Message {
+            state: Reassembly::Open(Assembly {
                 nad: frame[0],
                 length,
                 count: 5,

@@ -13,7 +13,7 @@ use Rattle.master.specs.declared.state.State.{State}
 use Rattle.master.specs.declared.byte.ByteAnswer.{ByteAnswer}
 use Rattle.master.specs.Fresh.{noTransfer}
 use Rattle.master.specs.Transfers.{formatOf, isOpen, openProtected}
-use Rattle.master.specs.Status.{counted, statusAfter}
+use Rattle.master.specs.Status.{withCounted, statusAfter}
 use Rattle.master.specs.Message.{messageFailed}
 use Rattle.master.specs.Closing.{failed}
 use Rattle.master.specs.Tick.{abandoned}
@@ -44,7 +44,7 @@ module _ (t : List ℕ) (h : Seq Scheduled) (x : Held) (is : Agrees t h x) (y : 
 
   -- it counts: the byte is one of the response
   pub end-status : isOpen (x .state .transfer .opened) ≡ true
-      → counted (x .state .status) (isSuccess c) (openProtected t (x .state .transfer .opened)) ≡ statusOver (countedAfter t (h ▹ y))
+      → withCounted (x .state .status) (isSuccess c) (openProtected t (x .state .transfer .opened)) ≡ statusOver (countedAfter t (h ▹ y))
   unfolding countedAfter gotBy succeeds
   end-status o =
       let p : isTransfer (openAfter t h) ≡ true = rw (is .transfer .opened-is, is-transfer (openAfter t h)) at o in

@@ -36,7 +36,7 @@ use Rattle.master.specs.Tick as tick
 use Rattle.master.specs.Status as status
 use Rattle.master.specs.Message.{messageSent}
 use Rattle.master.specs.Closing.{clearedBit, pendingSent, sent, received}
-use Rattle.master.specs.Byte.{passed, early, sentByte, taken, byteVerdict, byteOf}
+use Rattle.master.specs.Byte.{passed, early, sentByte, byteEffect, byteVerdict, byteOf}
 use Rattle.master.specs.Seq.{Seq, ∅, _▹_, _⋈_}
 use Rattle.master.specs.Calls.{Call, select, write, tick, byteIn}
 use Rattle.master.specs.Run.{answerOf, leftBy, heldAfter, historyOf}
@@ -86,7 +86,7 @@ unfolding freshOf freshVerdict bufferSize judged faults surplus wordsRight recor
 accepted = refl
 
 record-is : recordOf table buffer calls ≡ writing ⋈ sending
-unfolding scheduled schedule slotBegun slotAfter planAfter planBy planWith slotDue slotOf historyOf heldAfter leftBy answerOf freshOf freshVerdict fresh bufferSize admitted judged faults surplus wordsRight records headerRight frameRight identifierRight lengthRight flagsRight anyBelow signalRight signalFrameRight signalKindRight offsetRight widthRight signalWidthRight startLimit startRight takenBefore overlaps memberRight memberFrameRight countsUp entryRight entryKindRight targetRight delayRight word frameCount signalCount memberCount entryCount size identifier frameLength flags published classic signalFrame signalKind signalOffset signalWidth signalStart isArray memberList memberFrame entrySchedule entryKind entryTarget entryDelay counted listCount scheduleCount firstFrom membersFrom members firstEntry nextEntry signalPlace putStart filled freshBytes touches signalPublished valueFits withScalar bitAt number bytesOf inside replaced putBits putScalar bit p0 p1 xor protectedByte withCarry sum covered modelOf inverted checksumByte stateFits entryThere scheduleThere frameThere currentDelay waitFits bitFits pendingFits isOneOf entryOpens canOpen countFits messageFits lentFits isOpen openProtected openChecksum frameData sentData copied opening asking waits entryDue begun selectVerdict selectOf writable markedFrom touchesOpen rewritten marked writeOf tick.firstPending tick.slotOpens tick.abandoned tick.opens tick.slotAt tick.slot tick.ticked tick.tickVerdict tick.tickOf status.counted status.statusAfter messageSent clearedBit pendingSent sent received passed early sentByte taken byteVerdict byteOf formatOf
+unfolding scheduled schedule slotBegun slotAfter planAfter planBy planWith slotDue slotOf historyOf heldAfter leftBy answerOf freshOf freshVerdict fresh bufferSize admitted judged faults surplus wordsRight records headerRight frameRight identifierRight lengthRight flagsRight anyBelow signalRight signalFrameRight signalKindRight offsetRight widthRight signalWidthRight startLimit startRight takenBefore overlaps memberRight memberFrameRight countsUp entryRight entryKindRight targetRight delayRight word frameCount signalCount memberCount entryCount size identifier frameLength flags published classic signalFrame signalKind signalOffset signalWidth signalStart isArray memberList memberFrame entrySchedule entryKind entryTarget entryDelay counted listCount scheduleCount firstFrom membersFrom members firstEntry nextEntry signalPlace putStart filled freshBytes touches signalPublished valueFits withScalar bitAt number bytesOf inside replaced putBits putScalar bit p0 p1 xor protectedByte withCarry sum covered modelOf inverted checksumByte stateFits entryThere scheduleThere frameThere currentDelay waitFits bitFits pendingFits isOneOf entryOpens canOpen countFits messageFits lentFits isOpen openProtected openChecksum frameData sentData copied opening asking waits entryDue begun selectVerdict selectOf writable markedFrom touchesOpen rewritten marked writeOf tick.firstPending tick.slotOpens tick.abandoned tick.opensOrSilent tick.slotAt tick.slot tick.tickEffect tick.tickVerdict tick.tickOf status.withCounted status.statusAfter messageSent clearedBit pendingSent sent received passed early sentByte byteEffect byteVerdict byteOf formatOf
 record-is = refl
 
 -- frame 1 is sent by the second success of its list

@@ -2,7 +2,7 @@
 use mathlib.Core.Path.{_≡_, refl}
 use mathlib.Core.Bool.{Bool, true, false, not, _||_}
 use Rattle.master.specs.declared.state.Status.{Status}
-use Rattle.master.specs.Status.{counted, statusWord}
+use Rattle.master.specs.Status.{withCounted, statusWord}
 use Rattle.master.specs.Seq.{Seq, ∅, _▹_}
 use Rattle.master.specs.Answering.{Closed, anyClosed, twoClosed, lastClosed, wordOver}
 use Rattle.master.proofs.Tests.{or-true}
@@ -29,6 +29,6 @@ overrun-over (∅ ▹ b) c = rw (some-closed false false (b .success))
 overrun-over (cs ▹ a ▹ b) c = refl
 
 -- one more transfer is counted
-pub status-counted : (cs : Seq Closed) (c : Closed) → statusOver (cs ▹ c) ≡ counted (statusOver cs) (c .success) (c .protected)
-unfolding statusOver counted anyClosed lastClosed
+pub status-counted : (cs : Seq Closed) (c : Closed) → statusOver (cs ▹ c) ≡ withCounted (statusOver cs) (c .success) (c .protected)
+unfolding statusOver withCounted anyClosed lastClosed
 status-counted cs c = rw (overrun-over cs c)

@@ -29,12 +29,12 @@ use Rattle.master.specs.declared.send.Sent.{Sent}
 use Rattle.master.specs.Admit.{unless, bufferSize, admitted, Step}
 use Rattle.master.specs.Fits.{lentFits}
 use Rattle.master.specs.Transfers.{isOpen}
-use Rattle.master.specs.Read.{readVerdict, readOf, readArrayOf}
+use Rattle.master.specs.Read.{readVerdict, readScalarOf, readArrayOf}
 use Rattle.master.specs.Select.{selectVerdict, selectOf}
 use Rattle.master.specs.Status.{statusWord, statusOf}
 use Rattle.master.specs.Message.{sendVerdict, sendOf, messageOf}
 use Rattle.master.specs.Tick.{tickVerdict, tickOf}
-use Rattle.master.specs.Byte.{byteVerdict, byteOf, taken}
+use Rattle.master.specs.Byte.{byteVerdict, byteOf, byteEffect}
 use Rattle.master.specs.Seq.{Seq}
 use Rattle.master.specs.Calls as call
 use Rattle.master.specs.Calls.{Call, Answer, _⇒_}
@@ -115,9 +115,9 @@ module _ (t : List ℕ) (ok : RightTable t) (h : Seq Scheduled) (x : Held) (is :
   read-inner r kind = sym (read-verdict t r kind) ∙ rw lent-admitted
 
   step-read : (r : ℕ) → Stepped t h (call.read r) (answerOf t x (call.read r)) (leftBy t x (call.read r))
-  unfolding answerOf leftBy readOf readReply
+  unfolding answerOf leftBy readScalarOf readReply
   step-read r =
-      step-nothing (call.read r) (readOf t s (x .bytes) r) refl
+      step-nothing (call.read r) (readScalarOf t s (x .bytes) r) refl
       (reply-is (readNumber t r false) (λ q. read.Refused q) (read.Value (scalarValue t (x .bytes) r)) (readVerdict t (length (x .bytes)) s r false) (read-inner r false)
       ∙ rw (is .frames .bytes-are))
 
@@ -210,7 +210,7 @@ module _ (t : List ℕ) (ok : RightTable t) (h : Seq Scheduled) (x : Held) (is :
       let i : q ≡ number.refused number.noTransfer = cc in
       rw (← is .transfer .opened-is, not-open (s .transfer .opened) l, i))))
       (λ a. byte-goes t ok h x is b (unless-test o number.noTransfer verdict.Accepted (sym inner ∙ a))
-      (fits-all t (taken t s (x .bytes) b .given .state) (taken-fits t s (fits-clauses t s (is .fits)) (x .bytes) b)))
+      (fits-all t (byteEffect t s (x .bytes) b .given .state) (taken-fits t s (fits-clauses t s (is .fits)) (x .bytes) b)))
 
   -- every call
   pub steps : (c : Call) → Stepped t h c (answerOf t x c) (leftBy t x c)

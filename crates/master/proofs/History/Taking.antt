@@ -26,7 +26,7 @@ use Rattle.master.specs.Transfers.{formatOf, isOpen, openLength, openChe
 use Rattle.master.specs.Status.{statusAfter}
 use Rattle.master.specs.Message.{messageSent}
 use Rattle.master.specs.Closing.{failed, pendingSent, sent, received}
-use Rattle.master.specs.Byte.{passed, early, withByte, sentByte, checksumRight, accepted, lastByte, receivedByte, taken}
+use Rattle.master.specs.Byte.{passed, early, withByte, sentByte, checksumRight, accepted, lastByte, receivedByte, byteEffect}
 use Rattle.master.specs.Seq.{Seq, _▹_}
 use Rattle.master.specs.Calls as call
 use Rattle.master.specs.Calls.{Reply, _⇒_}
@@ -327,6 +327,6 @@ module _ (t : List ℕ) (ok : RightTable t) (h : Seq Scheduled) (x : Held) (is :
       (λ c. rw (z, c) (goes-failed (rw c at (last-replies n z)))))
 
   -- an accepted byte
-  pub byte-goes : Goes (taken t s (x .bytes) b)
-  unfolding taken
+  pub byte-goes : Goes (byteEffect t s (x .bytes) b)
+  unfolding byteEffect
   byte-goes = whether (sends t o) (λ y. rw y (goes-sent y)) (λ n. rw n (goes-received n))

@@ -21,7 +21,7 @@ use Rattle.master.specs.Fits.{stateFits, isSending, lentFits, frameThere
 use Rattle.master.specs.Transfers.{formatOf, isOpen, openProtected, opening}
 use Rattle.master.specs.Plan.{waits, waited, entryDue, begun}
 use Rattle.master.specs.Message.{messageFailed}
-use Rattle.master.specs.Tick.{firstPending, slotOpens, abandoned, ticked}
+use Rattle.master.specs.Tick.{firstPending, slotOpens, abandoned, tickEffect}
 use Rattle.master.specs.Seq.{Seq, _▹_}
 use Rattle.master.specs.Calls as call
 use Rattle.master.specs.Calls.{_⇒_}
@@ -240,7 +240,7 @@ module _ (t : List ℕ) (ok : RightTable t) (h : Seq Scheduled) (x : Held) (is :
         }
 
     -- an accepted tick
-    pub tick-goes : Stepped t h (call.tick m) (ticked t (x .bytes) m s .answer) (held (ticked t (x .bytes) m s .state) (x .bytes))
+    pub tick-goes : Stepped t h (call.tick m) (tickEffect t (x .bytes) m s .answer) (held (tickEffect t (x .bytes) m s .state) (x .bytes))
     tick-goes =
         ticked-by t (x .bytes) m Goes s goes-waiting goes-idle goes-silent goes-opened
-        (fits-all t (ticked t (x .bytes) m s .state) (ticked-fits t ok (x .bytes) m s (fits-clauses t s (is .fits))))
+        (fits-all t (tickEffect t (x .bytes) m s .state) (ticked-fits t ok (x .bytes) m s (fits-clauses t s (is .fits))))

@@ -3,12 +3,12 @@ use borrow.Author.Needs.{needs}
 use lib.ListN.{length}
 use mathlib.Core.Path.{_∙_, sym}
 use Rattle.master.proofs.Verdicts.{byte-size}
-use Rattle.master.specs.Byte.{byteOf, taken}
+use Rattle.master.specs.Byte.{byteOf, byteEffect}
 use Rattle.master.proofs.state.State.byte_in.Statement.{statement}
 use Rattle.master.proofs.state.State.byte_in.Tie as tie
 
 returns : tie.Need-returns
-unfolding byteOf taken
+unfolding byteOf byteEffect
 returns c =
     let e = (sym (c .before .before .before .before .judge-byte .ensures) ∙ c .before .before .refusal .given .1) in
     record { handed = rw (e, c .answering .ensures); kept = rw e }
@@ -21,7 +21,7 @@ sent-byte-requires c κs =
     rw (← byte-size (a .t .now) (length (a .bytes .now)) (a .self) e) e
 
 returns-2 : tie.Need-returns-2
-unfolding byteOf taken
+unfolding byteOf byteEffect
 returns-2 c =
     let judge-byte = c .before .before .before .before .before .before .judge-byte in
     let enum-told = c .before .before .before .before .enum-told in
@@ -36,7 +36,7 @@ received-byte-requires c κs =
     (sym (judge-byte .ensures) ∙ enum-told .given .1)
 
 returns-3 : tie.Need-returns-3
-unfolding byteOf taken
+unfolding byteOf byteEffect
 returns-3 c =
     let judge-byte = c .before .before .before .before .before .before .before .before .before .judge-byte in
     let enum-told = c .before .before .before .before .before .before .before .enum-told in

@@ -2,12 +2,12 @@
 use borrow.Author.Needs.{needs}
 use borrow.Author.Tests.{not-false, not-true}
 use Rattle.master.proofs.Admitted.{open-identifier}
-use Rattle.master.specs.Tick.{opens}
+use Rattle.master.specs.Tick.{opensOrSilent}
 use Rattle.master.proofs.state.State.open.Statement.{statement}
 use Rattle.master.proofs.state.State.open.Tie as tie
 
 returns : tie.Need-returns
-unfolding opens
+unfolding opensOrSilent
 returns c = rw (← c .before .is-open .ensures, not-true (c .before .is-open .result) (c .if1 .taken))
 
 protected-requires : tie.Need-protected-requires
@@ -17,7 +17,7 @@ protected-requires c κs =
     open-identifier (a .t .now) (asked .0) (a .opened) (asked .2)
 
 returns-2 : tie.Need-returns-2
-unfolding opens
+unfolding opensOrSilent
 returns-2 c =
     let is-open = c .before .before .before .before .is-open in
     let left = not-false (is-open .result) (c .before .before .before .if1 .left) in

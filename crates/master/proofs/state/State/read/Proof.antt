@@ -1,15 +1,15 @@
 -- `state::State::read` meets its contract.
 use borrow.Author.Needs.{needs}
-use Rattle.master.specs.Read.{readOf}
+use Rattle.master.specs.Read.{readScalarOf}
 use Rattle.master.proofs.state.State.read.Statement.{statement}
 use Rattle.master.proofs.state.State.read.Tie as tie
 
 returns : tie.Need-returns
-unfolding readOf
+unfolding readScalarOf
 returns c = rw (← c .before .before .before .judge-read .ensures, c .before .refusal .given .1)
 
 returns-2 : tie.Need-returns-2
-unfolding readOf
+unfolding readScalarOf
 returns-2 c = rw (← c .before .before .before .judge-read .ensures, c .before .enum-told .given .1, c .get-scalar .ensures)
 
 pub read-spec : {M : Type 1} → statement M

@@ -14,7 +14,7 @@ returns c = rw (← c .before .before .before .judge-send .ensures, c .before .r
 cast-t9 : tie.Need-cast-t9
 cast-t9 c =
     let a = c .before .before .before .before .args in
-    record { fits = omega (arith, send-length (a .t .now) (a .self) (a .length) (sym (c .before .before .judge-send .ensures) ∙ c .enum-told .given .1)) }
+    record { fits = omega (arith, send-length (a .t .now) (a .self) (a .size) (sym (c .before .before .judge-send .ensures) ∙ c .enum-told .given .1)) }
 
 returns-2 : tie.Need-returns-2
 unfolding sendOf

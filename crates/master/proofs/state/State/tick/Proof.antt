@@ -1,19 +1,19 @@
 -- `state::State::tick` meets its contract.
 use borrow.Author.Needs.{needs}
 use mathlib.Core.Path.{_∙_, sym}
-use Rattle.master.specs.Tick.{tickOf, ticked}
+use Rattle.master.specs.Tick.{tickOf, tickEffect}
 use Rattle.master.proofs.state.State.tick.Statement.{statement}
 use Rattle.master.proofs.state.State.tick.Tie as tie
 
 returns : tie.Need-returns
-unfolding tickOf ticked
+unfolding tickOf tickEffect
 returns c = rw (← c .before .before .before .judge-tick .ensures, c .before .refusal .given .1)
 
 waited-requires : tie.Need-waited-requires
 waited-requires c κs = sym (c .before .waits .ensures) ∙ c .if1 .taken
 
 returns-2 : tie.Need-returns-2
-unfolding tickOf ticked
+unfolding tickOf tickEffect
 returns-2 c =
     let judge-tick = c .before .before .before .before .before .before .before .judge-tick in
     let enum-told = c .before .before .before .before .before .enum-told in
@@ -25,7 +25,7 @@ slot-requires c κs =
     (sym (judge-tick .ensures) ∙ c .before .before .before .enum-told .given .1)
 
 returns-3 : tie.Need-returns-3
-unfolding tickOf ticked
+unfolding tickOf tickEffect
 returns-3 c =
     let judge-tick = c .before .before .before .before .before .before .judge-tick in
     let enum-told = c .before .before .before .before .enum-told in

@@ -1,9 +1,9 @@
--- `Message::reached` meets its contract.
+-- `Assembly::reached` meets its contract.
 use borrow.Author.Tests.{lt-ltb, le-ltb}
 use borrow.Author.Needs.{needs}
 use Rattle.transport.specs.Reassembly.{reached}
-use Rattle.transport.proofs.reassembly.Message.reached.Statement.{statement}
-use Rattle.transport.proofs.reassembly.Message.reached.Tie as tie
+use Rattle.transport.proofs.reassembly.Assembly.reached.Statement.{statement}
+use Rattle.transport.proofs.reassembly.Assembly.reached.Tie as tie
 
 returns : tie.Need-returns
 unfolding reached

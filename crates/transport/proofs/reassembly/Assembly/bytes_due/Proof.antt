@@ -1,9 +1,9 @@
--- `Message::bytes_due` meets its contract.
+-- `Assembly::bytes_due` meets its contract.
 use native.Mathlib.Omega.{arith}
 use borrow.Author.Needs.{needs}
 use Rattle.transport.specs.Reassembly.{bytesDue}
-use Rattle.transport.proofs.reassembly.Message.bytes_due.Statement.{statement}
-use Rattle.transport.proofs.reassembly.Message.bytes_due.Tie as tie
+use Rattle.transport.proofs.reassembly.Assembly.bytes_due.Statement.{statement}
+use Rattle.transport.proofs.reassembly.Assembly.bytes_due.Tie as tie
 
 returns : tie.Need-returns
 unfolding bytesDue

@@ -1,11 +1,11 @@
--- `Message::next` meets its contract.
+-- `Assembly::next` meets its contract.
 use native.Mathlib.Omega.{arith}
 use borrow.Author.Needs.{needs}
 use Rattle.transport.proofs.FitLaws.{fits-exactly}
 use Rattle.transport.proofs.Fitting.{counter-below, due-high, due-left}
 use Rattle.transport.proofs.Outcomes.{leaves-plain, next-broken, next-short, next-taken, leaves-continued}
-use Rattle.transport.proofs.reassembly.Message.next.Statement.{statement}
-use Rattle.transport.proofs.reassembly.Message.next.Tie as tie
+use Rattle.transport.proofs.reassembly.Assembly.next.Statement.{statement}
+use Rattle.transport.proofs.reassembly.Assembly.next.Tie as tie
 
 add-if1 : tie.Need-add-if1
 add-if1 c = omega (arith, counter-below _ (c .before .before .before .before .pre .0))

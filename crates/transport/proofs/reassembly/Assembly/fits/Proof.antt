@@ -1,28 +1,28 @@
--- `Message::fits` meets its contract: each way out has the tests that led there.
+-- `Assembly::fits` meets its contract: each way out has the tests that led there.
 use Rattle.transport.proofs.Fitting.{fits-by-counter}
-use Rattle.transport.specs.Reassembly.{messageFits}
+use Rattle.transport.specs.Reassembly.{assemblyFits}
 use borrow.Author.Tests.{eq-eqb, ne-eqb, lt-ltb, le-ltb, lt-leb, le-leb}
 use native.Mathlib.Omega.{arith}
 use mathlib.Core.Path.{_≡_}
 use Prim.Native.Nat.{_+_, _-_, _*_, _/_}
 use borrow.Author.Needs.{needs}
-use Rattle.transport.proofs.reassembly.Message.fits.Statement.{statement}
-use Rattle.transport.proofs.reassembly.Message.fits.Tie as tie
+use Rattle.transport.proofs.reassembly.Assembly.fits.Statement.{statement}
+use Rattle.transport.proofs.reassembly.Assembly.fits.Tie as tie
 
 returns : tie.Need-returns
-unfolding messageFits
+unfolding assemblyFits
 returns c = simp (eq-eqb _ _ (c .if1 .taken))
 
 returns-2 : tie.Need-returns-2
-unfolding messageFits
+unfolding assemblyFits
 returns-2 c = simp (ne-eqb _ _ (c .before .before .if1 .left), lt-leb _ _ (c .if2 .taken))
 
 returns-3 : tie.Need-returns-3
-unfolding messageFits
+unfolding assemblyFits
 returns-3 c = simp (ne-eqb _ _ (c .before .before .before .before .if1 .left), le-leb _ _ (c .before .before .if2 .left), lt-leb _ _ (c .if3 .taken))
 
 returns-4 : tie.Need-returns-4
-unfolding messageFits
+unfolding assemblyFits
 returns-4 c =
     let d = c .before .before .before .before in
     let m = d .before .before .before .before .args .self in
@@ -30,7 +30,7 @@ returns-4 c =
     simp (ne-eqb _ _ (d .before .before .if1 .left), le-leb _ _ (d .if2 .left), le-leb _ _ (c .before .before .if3 .left), parts)
 
 returns-5 : tie.Need-returns-5
-unfolding messageFits
+unfolding assemblyFits
 returns-5 c =
     let d = c .before .before .before .before in
     let m = d .before .before .before .before .before .before .args .self in
