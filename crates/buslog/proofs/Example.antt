@@ -31,10 +31,14 @@ rows =
     ∷ 51 ∷ 32 ∷ 45 ∷ 45 ∷ 32 ∷ 112 ∷ 97 ∷ 114 ∷ 105 ∷ 116 ∷ 121 ∷ 10 ∷ []
 
 pub example : reportOf builtIn log ≡ header ++ rows
-unfolding builtIn reportOf logLines wholeLines unfinished lastLine rowsOf rowOf decimalOf digitsOf shownIdentifier word pairOf digitCharacter lineVerdict bytesVerdict identifierVerdict knownVerdict frameWith lineBytes pairBytes arePairs pairByte isPair digitOf rightParity p0 p1 xor protectedByte bit withCarry sum covered modelOf inverted checksumByte firstFrom table.word table.frameCount table.identifier table.frameLength table.flags table.classic header
+unfolding builtIn reportOf logLines wholeLines unfinished lastLine rowsOf rowOf decimalOf digitsOf shownIdentifier word pairOf
+    digitCharacter lineVerdict bytesVerdict identifierVerdict knownVerdict frameWith lineBytes pairBytes arePairs pairByte isPair
+    digitOf rightParity p0 p1 xor protectedByte bit withCarry sum covered modelOf inverted checksumByte firstFrom table.word
+    table.frameCount table.identifier table.frameLength table.flags table.classic header
 example = refl
 
 -- the built-in table is accepted, so no part of a log is refused under it
 pub built-in-right : RightTable builtIn
-unfolding builtIn judged faults surplus wordsRight records headerRight frameRight identifierRight lengthRight flagsRight anyBelow table.word table.frameCount table.signalCount table.memberCount table.entryCount table.size table.identifier table.frameLength table.flags
+unfolding builtIn judged faults surplus wordsRight records headerRight frameRight identifierRight lengthRight flagsRight anyBelow
+    table.word table.frameCount table.signalCount table.memberCount table.entryCount table.size table.identifier table.frameLength table.flags
 built-in-right = refl

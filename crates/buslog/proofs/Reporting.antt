@@ -109,7 +109,8 @@ module _ (t : List ℕ) (n : ℕ) (text empty : List ℕ) where
           more-rest =
               let a : n + lines + 1 ≡ n + (lines + 1) = omega arith in
               let b : length empty - put - length (rowOf (n + lines) (lineVerdict t (take (end - used) (drop used text)))) ≡ length empty - (put + r) = omega (arith, row-length) in
-              let s : reportable t (n + lines) (length empty - put) (wholeLines [] (drop used text)) ≡ suc (reportable t (n + (lines + 1)) (length empty - (put + r)) (wholeLines [] (drop (end + 1) text)))
+              let s : reportable t (n + lines) (length empty - put) (wholeLines [] (drop used text)) ≡ suc
+              (reportable t (n + (lines + 1)) (length empty - (put + r)) (wholeLines [] (drop (end + 1) text)))
               = rw line-there (has-room t (n + lines) (length empty - put) (take (end - used) (drop used text)) (wholeLines [] (drop (end + 1) text)) room ∙ rw (a, b)) in
               omega (arith, d .rest)
 

@@ -14,7 +14,8 @@ use Rattle.linlog.specs.declared.Reading.{Reading}
 unfoldable pub lineKept : List ℕ → List ℕ
 lineKept text = keptOf text (charactersOf (wholeLines [] text))
 
--- a text was reported: the rows of all its whole lines stand at the front of one buffer, the line that is not whole at the front of the other, and the lines are counted
+-- a text was reported: the rows of all its whole lines stand at the front of one buffer, the line that is not whole at the front of the
+-- other, and the lines are counted
 pub record Reports (log : Log) (text out : List ℕ) (r : Log) (textAfter outAfter : List ℕ) : Type 0 where
   pub rows : outAfter ≡ fronted (rowsOf builtIn (log .number) (wholeLines [] text)) out
   pub number : r .number ≡ (log .number + length (wholeLines [] text)) % 2 ^ 64

@@ -28,7 +28,8 @@ use Rattle.master.specs.Tick.{tickEffect, tickVerdict}
 use Rattle.master.specs.Byte.{byteEffect, byteVerdict}
 use Rattle.master.specs.Message.{sendVerdict}
 use Rattle.master.specs.Ahead.{aheadVerdict}
-use Rattle.master.specs.Answers.{writeRefusal, readRefusal, arrayRefusal, selectRefusal, tickRefusal, byteRefusal, statusRefusal, sendRefusal, messageRefusal, aheadRefusal}
+use Rattle.master.specs.Answers.{writeRefusal, readRefusal, arrayRefusal, selectRefusal, tickRefusal, byteRefusal, statusRefusal, sendRefusal}
+use Rattle.master.specs.Answers.{messageRefusal, aheadRefusal}
 use Rattle.master.specs.Calls as call
 use Rattle.master.specs.Calls.{Call, Answer}
 use Rattle.master.specs.Run.{Held, held}

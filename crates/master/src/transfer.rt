@@ -270,7 +270,9 @@ impl Transfer {
 // The nine bytes at the opening of a frame.
 fn frame_copy(t: &[u16], bytes: &[u8], f: u16) -> [u8; 9]
     requires { ⌜ RightTable (now t) × (length (now bytes) ≡ bufferSize (now t)) × (frameThere (now t) (Frame f) ≡ true) ⌝ }
-    ensures { λ r. ⌜ r ≡ cond (published (now (t .entry)) f) (copied (now (t .entry)) (Frame f) (frameData (now (t .entry)) (now (bytes .entry)) f)) (replicate 9 255) ⌝ }
+    ensures { λ r. ⌜
+        r ≡ cond (published (now (t .entry)) f) (copied (now (t .entry)) (Frame f) (frameData (now (t .entry)) (now (bytes .entry)) f)) (replicate 9 255)
+        ⌝ }
 {
     if !frames::published(t, f) {
         return [255; 9];

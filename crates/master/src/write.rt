@@ -12,7 +12,6 @@ ghost use Prim.Native.Nat.{_<_};
 ghost use Rattle.cluster.specs.Check.{RightTable, then};
 ghost use Rattle.master.specs.Admit.{Leaves, admitted};
 ghost use Rattle.cluster.specs.Table.{signalCount};
-ghost use Rattle.cluster.specs.Values.{valueFits, arrayFits};
 ghost use Rattle.master.specs.Write.{writable as writableOf, marked as markedOf, refusedWrite, scalar, array, put, writeVerdict, writeOf};
 
 // What a write answers.

@@ -5,7 +5,8 @@ use mathlib.Core.List.{List}
 use borrow.Author.Tests.{lt-ltb, le-ltb, eq-eqb, ne-eqb}
 use lib.ListN.{length, take, drop}
 use Rattle.refusal.specs.Numbers.{refused, buffer}
-use Rattle.transport.specs.Reassembly.{Step, Leaves, written, stepTo, framePci, firstLength, kindIgnored, kindStep, single, first, singleStep, firstStep, counterDue, continued, bytesDue, reached}
+use Rattle.transport.specs.Reassembly.{Step, Leaves, written, stepTo, framePci, firstLength, kindIgnored, kindStep, single, first, singleStep}
+use Rattle.transport.specs.Reassembly.{firstStep, counterDue, continued, bytesDue, reached}
 use Rattle.transport.specs.Parts.{kindOutcome, messageOutcome}
 use Rattle.transport.specs.declared.reassembly.Assembly.{Assembly}
 use Rattle.transport.specs.declared.reassembly.Reassembly.{Reassembly}

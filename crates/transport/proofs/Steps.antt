@@ -8,7 +8,8 @@ use borrow.Author.Tests.{eq-eqb, ne-eqb, eqb-true}
 use lib.Dec.{ltb, eqb}
 use lib.ListN.{length}
 use Rattle.refusal.specs.Numbers.{refused, state, frame}
-use Rattle.transport.specs.Reassembly.{Kind, single, first, next, other, stepTo, framePci, frameNad, kindOf, step, fits, assemblyFits, listens, counterDue, wouldBeTaken, tooShort, kindIgnored, ignored, kindStep, nextStep}
+use Rattle.transport.specs.Reassembly.{Kind, single, first, next, other, stepTo, framePci, frameNad, kindOf, step, fits, assemblyFits, listens}
+use Rattle.transport.specs.Reassembly.{counterDue, wouldBeTaken, tooShort, kindIgnored, ignored, kindStep, nextStep}
 use Rattle.transport.specs.Parts.{kindOutcome, messageOutcome, nextOutcome}
 use Rattle.transport.specs.declared.reassembly.Assembly.{Assembly}
 use Rattle.transport.specs.declared.reassembly.Reassembly.{Reassembly}

@@ -1,6 +1,6 @@
 // The reassembler: a state that takes a frame and hands itself back, and puts the bytes delivered into a lent buffer.
 use refusal::Refusal;
-ghost use mathlib.Core.Bool.{Bool, true};
+ghost use mathlib.Core.Bool.{true};
 ghost use mathlib.Core.Path.{_≡_};
 ghost use Prim.Native.Nat.{_+_, _%_, _≤_};
 ghost use lib.ListN.{length, take, drop};

@@ -9,5 +9,7 @@ use Rattle.transport.specs.Cutting.{countOf, cutOf, messageFrames, dataBytes, s
 use Rattle.vectors.specs.Examples.{holds, examples, allHold}
 
 pub worked-examples : allHold examples ≡ true
-unfolding allHold examples holds bit withCarry sum covered modelOf inverted checksumByte checksumOf p0 p1 xor protectedByte protectedOf number bitAt bytesOf inside replaced putBits putScalar countOf cutOf messageFrames dataBytes singleFrame firstFrame nextFrame messageFrame
+unfolding allHold examples holds bit withCarry sum covered modelOf inverted checksumByte checksumOf p0 p1 xor protectedByte
+    protectedOf number bitAt bytesOf inside replaced putBits putScalar countOf cutOf messageFrames dataBytes singleFrame
+    firstFrame nextFrame messageFrame
 worked-examples = refl

@@ -21,7 +21,12 @@ slice-aggregate-write-out : tie.Need-slice-aggregate-write-out
 slice-aggregate-write-out c = sym (length-take-le _ _ (put-within _ _ _ _ _ _ _ (c .before .before .before .write .ensures)))
 
 slice-aggregate-keep : tie.Need-slice-aggregate-keep
-slice-aggregate-keep c = sym (length-take-le _ (c .before .before .before .before .before .before .before .before .before .before .before .before .before .args .text .now) (omega (arith, c .before .before .before .before .before .before .before .before .before .before .before .before .before .pre .0)))
+slice-aggregate-keep c = sym (length-take-le _ (c .before .before .before .before .before .before .before .before .before .before .before
+    .before .before .args .text .now) (omega (
+      arith,
+      c .before .before .before .before .before .before .before .before .before .before
+          .before .before .before .pre .0,
+    )))
 
 returns : tie.Need-returns
 returns c =
@@ -29,7 +34,9 @@ returns c =
     let wrote = c .before .before .before .before .before .before .before .before .before in
     let few : longestRow * length (take (start .args .n) (start .args .text .now)) ≤ length (start .args .out .now) =
     omega (arith, length-take-le (start .args .n) (start .args .text .now) (start .pre .0), start .pre .1) in
-    step (start .args .log) _ _ (take (start .args .n) (start .args .text .now)) (start .args .out .now) _ _ few (c .before .before .before .before .before .before .before .before .before .before .before .before .before .table .ensures) (wrote .write .ensures) _ _ (c .before .before .before .before .wrapping-add-u64 .ensures) (c .before .before .keep .ensures)
+    step (start .args .log) _ _ (take (start .args .n) (start .args .text .now)) (start .args .out .now) _ _ few
+    (c .before .before .before .before .before .before .before .before .before .before .before .before .before .table .ensures)
+    (wrote .write .ensures) _ _ (c .before .before .before .before .wrapping-add-u64 .ensures) (c .before .before .keep .ensures)
 
 pub whole-lines-spec : {M : Type 1} → statement M
 whole-lines-spec =

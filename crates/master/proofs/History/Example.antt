@@ -82,16 +82,36 @@ sending =
     ▹ event (byteIn 247) (plain Success) none (entry 0)
 
 accepted : freshOf table buffer .given .answer ≡ Fresh
-unfolding freshOf freshVerdict bufferSize judged faults surplus wordsRight records headerRight frameRight identifierRight lengthRight flagsRight anyBelow signalRight signalFrameRight signalKindRight offsetRight widthRight signalWidthRight startLimit startRight takenBefore overlaps memberRight memberFrameRight countsUp entryRight entryKindRight targetRight delayRight word frameCount signalCount memberCount entryCount size identifier frameLength flags published signalFrame signalKind signalOffset signalWidth signalStart isArray memberList memberFrame entrySchedule entryKind entryTarget entryDelay counted listCount inside bit
+unfolding freshOf freshVerdict bufferSize judged faults surplus wordsRight records headerRight frameRight identifierRight
+    lengthRight flagsRight anyBelow signalRight signalFrameRight signalKindRight offsetRight widthRight signalWidthRight
+    startLimit startRight takenBefore overlaps memberRight memberFrameRight countsUp entryRight entryKindRight targetRight
+    delayRight word frameCount signalCount memberCount entryCount size identifier frameLength flags published signalFrame
+    signalKind signalOffset signalWidth signalStart isArray memberList memberFrame entrySchedule entryKind entryTarget entryDelay
+    counted listCount inside bit
 accepted = refl
 
 record-is : recordOf table buffer calls ≡ writing ⋈ sending
-unfolding scheduled schedule slotBegun slotAfter planAfter planBy planWith slotDue slotOf historyOf heldAfter leftBy answerOf freshOf freshVerdict fresh bufferSize admitted judged faults surplus wordsRight records headerRight frameRight identifierRight lengthRight flagsRight anyBelow signalRight signalFrameRight signalKindRight offsetRight widthRight signalWidthRight startLimit startRight takenBefore overlaps memberRight memberFrameRight countsUp entryRight entryKindRight targetRight delayRight word frameCount signalCount memberCount entryCount size identifier frameLength flags published classic signalFrame signalKind signalOffset signalWidth signalStart isArray memberList memberFrame entrySchedule entryKind entryTarget entryDelay counted listCount scheduleCount firstFrom membersFrom members firstEntry nextEntry signalPlace putStart filled freshBytes touches signalPublished valueFits withScalar bitAt number bytesOf inside replaced putBits putScalar bit p0 p1 xor protectedByte withCarry sum covered modelOf inverted checksumByte stateFits entryThere scheduleThere frameThere currentDelay waitFits bitFits pendingFits isOneOf entryOpens canOpen countFits messageFits lentFits isOpen openProtected openChecksum frameData sentData copied opening asking waits entryDue begun selectVerdict selectOf writable markedFrom touchesOpen rewritten marked writeOf tick.firstPending tick.slotOpens tick.abandoned tick.opensOrSilent tick.slotAt tick.slot tick.tickEffect tick.tickVerdict tick.tickOf status.withCounted status.statusAfter messageSent clearedBit pendingSent sent received passed early sentByte byteEffect byteVerdict byteOf formatOf
+unfolding scheduled schedule slotBegun slotAfter planAfter planBy planWith slotDue slotOf historyOf heldAfter leftBy answerOf
+    freshOf freshVerdict fresh bufferSize admitted judged faults surplus wordsRight records headerRight frameRight identifierRight
+    lengthRight flagsRight anyBelow signalRight signalFrameRight signalKindRight offsetRight widthRight signalWidthRight
+    startLimit startRight takenBefore overlaps memberRight memberFrameRight countsUp entryRight entryKindRight targetRight
+    delayRight word frameCount signalCount memberCount entryCount size identifier frameLength flags published classic signalFrame
+    signalKind signalOffset signalWidth signalStart isArray memberList memberFrame entrySchedule entryKind entryTarget entryDelay
+    counted listCount scheduleCount firstFrom membersFrom members firstEntry nextEntry signalPlace putStart filled freshBytes
+    touches signalPublished valueFits withScalar bitAt number bytesOf inside replaced putBits putScalar bit p0 p1 xor
+    protectedByte withCarry sum covered modelOf inverted checksumByte stateFits entryThere scheduleThere frameThere currentDelay
+    waitFits bitFits pendingFits isOneOf entryOpens canOpen countFits messageFits lentFits isOpen openProtected openChecksum
+    frameData sentData copied opening asking waits entryDue begun selectVerdict selectOf writable markedFrom touchesOpen rewritten
+    marked writeOf tick.firstPending tick.slotOpens tick.abandoned tick.opensOrSilent tick.slotAt tick.slot tick.tickEffect
+    tick.tickVerdict tick.tickOf status.withCounted status.statusAfter messageSent clearedBit pendingSent sent received passed
+    early sentByte byteEffect byteVerdict byteOf formatOf
 record-is = refl
 
 -- frame 1 is sent by the second success of its list
 pub sent-second : Succeeded table sending 1
-unfolding openAfter closes opens transferNamed frameNamed firstFrom frameCount word identifier protectedByte p0 p1 xor bit rewrittenAfter wipes pendingAfter writes succeeds touches signalFrame successes slotAfter members membersFrom memberCount memberList memberFrame signalCount entryKind entryTarget
+unfolding openAfter closes opens transferNamed frameNamed firstFrom frameCount word identifier protectedByte p0 p1 xor bit
+    rewrittenAfter wipes pendingAfter writes succeeds touches signalFrame successes slotAfter members membersFrom memberCount
+    memberList memberFrame signalCount entryKind entryTarget
 sent-second =
     demand-3 table buffer accepted calls .progress writing sending 0 1 1 (0 ∷ []) [] record-is refl refl
     (pending-iff table writing 1 .0 refl)

@@ -39,7 +39,8 @@ module _ (t : List ℕ) (ok : RightTable t) where
   unfolding frameNamed
   named-frame f h =
       let g = frameNamed t (protectedByte (identifier t f)) in
-      let le : g ≤ f = first-least (λ g. eqb (protectedByte (identifier t g)) (protectedByte (identifier t f))) 0 (frameCount t) f (omega arith) (eq-eqb (protectedByte (identifier t f)) (protectedByte (identifier t f)) refl) in
+      let le : g ≤ f = first-least (λ g. eqb (protectedByte (identifier t g)) (protectedByte (identifier t f))) 0 (frameCount t) f
+      (omega arith) (eq-eqb (protectedByte (identifier t f)) (protectedByte (identifier t f)) refl) in
       let b : g < frameCount t = omega arith in
       identifiers-distinct t ok g f b h (found (identifier t f) (omega (arith, identifier-below t ok f h)) b)
 

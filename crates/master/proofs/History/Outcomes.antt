@@ -10,8 +10,7 @@ use Rattle.master.specs.Seq.{Seq, ∅, _▹_, _⋈_, Each}
 use Rattle.master.specs.Calls.{Event}
 use Rattle.master.specs.Acts.{Act, nothing, wrote, selected, ticked, took, statusRead, sending, actOf, onTick}
 use Rattle.master.specs.Schedule.{Slot, none, Scheduled, isStart, slotDue, planAfter, slotBegun, schedule, slotAfter}
-use Rattle.master.specs.History.{closes, succeeds, Outcome, running, success, failure, endedBy, outcomeOf}
-use Rattle.master.proofs.Tests.{never}
+use Rattle.master.specs.History.{closes, succeeds, Outcome, running, success, failure, outcomeOf}
 
 -- ---- the slot that an event stands in
 

@@ -20,7 +20,8 @@ use Rattle.master.proofs.History.Along.{Along}
 use Rattle.master.proofs.History.Events.{keeps-slot, opens-starts, starts-unsent}
 use Rattle.master.proofs.History.Opening.{open-new, open-kept, open-from-idle, slot-part}
 use Rattle.master.proofs.History.Success.{success-now, success-before}
-use Rattle.master.proofs.History.Computed.{rewrittenAfter, pendingAfter, pending-wiped, pending-stays, pending-was, unwiped, unwiped-unsent, unwiped-open-on, wipes-when, rewritten-new, rewritten-on}
+use Rattle.master.proofs.History.Computed.{rewrittenAfter, pendingAfter, pending-wiped, pending-stays, pending-was, unwiped, unwiped-unsent}
+use Rattle.master.proofs.History.Computed.{unwiped-open-on, wipes-when, rewritten-new, rewritten-on}
 use Rattle.master.proofs.History.First.{firstWith, first-reaches}
 use Rattle.master.proofs.History.Counting.{countIf, count-le, count-lt}
 

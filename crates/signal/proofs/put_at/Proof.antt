@@ -14,7 +14,13 @@ returns : tie.Need-returns
 returns c =
     c .before .before .set-byte3 .ensures
     ∙ rw (c .before .before .before .before .before .before .set-byte2 .ensures, c .before .before .before .before .before .before .before .before .before .before .set-byte .ensures)
-    (put-window _ _ _ _ _ _ _ (λ i. c .before .before .before .before .before .before .before .before .before .before .before .before .before .before .before .slice-known .given i .fits) (omega (arith, c .before .before .before .before .before .before .before .before .before .before .before .before .before .before .before .before .pre)) (c .before .before .before .before .before .before .before .before .before .before .before .before .before .window .ensures) (c .before .before .before .before .before .before .before .before .before .before .before .before .with-field .ensures))
+    (put-window _ _ _ _ _ _ _ (λ i. c .before .before .before .before .before .before .before .before .before .before .before .before
+    .before .before .before .slice-known .given i .fits) (omega (
+      arith,
+      c .before .before .before .before .before .before .before .before .before .before .before .before .before .before .before
+          .before .pre,
+    )) (c .before .before .before .before .before .before .before .before .before .before .before .before .before .window
+    .ensures) (c .before .before .before .before .before .before .before .before .before .before .before .before .with-field .ensures))
 
 pub put-at-spec : {M : Type 1} → statement M
 put-at-spec =

@@ -28,10 +28,18 @@ of-known-requires-2 c κs =
 returns-2 : tie.Need-returns-2
 returns-2 c =
     c .of-known2 .ensures
-    ∙ listed _ _ _ (rw (ne-eqb _ 60 (c .before .before .before .before .before .before .before .if1 .left), c .before .before .before .before .before .before .if2 .left)) _ _ _ (c .before .before .before .before .before .frame-with .ensures) (omega (arith, c .before .before .before .before .count .ensures)) (c .before .before .length .ensures) (c .before .model .ensures)
+    ∙ listed _ _ _ (rw (
+      ne-eqb _ 60 (c .before .before .before .before .before .before .before .if1 .left),
+      c .before .before .before .before .before .before .if2 .left,
+    )) _ _ _
+    (c .before .before .before .before .before .frame-with .ensures)
+    (omega (arith, c .before .before .before .before .count .ensures)) (c .before .before .length .ensures) (c .before .model .ensures)
 
 returns-3 : tie.Need-returns-3
-returns-3 c = unlisted _ _ _ (rw (ne-eqb _ 60 (c .before .before .before .before .if1 .left), c .before .before .before .if2 .left)) _ (c .before .before .frame-with .ensures) (omega (arith, c .before .count .ensures))
+returns-3 c = unlisted _ _ _ (rw (
+  ne-eqb _ 60 (c .before .before .before .before .if1 .left),
+  c .before .before .before .if2 .left,
+)) _ (c .before .before .frame-with .ensures) (omega (arith, c .before .count .ensures))
 
 pub of-identifier-spec : {M : Type 1} → statement M
 of-identifier-spec =

@@ -21,7 +21,9 @@ returns-2 c =
     let a = c .before .before .before .before .before .before .before .before .before .args in
     let h : length (a .rest .now) ≡ a .length + 1 = c .before .before .before .before .before .before .before .if1 .left in
     let l : length (take (a .length) (a .rest .now)) ≡ a .length = length-take-le (a .length) (a .rest .now) (omega arith) in
-    let e = summed (a .id) (a .wish) (take (a .length) (a .rest .now)) (c .before .before .before .sum .given .0 .0) (omega arith, omega arith, omega arith) (sym (c .before .before .before .before .before .of .ensures) ∙ c .before .before .before .sum .given .1) in
+    let e = summed (a .id) (a .wish) (take (a .length) (a .rest .now)) (c .before .before .before .sum .given .0 .0)
+    (omega arith, omega arith, omega arith) (sym (c .before .before .before .before .before .of .ensures) ∙
+    c .before .before .before .sum .given .1) in
     right-sum _ _ (a .wish) (a .rest .now) _ h e (c .if2 .taken)
 
 returns-3 : tie.Need-returns-3
@@ -29,7 +31,9 @@ returns-3 c =
     let a = c .before .before .before .before .before .before .before .before .before .args in
     let h : length (a .rest .now) ≡ a .length + 1 = c .before .before .before .before .before .before .before .if1 .left in
     let l : length (take (a .length) (a .rest .now)) ≡ a .length = length-take-le (a .length) (a .rest .now) (omega arith) in
-    let e = summed (a .id) (a .wish) (take (a .length) (a .rest .now)) (c .before .before .before .sum .given .0 .0) (omega arith, omega arith, omega arith) (sym (c .before .before .before .before .before .of .ensures) ∙ c .before .before .before .sum .given .1) in
+    let e = summed (a .id) (a .wish) (take (a .length) (a .rest .now)) (c .before .before .before .sum .given .0 .0)
+    (omega arith, omega arith, omega arith) (sym (c .before .before .before .before .before .of .ensures) ∙
+    c .before .before .before .sum .given .1) in
     other-sum _ _ (a .wish) (a .rest .now) _ h e (c .if2 .left)
 
 returns-4 : tie.Need-returns-4
@@ -37,7 +41,8 @@ returns-4 c =
     let a = c .before .before .before .before .before .before .args in
     let h : length (a .rest .now) ≡ a .length + 1 = c .before .before .before .before .if1 .left in
     let l : length (take (a .length) (a .rest .now)) ≡ a .length = length-take-le (a .length) (a .rest .now) (omega arith) in
-    absurd (not-summed (a .id) (a .wish) (take (a .length) (a .rest .now)) (c .enum-told .given .0 .0) (omega arith, omega arith, omega arith) (sym (c .before .before .of .ensures) ∙ c .enum-told .given .1))
+    absurd (not-summed (a .id) (a .wish) (take (a .length) (a .rest .now)) (c .enum-told .given .0 .0)
+    (omega arith, omega arith, omega arith) (sym (c .before .before .of .ensures) ∙ c .enum-told .given .1))
 
 pub of-known-spec : {M : Type 1} → statement M
 of-known-spec =

@@ -17,7 +17,11 @@ slice-aggregate-of-bytes : tie.Need-slice-aggregate-of-bytes
 slice-aggregate-of-bytes c = sym (length-take-le _ (c .before .before .before .read .result .bytes) (c .before .before .before .read .ensures .within))
 
 of-bytes-requires : tie.Need-of-bytes-requires
-of-bytes-requires c κs = (c .before .before .before .before .before .before .pre, omega (arith, length-take-le _ (c .before .before .before .read .result .bytes) (c .before .before .before .read .ensures .within)))
+of-bytes-requires c κs = (
+  c .before .before .before .before .before .before .pre,
+  omega
+      (arith, length-take-le _ (c .before .before .before .read .result .bytes) (c .before .before .before .read .ensures .within)),
+)
 
 returns-2 : tie.Need-returns-2
 returns-2 c = c .of-bytes .ensures ∙ by-bytes _ _ _ (c .before .before .before .before .read .ensures .front)

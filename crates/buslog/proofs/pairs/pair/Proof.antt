@@ -12,7 +12,8 @@ returns-2 : tie.Need-returns-2
 returns-2 c = no-low _ _ (omega (arith, c .before .before .digit2 .ensures))
 
 returns-3 : tie.Need-returns-3
-returns-3 c = pair-there _ _ (omega (arith, c .before .before .before .before .digit .ensures)) (omega (arith, c .before .before .digit2 .ensures)) (c .before .before .before .before .digit .ensures) (c .before .before .digit2 .ensures)
+returns-3 c = pair-there _ _ (omega (arith, c .before .before .before .before .digit .ensures))
+    (omega (arith, c .before .before .digit2 .ensures)) (c .before .before .before .before .digit .ensures) (c .before .before .digit2 .ensures)
 
 pub pair-spec : {M : Type 1} → statement M
 pair-spec =

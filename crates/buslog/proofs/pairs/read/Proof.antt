@@ -61,7 +61,9 @@ loop-again c =
       omega arith,
       simp length-set (i .2),
       i .3 ∙ more-pairs line at p (omega arith) (c .if4 .left),
-      turn (c .before .before .before .before .before .before .loop .bytes) (c .before .before .before .before .before .before .loop .count) _ (omega arith) _ _ _ (i .4) (more-bytes line at p (omega arith) ∙ ap (λ (b : ℕ). b ∷ pairBytes (drop (at + 3) line)) (sym e)),
+      turn (c .before .before .before .before .before .before .loop .bytes)
+          (c .before .before .before .before .before .before .loop .count) _ (omega arith) _ _ _ (i .4)
+          (more-bytes line at p (omega arith) ∙ ap (λ (b : ℕ). b ∷ pairBytes (drop (at + 3) line)) (sym e)),
     )
 
 returns-5 : tie.Need-returns-5 Inv-loop μ-loop

@@ -14,20 +14,33 @@ returns c = kept-none _ _ _ (c .before .kept-length .ensures) (c .if1 .taken)
 slice-aggregate-copy-2 : tie.Need-slice-aggregate-copy-2
 slice-aggregate-copy-2 c =
     sym
-    (ap length (through (c .before .before .before .before .before .before .before .before .before .args .text .now) (c .before .before .before .before .before .before .before .before .before .args .from) _ (c .before .before .before .before .before .before .before .kept-length .ensures) _ _ _ refl (c .before .before .copy .ensures .1))
+    (ap length (through (c .before .before .before .before .before .before .before .before .before .args .text .now)
+    (c .before .before .before .before .before .before .before .before .before .args .from) _
+    (c .before .before .before .before .before .before .before .kept-length .ensures) _ _ _ refl (c .before .before .copy .ensures .1))
     ∙ kept-length _ _ _ (c .before .before .before .before .before .before .before .kept-length .ensures))
 
 copy-requires-2 : tie.Need-copy-requires-2
 copy-requires-2 c κs =
     omega (
       arith,
-      ap length (through (c .before .before .before .before .before .before .before .before .before .before .args .text .now) (c .before .before .before .before .before .before .before .before .before .before .args .from) _ (c .before .before .before .before .before .before .before .before .kept-length .ensures) _ _ _ refl (c .before .before .before .copy .ensures .1)),
-      kept-length (c .before .before .before .before .before .before .before .before .before .before .args .text .now) (c .before .before .before .before .before .before .before .before .before .before .args .from) _ (c .before .before .before .before .before .before .before .before .kept-length .ensures),
-      kept-within (c .before .before .before .before .before .before .before .before .before .before .args .text .now) (c .before .before .before .before .before .before .before .before .before .before .args .from) _ (c .before .before .before .before .before .before .before .before .kept-length .ensures),
+      ap length (through (c .before .before .before .before .before .before .before .before .before .before .args .text .now)
+          (c .before .before .before .before .before .before .before .before .before .before .args .from) _
+          (c .before .before .before .before .before .before .before .before .kept-length .ensures) _ _ _ refl
+          (c .before .before .before .copy .ensures .1)),
+      kept-length (c .before .before .before .before .before .before .before .before .before .before .args .text .now)
+          (c .before .before .before .before .before .before .before .before .before .before .args .from) _
+          (c .before .before .before .before .before .before .before .before .kept-length .ensures),
+      kept-within (c .before .before .before .before .before .before .before .before .before .before .args .text .now)
+          (c .before .before .before .before .before .before .before .before .before .before .args .from) _
+          (c .before .before .before .before .before .before .before .before .kept-length .ensures),
     )
 
 returns-2 : tie.Need-returns-2
-returns-2 c = rw (← through (c .before .before .before .before .before .before .before .before .before .before .before .before .before .args .text .now) (c .before .before .before .before .before .before .before .before .before .before .before .before .before .args .from) _ (c .before .before .before .before .before .before .before .before .before .before .before .kept-length .ensures) _ _ _ refl (c .before .before .before .before .before .before .copy .ensures .1)) (copied _ _ (c .before .before .copy2 .ensures .0) (c .before .before .copy2 .ensures .1))
+returns-2 c = rw (← through (c .before .before .before .before .before .before .before .before .before .before .before .before .before
+    .args .text .now) (c .before .before .before .before .before .before .before .before .before .before .before .before .before .args
+    .from) _ (c .before .before .before .before .before .before .before .before .before .before .before .kept-length .ensures) _ _
+    _ refl (c .before .before .before .before .before .before .copy .ensures .1))
+    (copied _ _ (c .before .before .copy2 .ensures .0) (c .before .before .copy2 .ensures .1))
 
 pub keep-spec : {M : Type 1} → statement M
 keep-spec =

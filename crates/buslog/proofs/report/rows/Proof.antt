@@ -34,12 +34,21 @@ of-line-requires : tie.Need-of-line-requires Inv-loop μ-loop
 of-line-requires c κs = c .before .before .before .before .before .before .before .before .pre
 
 add-put : tie.Need-add-put Inv-loop μ-loop
-add-put c = omega (arith, behind-within _ (c .before .before .before .before .before .before .before .before .before .before .loop .out) (c .before .before .before .before .before .before .before .before .before .before .loop .put) (omega arith) (c .before .before .put .ensures) (c .before .before .put .kept .0))
+add-put c = omega (
+  arith,
+  behind-within _ (c .before .before .before .before .before .before .before .before .before .before .loop
+      .out) (c .before .before .before .before .before .before .before .before .before .before .loop .put) (omega arith)
+      (c .before .before .put .ensures) (c .before .before .put .kept .0),
+)
 
 loop-again : tie.Need-loop-again Inv-loop μ-loop
 loop-again c =
-    one-more _ _ _ _ _ _ _ _ (c .before .before .before .before .before .before .before .before .before .before .loop .inv) _ (c .before .before .before .before .before .before .before .before .find .ensures .0) (omega (arith, c .before .before .before .before .before .before .before .before .find .ensures .1)) (omega (arith, c .before .before .before .before .before .before .before .before .before .before .loop .inv .size)) _ _ _ _ _
-    (c .before .before .before .before .before .of-line .ensures) (c .before .before .before .before .wrapping-add-u64 .ensures) (c .before .before .put .ensures) (c .before .before .put .kept .0) refl
+    one-more _ _ _ _ _ _ _ _ (c .before .before .before .before .before .before .before .before .before .before .loop .inv) _
+    (c .before .before .before .before .before .before .before .before .find .ensures .0)
+    (omega (arith, c .before .before .before .before .before .before .before .before .find .ensures .1))
+    (omega (arith, c .before .before .before .before .before .before .before .before .before .before .loop .inv .size)) _ _ _ _ _
+    (c .before .before .before .before .before .of-line .ensures) (c .before .before .before .before .wrapping-add-u64 .ensures)
+    (c .before .before .put .ensures) (c .before .before .put .kept .0) refl
 
 same-length-2 : tie.Need-same-length-2 Inv-loop μ-loop
 same-length-2 c = c .before .before .loop .inv .size

@@ -9,7 +9,11 @@ use Rattle.buslog.proofs.row.put.Statement.{statement}
 use Rattle.buslog.proofs.row.put.Tie as tie
 
 add-result : tie.Need-add-result
-add-result c = omega (arith, fronts-within _ (c .before .before .put-verdict .ensures) (c .before .before .put-verdict .kept .0), c .before .before .before .before .before .before .put-decimal .ensures .1)
+add-result c = omega (
+  arith,
+  fronts-within _ (c .before .before .put-verdict .ensures) (c .before .before .put-verdict .kept .0),
+  c .before .before .before .before .before .before .put-decimal .ensures .1,
+)
 
 returns : tie.Need-returns
 unfolding rowOf verdictText

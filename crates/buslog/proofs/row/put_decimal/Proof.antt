@@ -38,9 +38,24 @@ copy-requires c κs = simp (length-take, length-drop) (omega arith)
 
 returns : tie.Need-returns Inv-loop μ-loop
 returns c =
-    let e = spelled (c .before .before .before .before .before .before .before .before .before .args .number) (c .before .before .before .before .before .before .before .loop .at) (c .before .before .before .before .before .before .before .loop .rest) (c .before .before .before .before .before .before .before .loop .digits) (c .before .before .before .before .before .before .before .loop .inv .3) (omega arith) (c .before .before .before .before .before .before .before .loop .inv .0) in (
+    let e = spelled (c .before .before .before .before .before .before .before .before .before .args .number)
+    (c .before .before .before .before .before .before .before .loop .at)
+    (c .before .before .before .before .before .before .before .loop .rest)
+    (c .before .before .before .before .before .before .before .loop .digits)
+    (c .before .before .before .before .before .before .before .loop .inv .3) (omega arith)
+    (c .before .before .before .before .before .before .before .loop .inv .0) in (
       rw (← e) (copied _ _ (c .before .before .copy .ensures .0) (c .before .before .copy .ensures .1)),
-      omega (arith, c .before .before .copy .ensures .0, length-take (20 - c .before .before .before .before .before .before .before .loop .at) (drop (c .before .before .before .before .before .before .before .loop .at) (c .before .before .before .before .before .before .before .loop .digits)), length-drop (c .before .before .before .before .before .before .before .loop .at) (c .before .before .before .before .before .before .before .loop .digits)),
+      omega (
+        arith,
+        c .before .before .copy .ensures .0,
+        length-take
+            (20 - c .before .before .before .before .before .before .before .loop .at)
+            (drop (c .before .before .before .before .before .before .before .loop .at)
+            (c .before .before .before .before .before .before .before .loop .digits)),
+        length-drop
+            (c .before .before .before .before .before .before .before .loop .at)
+            (c .before .before .before .before .before .before .before .loop .digits),
+      ),
     )
 
 pub put-decimal-spec : {M : Type 1} → statement M

@@ -10,9 +10,17 @@ use Rattle.buslog.proofs.row.put_identified.Tie as tie
 returns : tie.Need-returns
 unfolding pairOf
 returns c =
-    let first = copied (32 ∷ c .before .before .before .before .before .before .before .before .before .before .digit .result ∷ c .before .before .before .before .before .before .before .before .before .digit2 .result ∷ []) (c .before .before .before .before .before .before .before .before .before .before .before .before .before .args .out .now) refl (c .before .before .before .before .before .before .copy .ensures .1) in
-    let second = copied (c .before .before .before .before .before .before .before .before .before .before .before .before .before .args .text .now) _ (c .before .before .copy2 .ensures .0) (c .before .before .copy2 .ensures .1) in
-    rw (← c .before .before .before .before .before .before .before .before .before .before .digit .ensures, ← c .before .before .before .before .before .before .before .before .before .digit2 .ensures) (behind _ _ _ first second refl)
+    let first = copied (32 ∷ c .before .before .before .before .before .before .before .before .before .before .digit .result ∷
+    c .before .before .before .before .before .before .before .before .before .digit2 .result ∷ [])
+    (c .before .before .before .before .before .before .before .before .before .before .before .before .before .args .out .now)
+    refl (c .before .before .before .before .before .before .copy .ensures .1) in
+    let second = copied (c .before .before .before .before .before .before .before .before .before .before .before .before .before
+    .args .text .now) _ (c .before .before .copy2 .ensures .0) (c .before .before .copy2 .ensures .1) in
+    rw (
+      ← c .before .before .before .before .before .before .before .before .before .before .digit .ensures,
+      ←
+          c .before .before .before .before .before .before .before .before .before .digit2 .ensures,
+    ) (behind _ _ _ first second refl)
 
 pub put-identified-spec : {M : Type 1} → statement M
 put-identified-spec =

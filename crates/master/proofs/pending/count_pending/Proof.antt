@@ -33,8 +33,11 @@ loop-again : tie.Need-loop-again Inv-loop μ-loop
 loop-again c =
     let a = c .before .before .before .before .before .args in
     let at = c .before .before .before .loop in
-    let i = at .inv in
-    (omega (arith, c .one-if .ensures .1, i .0), count-on (a .t .now) (a .l) (at .m) (a .end) (c .before .before .loop-test .taken) (a .pending) (at .n) _ (rw (c .one-if .ensures .0, c .before .is-pending-member .ensures)) (i .1))
+    let i = at .inv in (
+      omega (arith, c .one-if .ensures .1, i .0),
+      count-on (a .t .now) (a .l) (at .m) (a .end)
+          (c .before .before .loop-test .taken) (a .pending) (at .n) _ (rw (c .one-if .ensures .0, c .before .is-pending-member .ensures)) (i .1),
+    )
 
 returns : tie.Need-returns Inv-loop μ-loop
 returns c =

@@ -27,7 +27,8 @@ returns c =
     let a = c .before .before .before .before .before .before .before .args in
     let at = c .before .before .before .before .loop in
     let i = at .inv in
-    rw (c .frame .ensures) (sym (i .1 ∙ first-here (a .t .now) (a .l) (at .m) _ (c .before .before .before .loop-test .taken) (a .pending) (sym (c .before .before .is-pending-member .ensures) ∙ c .before .if1 .taken)))
+    rw (c .frame .ensures) (sym (i .1 ∙ first-here (a .t .now) (a .l) (at .m) _ (c .before .before .before .loop-test .taken)
+    (a .pending) (sym (c .before .before .is-pending-member .ensures) ∙ c .before .if1 .taken)))
 
 loop-again : tie.Need-loop-again Inv-loop μ-loop
 loop-again c =

@@ -24,15 +24,19 @@ returns c =
     let a = c .before .before .before .before .before .args in
     let at = c .before .before .before .loop in
     let l : length (a .t2) ≡ 60 = search needs in
-    sym (at .inv .1 ∙ bits-wrong (a .t .now) (at .f) (a .t2) (omega (arith, l, c .before .before .loop-test .taken)) (sym (c .before .bit-fits .ensures) ∙ not-true (c .before .bit-fits .result) (c .if1 .taken)))
+    sym (at .inv .1 ∙ bits-wrong (a .t .now) (at .f) (a .t2) (omega (arith, l, c .before .before .loop-test .taken))
+    (sym (c .before .bit-fits .ensures) ∙ not-true (c .before .bit-fits .result) (c .if1 .taken)))
 
 loop-again : tie.Need-loop-again Inv-loop μ-loop
 loop-again c =
     let a = c .before .before .before .before .before .args in
     let at = c .before .before .before .loop in
     let test = c .before .before .loop-test in
-    let l : length (a .t2) ≡ 60 = search needs in
-    (omega (arith, test .taken), at .inv .1 ∙ bits-right (a .t .now) (at .f) (a .t2) (omega (arith, l, test .taken)) (sym (c .before .bit-fits .ensures) ∙ not-false (c .before .bit-fits .result) (c .if1 .left)))
+    let l : length (a .t2) ≡ 60 = search needs in (
+      omega (arith, test .taken),
+      at .inv .1 ∙ bits-right (a .t .now) (at .f) (a .t2) (omega (arith, l, test .taken))
+          (sym (c .before .bit-fits .ensures) ∙ not-false (c .before .bit-fits .result) (c .if1 .left)),
+    )
 
 returns-2 : tie.Need-returns-2 Inv-loop μ-loop
 returns-2 c =

@@ -11,7 +11,14 @@ returns c = rw (← c .before .before .kind .ensures, ← c .before .target .ens
 
 returns-2 : tie.Need-returns-2
 unfolding slotOpens
-returns-2 c = rw (← c .before .before .before .before .kind .ensures, ← c .before .before .before .target .ensures, ne-eqb _ _ (c .before .before .if1 .left), eq-eqb _ _ (c .before .if2 .taken), c .first-pending .ensures)
+returns-2 c = rw (
+  ← c .before .before .before .before .kind .ensures,
+  ← c .before .before .before .target .ensures,
+  ne-eqb _ _
+      (c .before .before .if1 .left),
+  eq-eqb _ _ (c .before .if2 .taken),
+  c .first-pending .ensures,
+)
 
 returns-3 : tie.Need-returns-3
 unfolding slotOpens
@@ -22,7 +29,14 @@ returns-3 c =
 
 returns-4 : tie.Need-returns-4
 unfolding slotOpens
-returns-4 c = rw (← c .before .before .before .before .kind .ensures, ← c .before .before .before .target .ensures, ne-eqb _ _ (c .before .before .if1 .left), ne-eqb _ _ (c .before .if2 .left), ne-eqb _ _ (c .if3 .left))
+returns-4 c = rw (
+  ← c .before .before .before .before .kind .ensures,
+  ← c .before .before .before .target .ensures,
+  ne-eqb _ _
+      (c .before .before .if1 .left),
+  ne-eqb _ _ (c .before .if2 .left),
+  ne-eqb _ _ (c .if3 .left),
+)
 
 pub slot-opens-spec : {M : Type 1} → statement M
 slot-opens-spec =

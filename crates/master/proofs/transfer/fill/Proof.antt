@@ -29,8 +29,12 @@ loop-again : tie.Need-loop-again Inv-loop μ-loop
 loop-again c =
     let a = c .before .before .args in
     let at = c .before .loop in
-    let l : length (a .t2) ≡ 9 = search needs in
-    (omega (arith, c .loop-test .taken, at .inv .1), simp length-set (at .inv .1), copy-turn (a .part .now) (a .t2) _ (at .i) (omega (arith, c .loop-test .taken, at .inv .1, c .before .before .pre, l)) (omega (arith, c .loop-test .taken, at .inv .1)) (at .inv .2))
+    let l : length (a .t2) ≡ 9 = search needs in (
+      omega (arith, c .loop-test .taken, at .inv .1),
+      simp length-set (at .inv .1),
+      copy-turn (a .part .now) (a .t2) _ (at .i)
+          (omega (arith, c .loop-test .taken, at .inv .1, c .before .before .pre, l)) (omega (arith, c .loop-test .taken, at .inv .1)) (at .inv .2),
+    )
 
 same-length : tie.Need-same-length Inv-loop μ-loop
 same-length c = c .before .loop .inv .1

@@ -22,8 +22,13 @@ copied-requires : tie.Need-copied-requires
 copied-requires c κs =
     let a = c .before .before .before .before .before .before .args in
     let asked = c .before .before .before .before .before .before .pre in
-    let told = c .before .length in
-    (open-identifier (a .t .now) (asked .0) (Frame (a .f)) (asked .2), part-low (a .t .now) (asked .0) (a .bytes .now) (asked .1) (a .f) (asked .2) (told .result) (told .ensures), part-high (a .t .now) (asked .0) (a .bytes .now) (asked .1) (a .f) (asked .2) (told .result) (told .ensures))
+    let told = c .before .length in (
+      open-identifier (a .t .now) (asked .0) (Frame (a .f)) (asked .2),
+      part-low (a .t .now) (asked .0) (a .bytes .now) (asked .1)
+          (a .f) (asked .2) (told .result) (told .ensures),
+      part-high (a .t .now) (asked .0) (a .bytes .now) (asked .1) (a .f)
+          (asked .2) (told .result) (told .ensures),
+    )
 
 returns-2 : tie.Need-returns-2
 returns-2 c =
@@ -31,7 +36,9 @@ returns-2 c =
     let asked = c .before .before .before .before .before .before .before .pre in
     let published = c .before .before .before .before .published in
     let told = c .before .before .length in
-    rw (← published .ensures, not-false (published .result) (c .before .before .before .if1 .left), c .copied .ensures) (ap (copied (a .t .now) (Frame (a .f))) (part-data (a .t .now) (asked .0) (a .bytes .now) (asked .1) (a .f) (asked .2) (told .result) (told .ensures)))
+    rw (← published .ensures, not-false (published .result) (c .before .before .before .if1 .left), c .copied .ensures)
+    (ap (copied (a .t .now) (Frame (a .f))) (part-data (a .t .now) (asked .0) (a .bytes .now) (asked .1) (a .f) (asked .2)
+    (told .result) (told .ensures)))
 
 pub frame-copy-spec : {M : Type 1} → statement M
 frame-copy-spec =

@@ -25,8 +25,12 @@ array-write-all c = omega (arith, c .before .loop-test .taken, c .before .before
 loop-again : tie.Need-loop-again Inv-loop μ-loop
 loop-again c =
     let at = c .before .before .loop in
-    let test = c .before .loop-test in
-    (omega (arith, test .taken), refl, copy-turn (replicate 9 255) (c .before .before .before .args .bytes .now) _ (at .i) (test .taken) (omega (arith, test .taken, c .before .before .before .pre)) (at .inv .2))
+    let test = c .before .loop-test in (
+      omega (arith, test .taken),
+      refl,
+      copy-turn (replicate 9 255) (c .before .before .before .args .bytes .now) _ (at .i)
+          (test .taken) (omega (arith, test .taken, c .before .before .before .pre)) (at .inv .2),
+    )
 
 array-write-all-2 : tie.Need-array-write-all-2 Inv-loop μ-loop
 array-write-all-2 c = omega (arith, c .before .before .pre)

@@ -11,7 +11,14 @@ returns c = rw (← c .before .before .kind .ensures, ← c .before .target .ens
 
 returns-2 : tie.Need-returns-2
 unfolding entryOpens
-returns-2 c = rw (← c .before .before .before .before .kind .ensures, ← c .before .before .before .target .ensures, ne-eqb _ _ (c .before .before .if1 .left), eq-eqb _ _ (c .before .if2 .taken), c .list-has .ensures)
+returns-2 c = rw (
+  ← c .before .before .before .before .kind .ensures,
+  ← c .before .before .before .target .ensures,
+  ne-eqb _ _
+      (c .before .before .if1 .left),
+  eq-eqb _ _ (c .before .if2 .taken),
+  c .list-has .ensures,
+)
 
 returns-3 : tie.Need-returns-3
 unfolding entryOpens

@@ -25,7 +25,17 @@ returns-3 c =
     let if1 = c .before .before .before .before .before .if1 in
     let published = c .before .before .before .before .published in
     let is-array = c .before .before .is-array in
-    rw (← count .ensures, lt-ltb _ _ (if1 .left), ← published .ensures, not-false (published .result) (c .before .before .before .if2 .left), ← is-array .ensures, not-true (Bool·beq (is-array .result) (a .array)) (c .before .if3 .taken), c .refused3 .ensures)
+    rw (
+      ← count .ensures,
+      lt-ltb _ _ (if1 .left),
+      ← published .ensures,
+      not-false (published .result)
+          (c .before .before .before .if2 .left),
+      ← is-array .ensures,
+      not-true (Bool·beq (is-array .result) (a .array))
+          (c .before .if3 .taken),
+      c .refused3 .ensures,
+    )
 
 returns-4 : tie.Need-returns-4
 unfolding writable
@@ -35,7 +45,18 @@ returns-4 c =
     let if1 = c .before .before .before .before .before .before .if1 in
     let published = c .before .before .before .before .before .published in
     let is-array = c .before .before .before .is-array in
-    rw (← count .ensures, lt-ltb _ _ (if1 .left), ← published .ensures, not-false (published .result) (c .before .before .before .before .if2 .left), ← is-array .ensures, not-false (Bool·beq (is-array .result) (a .array)) (c .before .before .if3 .left), not-true (a .fits) (c .before .if4 .taken), c .refused4 .ensures)
+    rw (
+      ← count .ensures,
+      lt-ltb _ _ (if1 .left),
+      ← published .ensures,
+      not-false (published .result)
+          (c .before .before .before .before .if2 .left),
+      ← is-array .ensures,
+      not-false (Bool·beq (is-array .result) (a .array))
+          (c .before .before .if3 .left),
+      not-true (a .fits) (c .before .if4 .taken),
+      c .refused4 .ensures,
+    )
 
 returns-5 : tie.Need-returns-5
 unfolding writable
@@ -45,7 +66,17 @@ returns-5 c =
     let if1 = c .before .before .before .before .before .if1 in
     let published = c .before .before .before .before .published in
     let is-array = c .before .before .is-array in
-    rw (← count .ensures, lt-ltb _ _ (if1 .left), ← published .ensures, not-false (published .result) (c .before .before .before .if2 .left), ← is-array .ensures, not-false (Bool·beq (is-array .result) (a .array)) (c .before .if3 .left), not-false (a .fits) (c .if4 .left))
+    rw (
+      ← count .ensures,
+      lt-ltb _ _ (if1 .left),
+      ← published .ensures,
+      not-false (published .result)
+          (c .before .before .before .if2 .left),
+      ← is-array .ensures,
+      not-false (Bool·beq (is-array .result) (a .array))
+          (c .before .if3 .left),
+      not-false (a .fits) (c .if4 .left),
+    )
 
 pub writable-spec : {M : Type 1} → statement M
 writable-spec =

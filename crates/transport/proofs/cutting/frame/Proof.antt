@@ -1,7 +1,6 @@
 -- `cutting::frame` meets its contract.
 use mathlib.Core.Path.{sym, _∙_}
 use Rattle.transport.proofs.Counting.{counted-high, cut-refused, cut-frame, cut-missing}
-use Rattle.transport.specs.Cutting.{cutOf}
 use borrow.Author.Needs.{needs}
 use Rattle.transport.proofs.cutting.frame.Statement.{statement}
 use Rattle.transport.proofs.cutting.frame.Tie as tie

@@ -7,7 +7,15 @@ use Rattle.transport.proofs.cutting.with_six.Tie as tie
 returns : tie.Need-returns
 returns c =
     let d = c .before .before .before in
-    simp (six, d .before .before .data-byte .ensures, d .before .data-byte2 .ensures, d .data-byte3 .ensures, c .before .before .data-byte4 .ensures, c .before .data-byte5 .ensures, c .data-byte6 .ensures)
+    simp (
+      six,
+      d .before .before .data-byte .ensures,
+      d .before .data-byte2 .ensures,
+      d .data-byte3 .ensures,
+      c .before .before .data-byte4 .ensures,
+      c .before .data-byte5 .ensures,
+      c .data-byte6 .ensures,
+    )
 
 pub with-six-spec : {M : Type 1} → statement M
 with-six-spec =

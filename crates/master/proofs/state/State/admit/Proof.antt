@@ -22,14 +22,31 @@ returns-3 c =
     let enum-told = c .before .before .before .before .before .enum-told in
     let buffer-size = c .before .before .before .before .buffer-size in
     let fits2 = c .before .before .fits2 in
-    rw (← check .ensures, enum-told .given .1, ← buffer-size .ensures, eq-eqb _ _ (c .before .before .before .if1 .left), ← fits2 .ensures, not-true (fits2 .result) (c .before .if2 .taken), c .refused2 .ensures)
+    rw (
+      ← check .ensures,
+      enum-told .given .1,
+      ← buffer-size .ensures,
+      eq-eqb _ _ (c .before .before .before .if1 .left),
+      ←
+          fits2 .ensures,
+      not-true (fits2 .result) (c .before .if2 .taken),
+      c .refused2 .ensures,
+    )
 
 returns-4 : tie.Need-returns-4
 unfolding admitted
 returns-4 c =
     let check = c .before .before .before .before .before .before .check in
     let enum-told = c .before .before .before .before .enum-told in
-    rw (← check .ensures, enum-told .given .1, ← c .before .before .before .buffer-size .ensures, eq-eqb _ _ (c .before .before .if1 .left), ← c .before .fits2 .ensures, not-false (c .before .fits2 .result) (c .if2 .left))
+    rw (
+      ← check .ensures,
+      enum-told .given .1,
+      ← c .before .before .before .buffer-size .ensures,
+      eq-eqb _ _
+          (c .before .before .if1 .left),
+      ← c .before .fits2 .ensures,
+      not-false (c .before .fits2 .result) (c .if2 .left),
+    )
 
 pub admit-spec : {M : Type 1} → statement M
 admit-spec =

@@ -22,7 +22,14 @@ returns-3 c =
     let is-there = c .before .before .before .before .before .is-there in
     let is-there2 = c .before .before .before .is-there2 in
     let wait-fits = c .before .wait-fits in
-    rw (← is-there .ensures, not-false (is-there .result) (c .before .before .before .before .if1 .left), ← is-there2 .ensures, not-false (is-there2 .result) (c .before .before .if2 .left), ← wait-fits .ensures, not-true (wait-fits .result) (c .if3 .taken))
+    rw (
+      ← is-there .ensures,
+      not-false (is-there .result) (c .before .before .before .before .if1 .left),
+      ← is-there2 .ensures,
+      not-false (is-there2 .result) (c .before .before .if2 .left),
+      ← wait-fits .ensures,
+      not-true (wait-fits .result) (c .if3 .taken),
+    )
 
 returns-4 : tie.Need-returns-4
 unfolding stateFits
@@ -32,7 +39,18 @@ returns-4 c =
     let is-there2 = c .before .before .before .before .before .is-there2 in
     let wait-fits = c .before .before .before .wait-fits in
     let pending-fits = c .before .pending-fits in
-    rw (← is-there .ensures, not-false (is-there .result) (if1 .left), ← is-there2 .ensures, not-false (is-there2 .result) (c .before .before .before .before .if2 .left), ← wait-fits .ensures, not-false (wait-fits .result) (c .before .before .if3 .left), ← pending-fits .ensures, not-true (pending-fits .result) (c .if4 .taken))
+    rw (
+      ← is-there .ensures,
+      not-false (is-there .result) (if1 .left),
+      ← is-there2 .ensures,
+      not-false (is-there2 .result)
+          (c .before .before .before .before .if2 .left),
+      ← wait-fits .ensures,
+      not-false (wait-fits .result)
+          (c .before .before .if3 .left),
+      ← pending-fits .ensures,
+      not-true (pending-fits .result) (c .if4 .taken),
+    )
 
 returns-5 : tie.Need-returns-5
 unfolding stateFits
@@ -43,7 +61,20 @@ returns-5 c =
     let if2 = c .before .before .before .before .before .before .if2 in
     let wait-fits = c .before .before .before .before .before .wait-fits in
     let pending-fits = c .before .before .before .pending-fits in
-    rw (← is-there .ensures, not-false (is-there .result) (if1 .left), ← is-there2 .ensures, not-false (is-there2 .result) (if2 .left), ← wait-fits .ensures, not-false (wait-fits .result) (c .before .before .before .before .if3 .left), ← pending-fits .ensures, not-false (pending-fits .result) (c .before .before .if4 .left), ← c .before .can-open .ensures, not-true (c .before .can-open .result) (c .if5 .taken))
+    rw (
+      ← is-there .ensures,
+      not-false (is-there .result) (if1 .left),
+      ← is-there2 .ensures,
+      not-false (is-there2 .result)
+          (if2 .left),
+      ← wait-fits .ensures,
+      not-false (wait-fits .result) (c .before .before .before .before .if3 .left),
+      ←
+          pending-fits .ensures,
+      not-false (pending-fits .result) (c .before .before .if4 .left),
+      ← c .before .can-open .ensures,
+      not-true (c .before .can-open .result) (c .if5 .taken),
+    )
 
 returns-6 : tie.Need-returns-6
 unfolding stateFits
@@ -57,7 +88,23 @@ returns-6 c =
     let pending-fits = c .before .before .before .before .before .pending-fits in
     let can-open = c .before .before .before .can-open in
     let count-fits = c .before .count-fits in
-    rw (← is-there .ensures, not-false (is-there .result) (if1 .left), ← is-there2 .ensures, not-false (is-there2 .result) (if2 .left), ← wait-fits .ensures, not-false (wait-fits .result) (if3 .left), ← pending-fits .ensures, not-false (pending-fits .result) (c .before .before .before .before .if4 .left), ← can-open .ensures, not-false (can-open .result) (c .before .before .if5 .left), ← count-fits .ensures, not-true (count-fits .result) (c .if6 .taken))
+    rw (
+      ← is-there .ensures,
+      not-false (is-there .result) (if1 .left),
+      ← is-there2 .ensures,
+      not-false (is-there2 .result)
+          (if2 .left),
+      ← wait-fits .ensures,
+      not-false (wait-fits .result) (if3 .left),
+      ← pending-fits .ensures,
+      not-false
+          (pending-fits .result) (c .before .before .before .before .if4 .left),
+      ← can-open .ensures,
+      not-false (can-open .result)
+          (c .before .before .if5 .left),
+      ← count-fits .ensures,
+      not-true (count-fits .result) (c .if6 .taken),
+    )
 
 returns-7 : tie.Need-returns-7
 unfolding stateFits
@@ -72,7 +119,24 @@ returns-7 c =
     let if4 = c .before .before .before .before .before .if4 in
     let can-open = c .before .before .before .before .can-open in
     let count-fits = c .before .before .count-fits in
-    rw (← is-there .ensures, not-false (is-there .result) (if1 .left), ← is-there2 .ensures, not-false (is-there2 .result) (if2 .left), ← wait-fits .ensures, not-false (wait-fits .result) (if3 .left), ← pending-fits .ensures, not-false (pending-fits .result) (if4 .left), ← can-open .ensures, not-false (can-open .result) (c .before .before .before .if5 .left), ← count-fits .ensures, not-false (count-fits .result) (c .before .if6 .left), c .fits2 .ensures)
+    rw (
+      ← is-there .ensures,
+      not-false (is-there .result) (if1 .left),
+      ← is-there2 .ensures,
+      not-false (is-there2 .result)
+          (if2 .left),
+      ← wait-fits .ensures,
+      not-false (wait-fits .result) (if3 .left),
+      ← pending-fits .ensures,
+      not-false
+          (pending-fits .result) (if4 .left),
+      ← can-open .ensures,
+      not-false (can-open .result)
+          (c .before .before .before .if5 .left),
+      ← count-fits .ensures,
+      not-false (count-fits .result) (c .before .if6 .left),
+      c .fits2 .ensures,
+    )
 
 pub fits-spec : {M : Type 1} → statement M
 fits-spec =

@@ -17,7 +17,16 @@ returns-2 c =
     let buffer-size = c .before .before .before .before .before .before .before .buffer-size in
     let admit = c .before .before .before .before .before .before .admit in
     let enum-told = c .before .before .before .before .enum-told in
-    rw (← buffer-size .ensures, ← admit .ensures, enum-told .given .1, ← c .before .before .before .count .ensures, ← c .before .before .member-of .ensures, le-ltb _ _ (c .before .if1 .taken), c .refused .ensures)
+    rw (
+      ← buffer-size .ensures,
+      ← admit .ensures,
+      enum-told .given .1,
+      ← c .before .before .before .count .ensures,
+      ←
+          c .before .before .member-of .ensures,
+      le-ltb _ _ (c .before .if1 .taken),
+      c .refused .ensures,
+    )
 
 returns-3 : tie.Need-returns-3
 unfolding aheadVerdict

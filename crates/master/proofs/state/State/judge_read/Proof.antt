@@ -24,7 +24,16 @@ returns-3 c =
     let enum-told = c .before .before .before .before .before .enum-told in
     let count = c .before .before .before .before .count in
     let is-array = c .before .before .is-array in
-    rw (← admit .ensures, enum-told .given .1, ← count .ensures, lt-ltb _ _ (c .before .before .before .if1 .left), ← is-array .ensures, not-true (Bool·beq (is-array .result) (a .array)) (c .before .if2 .taken), c .refused2 .ensures)
+    rw (
+      ← admit .ensures,
+      enum-told .given .1,
+      ← count .ensures,
+      lt-ltb _ _ (c .before .before .before .if1 .left),
+      ←
+          is-array .ensures,
+      not-true (Bool·beq (is-array .result) (a .array)) (c .before .if2 .taken),
+      c .refused2 .ensures,
+    )
 
 returns-4 : tie.Need-returns-4
 unfolding readVerdict
@@ -32,7 +41,15 @@ returns-4 c =
     let a = c .before .before .before .before .before .before .before .before .args in
     let admit = c .before .before .before .before .before .before .admit in
     let enum-told = c .before .before .before .before .enum-told in
-    rw (← admit .ensures, enum-told .given .1, ← c .before .before .before .count .ensures, lt-ltb _ _ (c .before .before .if1 .left), ← c .before .is-array .ensures, not-false (Bool·beq (c .before .is-array .result) (a .array)) (c .if2 .left))
+    rw (
+      ← admit .ensures,
+      enum-told .given .1,
+      ← c .before .before .before .count .ensures,
+      lt-ltb _ _
+          (c .before .before .if1 .left),
+      ← c .before .is-array .ensures,
+      not-false (Bool·beq (c .before .is-array .result) (a .array)) (c .if2 .left),
+    )
 
 pub judge-read-spec : {M : Type 1} → statement M
 judge-read-spec =

@@ -31,7 +31,16 @@ returns-4 c =
     let buffer-size = c .before .before .before .before .before .before .before .before .buffer-size in
     let admit = c .before .before .before .before .before .before .before .admit in
     let enum-told = c .before .before .before .before .before .enum-told in
-    rw (← buffer-size .ensures, ← admit .ensures, enum-told .given .1, le-leb _ _ (c .before .before .before .before .if1 .left), le-leb _ _ (c .before .before .before .if2 .left), ← c .before .before .is-sending .ensures, c .before .if3 .taken, c .refused3 .ensures)
+    rw (
+      ← buffer-size .ensures,
+      ← admit .ensures,
+      enum-told .given .1,
+      le-leb _ _ (c .before .before .before .before .if1 .left),
+      le-leb _ _ (c .before .before .before .if2 .left),
+      ← c .before .before .is-sending .ensures,
+      c .before .if3 .taken,
+      c .refused3 .ensures,
+    )
 
 returns-5 : tie.Need-returns-5
 unfolding sendVerdict
@@ -39,7 +48,16 @@ returns-5 c =
     let buffer-size = c .before .before .before .before .before .before .before .buffer-size in
     let admit = c .before .before .before .before .before .before .admit in
     let enum-told = c .before .before .before .before .enum-told in
-    rw (← buffer-size .ensures, ← admit .ensures, enum-told .given .1, le-leb _ _ (c .before .before .before .if1 .left), le-leb _ _ (c .before .before .if2 .left), ← c .before .is-sending .ensures, c .if3 .left)
+    rw (
+      ← buffer-size .ensures,
+      ← admit .ensures,
+      enum-told .given .1,
+      le-leb _ _ (c .before .before .before .if1 .left),
+      le-leb _
+          _ (c .before .before .if2 .left),
+      ← c .before .is-sending .ensures,
+      c .if3 .left,
+    )
 
 pub judge-send-spec : {M : Type 1} → statement M
 judge-send-spec =

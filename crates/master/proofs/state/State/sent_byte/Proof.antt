@@ -31,17 +31,33 @@ passed-requires c κs =
 
 returns-2 : tie.Need-returns-2
 unfolding sentByte
-returns-2 c = rw (eq-eqb _ _ (c .before .before .before .before .if1 .left), ← c .before .before .before .early .ensures, c .before .before .if2 .taken, c .answering2 .ensures, c .before .passed .ensures)
+returns-2 c = rw (
+  eq-eqb _ _ (c .before .before .before .before .if1 .left),
+  ← c .before .before .before .early .ensures,
+  c .before .before .if2 .taken,
+  c .answering2 .ensures,
+  c .before .passed .ensures,
+)
 
 sent-requires : tie.Need-sent-requires
 sent-requires c κs =
     let a = c .before .before .before .before .before .before .before .args in
-    let asked = c .before .before .before .before .before .before .before .pre in
-    (byte-table (a .t .now) (bufferSize (a .t .now)) (a .self) asked, byte-fits (a .t .now) (bufferSize (a .t .now)) (a .self) asked .frame-there, byte-fits (a .t .now) (bufferSize (a .t .now)) (a .self) asked .message-fits)
+    let asked = c .before .before .before .before .before .before .before .pre in (
+      byte-table (a .t .now) (bufferSize (a .t .now)) (a .self) asked,
+      byte-fits (a .t .now) (bufferSize (a .t .now)) (a .self)
+          asked .frame-there,
+      byte-fits (a .t .now) (bufferSize (a .t .now)) (a .self) asked .message-fits,
+    )
 
 returns-3 : tie.Need-returns-3
 unfolding sentByte
-returns-3 c = rw (eq-eqb _ _ (c .before .before .before .before .if1 .left), ← c .before .before .before .early .ensures, c .before .before .if2 .left, c .answering3 .ensures, c .before .sent .ensures)
+returns-3 c = rw (
+  eq-eqb _ _ (c .before .before .before .before .if1 .left),
+  ← c .before .before .before .early .ensures,
+  c .before .before .if2 .left,
+  c .answering3 .ensures,
+  c .before .sent .ensures,
+)
 
 pub sent-byte-spec : {M : Type 1} → statement M
 sent-byte-spec =

@@ -27,8 +27,13 @@ open-requires c κs =
     let closed = c .before .before .before .before .before .before .before .before .before .abandoned .result in
     let f = tick-fits (a .t .now) (length (a .bytes .now)) (length (a .lent .now)) (a .self) asked in
     let ok = tick-table (a .t .now) (length (a .bytes .now)) (length (a .lent .now)) (a .self) asked in
-    let there = due-there (a .t .now) ok (a .self .plan .requested) (a .self .plan .current) (f .schedule-there) (f .entry-there) in
-    (ok, tick-size (a .t .now) (length (a .bytes .now)) (length (a .lent .now)) (a .self) asked, rw (c .before .before .slot-opens .ensures) (slot-opens (a .t .now) ok (closed .pending) (closed .message) (e′ .given .0 .0) (entry-below (a .t .now) (e′ .given .0 .0) (rw (← due .ensures, e′ .given .1) at there)) .frame-there))
+    let there = due-there (a .t .now) ok (a .self .plan .requested) (a .self .plan .current) (f .schedule-there) (f .entry-there) in (
+      ok,
+      tick-size (a .t .now) (length (a .bytes .now)) (length (a .lent .now)) (a .self) asked,
+      rw
+          (c .before .before .slot-opens .ensures) (slot-opens (a .t .now) ok (closed .pending) (closed .message) (e′ .given .0 .0)
+          (entry-below (a .t .now) (e′ .given .0 .0) (rw (← due .ensures, e′ .given .1) at there)) .frame-there),
+    )
 
 returns : tie.Need-returns
 unfolding slot slotAt

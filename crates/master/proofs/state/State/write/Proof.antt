@@ -19,15 +19,24 @@ returns c =
 cast-put-scalar : tie.Need-cast-put-scalar
 cast-put-scalar c =
     let a = c .before .before .before .before .before .before .args in
-    record { fits = omega (arith, write-value-below (a .t .now) (length (a .bytes .now)) (a .self) (a .s) (a .v) (sym (c .before .before .before .judge-scalar .ensures) ∙ c .before .enum-told .given .1)) }
+    record {
+      fits = omega (
+        arith,
+        write-value-below (a .t .now) (length (a .bytes .now)) (a .self) (a .s) (a .v)
+            (sym (c .before .before .before .judge-scalar .ensures) ∙ c .before .enum-told .given .1),
+      );
+    }
 
 marked-requires : tie.Need-marked-requires
 marked-requires c κs =
     let a = c .before .before .before .before .before .before .before .before .before .args in
     let judge-scalar = c .before .before .before .before .before .before .judge-scalar in
     let enum-told = c .before .before .before .before .enum-told in
-    let e = (sym (judge-scalar .ensures) ∙ enum-told .given .1) in
-    (write-table (a .t .now) (length (a .bytes .now)) (a .self) (a .s) false (valueFits (a .t .now) (a .s) (a .v)) e, write-signal (a .t .now) (length (a .bytes .now)) (a .self) (a .s) false (valueFits (a .t .now) (a .s) (a .v)) e .below)
+    let e = (sym (judge-scalar .ensures) ∙ enum-told .given .1) in (
+      write-table (a .t .now) (length (a .bytes .now)) (a .self) (a .s) false (valueFits (a .t .now) (a .s) (a .v)) e,
+      write-signal
+          (a .t .now) (length (a .bytes .now)) (a .self) (a .s) false (valueFits (a .t .now) (a .s) (a .v)) e .below,
+    )
 
 returns-2 : tie.Need-returns-2
 unfolding writeOf

@@ -20,8 +20,10 @@ marked-requires c κs =
     let a = c .before .before .before .before .before .before .before .before .before .before .args in
     let judge-array = c .before .before .before .before .before .before .judge-array in
     let enum-told = c .before .before .before .before .enum-told in
-    let e = (sym (judge-array .ensures) ∙ enum-told .given .1) in
-    (write-table (a .t .now) (length (a .bytes .now)) (a .self) (a .s) true (arrayFits (a .t .now) (a .s) (a .values .now)) e, write-signal (a .t .now) (length (a .bytes .now)) (a .self) (a .s) true (arrayFits (a .t .now) (a .s) (a .values .now)) e .below)
+    let e = (sym (judge-array .ensures) ∙ enum-told .given .1) in (
+      write-table (a .t .now) (length (a .bytes .now)) (a .self) (a .s) true (arrayFits (a .t .now) (a .s) (a .values .now)) e,
+      write-signal (a .t .now) (length (a .bytes .now)) (a .self) (a .s) true (arrayFits (a .t .now) (a .s) (a .values .now)) e .below,
+    )
 
 returns-2 : tie.Need-returns-2
 unfolding writeOf

@@ -1,9 +1,8 @@
 -- `Assembly::fits` meets its contract: each way out has the tests that led there.
 use Rattle.transport.proofs.Fitting.{fits-by-counter}
 use Rattle.transport.specs.Reassembly.{assemblyFits}
-use borrow.Author.Tests.{eq-eqb, ne-eqb, lt-ltb, le-ltb, lt-leb, le-leb}
+use borrow.Author.Tests.{eq-eqb, ne-eqb, le-ltb, lt-leb, le-leb}
 use native.Mathlib.Omega.{arith}
-use mathlib.Core.Path.{_≡_}
 use Prim.Native.Nat.{_+_, _-_, _*_, _/_}
 use borrow.Author.Needs.{needs}
 use Rattle.transport.proofs.reassembly.Assembly.fits.Statement.{statement}

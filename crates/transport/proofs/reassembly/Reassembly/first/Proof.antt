@@ -20,7 +20,8 @@ cast-if2 : tie.Need-cast-if2
 cast-if2 c = omega (arith, c .before .shared-slice-known3 .given 2)
 
 returns : tie.Need-returns
-returns c = ⊎-elim (λ w. leaves-plain _ _ _ _ _ (first-low _ _ _ (w .taken)) (c .answering .ensures)) (λ w. leaves-plain _ _ _ _ _ (first-high _ _ _ (w .0 .left) (ltb-true _ _ (w .1 .taken))) (c .answering .ensures)) (c .before .if1 .came)
+returns c = ⊎-elim (λ w. leaves-plain _ _ _ _ _ (first-low _ _ _ (w .taken)) (c .answering .ensures))
+    (λ w. leaves-plain _ _ _ _ _ (first-high _ _ _ (w .0 .left) (ltb-true _ _ (w .1 .taken))) (c .answering .ensures)) (c .before .if1 .came)
 
 deliver-requires : tie.Need-deliver-requires
 deliver-requires c κs =
