@@ -8,11 +8,12 @@ use borrow.Author.Tests.{lt-ltb, eqb-true}
 use lib.ListN.{length, getD, take, drop, replicate, length-take, length-drop, drop-of-length-le}
 use lib.Seq.{getD-take, getD-drop, ext-getD}
 use Rattle.wire.specs.Bits.{Bytes}
-use Rattle.signal.specs.Signal.{bitAt, inside}
+use Rattle.signal.specs.Signal.{bitAt}
 use Rattle.cluster.specs.declared.Verdict.the-variants.{Accepted}
 use Rattle.cluster.specs.Check.{then, RightTable}
-use Rattle.cluster.specs.Table.{frameCount, frameLength, signalCount, signalWidth, isArray}
-use Rattle.cluster.specs.Fresh.{signalPlace, arrayLength}
+use Rattle.cluster.specs.Table.{frameCount, frameLength, signalCount, isArray}
+use Rattle.cluster.specs.Places.{occupies}
+use Rattle.cluster.specs.Fresh.{arrayLength}
 use Rattle.cluster.specs.Values.{touches, valueFits, arrayFits, arrayRead, withScalar, withArray}
 use Rattle.cluster.proofs.Accepted.{then-first, then-second}
 use Rattle.cluster.proofs.FrameLaws.{frame-length-high}
@@ -153,7 +154,7 @@ write-array-other-frames t x bs s vs hb f n =
 -- ---- the other bits
 
 -- a write of a scalar, refused or not, changes no bit outside the signal
-pub write-outside : (t : List ℕ) (x : State) (bs : List ℕ) (s v j : ℕ) → inside (signalPlace t s) (signalWidth t s) j ≡ false
+pub write-outside : (t : List ℕ) (x : State) (bs : List ℕ) (s v j : ℕ) → occupies t s j ≡ false
     → bitAt (writeOf t x bs s v .left) j ≡ bitAt bs j
 unfolding writeOf wrote
 write-outside t x bs s v j n =
@@ -164,7 +165,7 @@ write-outside t x bs s v j n =
 
 -- a write of an array, refused or not, changes no bit outside the signal
 pub write-array-outside : (t : List ℕ) (x : State) (bs : List ℕ) (s : ℕ) (vs : List ℕ) (j : ℕ)
-    → inside (signalPlace t s) (signalWidth t s) j ≡ false → bitAt (writeArrayOf t x bs s vs .left) j ≡ bitAt bs j
+    → occupies t s j ≡ false → bitAt (writeArrayOf t x bs s vs .left) j ≡ bitAt bs j
 unfolding writeArrayOf wrote
 write-array-outside t x bs s vs j n =
     by-verdict (λ (w : Step Wrote). bitAt (w .left) j ≡ bitAt bs j) (arrayVerdict t x bs s vs) _ _
