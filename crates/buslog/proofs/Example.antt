@@ -8,7 +8,8 @@ use Rattle.wire.specs.Identifier.{p0, p1, protectedByte, rightParity}
 use Rattle.wire.specs.Checksum.{withCarry, sum, covered, modelOf, inverted, checksumByte}
 use Rattle.cluster.specs.Lists.{firstFrom}
 use Rattle.cluster.specs.Table as table
-use Rattle.cluster.specs.Right.{anyBelow, headerRight, identifierRight, lengthRight, flagsRight, frameRight, records, wordsRight}
+use Rattle.cluster.specs.Columns.{headerColumns, frameColumns}
+use Rattle.cluster.specs.Right.{anyBelow, headerRight, frameRight, records, wordsRight}
 use Rattle.cluster.specs.Check.{faults, surplus, judged, RightTable}
 use Rattle.buslog.specs.Pairs.{digitOf, isPair, pairByte, arePairs, pairBytes, lineBytes, digitCharacter, pairOf}
 use Rattle.buslog.specs.Verdict.{frameWith, knownVerdict, identifierVerdict, bytesVerdict, lineVerdict}
@@ -39,6 +40,5 @@ example = refl
 
 -- the built-in table is accepted, so no part of a log is refused under it
 pub built-in-right : RightTable builtIn
-unfolding builtIn judged faults surplus wordsRight records headerRight frameRight identifierRight lengthRight flagsRight anyBelow
-    table.word table.frameCount table.signalCount table.memberCount table.entryCount table.size table.identifier table.frameLength table.flags
+unfolding builtIn judged faults surplus wordsRight records headerRight headerColumns frameRight frameColumns anyBelow table.word table.frameCount table.signalCount table.memberCount table.entryCount table.size table.identifier table.frameLength table.flags
 built-in-right = refl

@@ -12,7 +12,8 @@ use lib.ListN.{length, length-append}
 use Rattle.wire.proofs.Tests.{and-left, and-right, whether}
 use Rattle.cluster.specs.Check.{faults, then, surplus, judged, RightTable}
 use Rattle.cluster.specs.Right.{records, wordsRight, headerRight, frameRight, signalRight, memberRight, entryRight}
-use Rattle.cluster.specs.Table.{frameCount, signalCount, memberCount, entryCount, size}
+use Rattle.cluster.specs.Columns.{headerColumns, frameColumns, signalColumns, memberColumns, entryColumns}
+use Rattle.cluster.specs.Table.{frameCount, signalCount, memberCount, entryCount, frameWords, signalWords, memberWords, entryWords, size}
 use Rattle.cluster.specs.declared.Verdict.{Verdict}
 use Rattle.cluster.specs.declared.Verdict.the-variants.{Accepted, Refused}
 
@@ -88,14 +89,14 @@ not-surplus t h =
 
 -- there is one test for each word
 pub words : (t : List ℕ) → length (wordsRight t) ≡ size t
-unfolding wordsRight headerRight frameRight signalRight memberRight entryRight size
+unfolding wordsRight headerRight frameRight signalRight memberRight entryRight headerColumns frameColumns signalColumns memberColumns entryColumns size
 words t =
     simp (
       length-append,
-      length-records (frameRight t) 3 (λ j. refl) 0 (frameCount t),
-      length-records (signalRight t) 5 (λ j. refl) 0 (signalCount t),
-      length-records (memberRight t) 2 (λ j. refl) 0 (memberCount t),
-      length-records (entryRight t) 4 (λ j. refl) 0 (entryCount t),
+      length-records (frameRight t) frameWords (λ j. refl) 0 (frameCount t),
+      length-records (signalRight t) signalWords (λ j. refl) 0 (signalCount t),
+      length-records (memberRight t) memberWords (λ j. refl) 0 (memberCount t),
+      length-records (entryRight t) entryWords (λ j. refl) 0 (entryCount t),
     )
     (omega arith)
 

@@ -1,7 +1,7 @@
 -- A test that holds at some number below a bound, or at none.
 use Prim.Native.Nat.{ℕ, zero, suc, _<_}
-use mathlib.Core.Path.{_≡_, refl}
-use mathlib.Core.Bool.{Bool, true, false, _||_}
+use mathlib.Core.Path.{_≡_, refl, sym, _∙_}
+use mathlib.Core.Bool.{Bool, true, false, true≢false, _||_}
 use native.Mathlib.Decide.{ℕ-discrete}
 use native.Mathlib.Omega.{arith}
 use Rattle.wire.proofs.Tests.{whether}
@@ -33,6 +33,18 @@ any-found (suc n) test h =
     whether (test n)
     (λ e. (n, omega arith, e))
     (λ e. let found = any-found n test (rw e at h) in (found .0, omega (arith, found .1), found .2))
+
+-- a test that holds at a number below n holds somewhere below n
+pub any-at : (n : ℕ) (test : ℕ → Bool) (k : ℕ) → k < n → test k ≡ true → anyBelow n test ≡ true
+any-at n test k h e =
+    whether (anyBelow n test) (λ a. a) (λ a. absurd (true≢false (sym e ∙ none-below n test a k h)))
+
+-- a test that holds nowhere below n
+pub any-none : (n : ℕ) (test : ℕ → Bool) → ((k : ℕ) → k < n → test k ≡ false) → anyBelow n test ≡ false
+any-none n test none =
+    whether (anyBelow n test)
+    (λ a. let found = any-found n test a in absurd (true≢false (sym (found .2) ∙ none (found .0) (found .1))))
+    (λ a. a)
 
 pub any-ext : (n : ℕ) (f g : ℕ → Bool) → ((k : ℕ) → k < n → f k ≡ g k) → anyBelow n f ≡ anyBelow n g
 unfolding anyBelow

@@ -1,14 +1,13 @@
 -- List and schedule numbers: how many there are, and how the check counts them.
 use Prim.Native.Nat.{ℕ, zero, suc, _+_, _-_, _≤_}
-use mathlib.Core.Path.{_≡_, refl}
-use mathlib.Core.Bool.{true, or-comm, or-false}
+use mathlib.Core.Path.{_≡_, refl, sym, _∙_}
+use mathlib.Core.Bool.{true, or-true, or-false}
 use native.Mathlib.Numerals.{add-one}
 use native.Mathlib.Omega.{arith}
-use borrow.Author.Tests.{eqb-true}
-use lib.Dec.{eqb, eqb·suc-suc, eqb·suc-zero}
+use borrow.Author.Tests.{eqb-true, eq-eqb, ne-eqb}
+use lib.Dec.{eqb, eqb·suc-suc}
 use Rattle.wire.proofs.Tests.{whether}
-use Rattle.cluster.specs.Right.{countsUp}
-use Rattle.cluster.specs.Seen.{follows}
+use Rattle.cluster.specs.Columns.{follows}
 use Rattle.cluster.specs.Table.{counted}
 
 pub counted-none : (number : ℕ → ℕ) (n : ℕ) → n ≡ 0 → counted number n ≡ 0
@@ -25,17 +24,24 @@ pub counted-next : (number : ℕ → ℕ) (k : ℕ) → counted number (k + 1) �
 unfolding counted
 counted-next number k = rw (add-one k, add-one (number k))
 
--- a number counts up exactly where it follows those before it
-pub counts-up : (number : ℕ → ℕ) (k : ℕ) → countsUp number k ≡ follows (counted number k) (number k)
-unfolding countsUp counted follows
-counts-up number zero = rw (add-one (number 0), eqb·suc-zero, or-false (eqb (number 0) 0))
-counts-up number (suc k) =
-    rw (add-one (number (suc k)), eqb·suc-suc)
-    (or-comm (eqb (number (suc k)) (number k)) (eqb (number (suc k)) (suc (number k))))
+-- ---- a number that follows those before it
 
 pub follows-high : (count number : ℕ) → follows count number ≡ true → number ≤ count
 unfolding follows
-follows-high count number h =
-    whether (eqb number count)
-    (λ e. omega (arith, eqb-true number count e))
-    (λ e. omega (arith, eqb-true (number + 1) count (rw e at h)))
+follows-high zero number h = omega (arith, eqb-true number 0 h)
+follows-high (suc previous) number h =
+    whether (eqb number previous)
+    (λ e. omega (arith, eqb-true number previous e))
+    (λ e. omega (arith, eqb-true number (suc previous) (rw e at h)))
+
+-- one more than those before, or the previous one again
+pub follows-next : (count number : ℕ) → number ≡ count → true ≡ follows count number
+unfolding follows
+follows-next zero number h = sym (eq-eqb number 0 h)
+follows-next (suc previous) number h = sym (rw (eq-eqb number (suc previous) h) (or-true (eqb number previous)))
+
+pub follows-same : (count number : ℕ) → (number ≡ count → ⊥) → eqb (number + 1) count ≡ follows count number
+unfolding follows
+follows-same zero number h = ne-eqb (number + 1) 0 (λ e. omega arith) ∙ sym (ne-eqb number 0 h)
+follows-same (suc previous) number h =
+    rw (add-one number, eqb·suc-suc, ne-eqb number (suc previous) h) (sym (or-false (eqb number previous)))

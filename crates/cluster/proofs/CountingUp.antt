@@ -8,6 +8,7 @@ use native.Mathlib.Omega.{arith}
 use borrow.Author.Tests.{eqb-true}
 use lib.Dec.{eqb}
 use Rattle.wire.proofs.Tests.{whether}
+use Rattle.cluster.specs.Columns.{follows}
 use Rattle.cluster.specs.Right.{countsUp}
 use Rattle.cluster.specs.Table.{counted}
 
@@ -17,12 +18,12 @@ CountsUp number n = (k : ℕ) → k < n → countsUp number k ≡ true
 
 module _ (number : ℕ → ℕ) where
   pub up-first : (n : ℕ) → CountsUp number n → 0 < n → number 0 ≡ 0
-  unfolding countsUp
+  unfolding follows counted
   up-first n up h = eqb-true (number 0) 0 (up 0 h)
 
   pub up-step : (n : ℕ) → CountsUp number n → (k : ℕ) → suc k < n
       → (number (suc k) ≡ number k) ⊎ (number (suc k) ≡ suc (number k))
-  unfolding countsUp
+  unfolding follows counted
   up-step n up k h =
       let u = up (suc k) h in
       whether (eqb (number (suc k)) (number k))

@@ -7,11 +7,11 @@ use native.Mathlib.Omega.{arith}
 use borrow.Author.Tests.{eqb-false}
 use lib.Dec.{eqb}
 use Rattle.signal.proofs.Inside.{order}
-use Rattle.cluster.specs.Right.{anyBelow}
+use Rattle.cluster.specs.Right.{earlier}
 use Rattle.cluster.proofs.Any.{none-below}
 
 -- numbers of which none stands earlier are all different
-pub distinct : (number : ℕ → ℕ) (n : ℕ) → ((k : ℕ) → k < n → anyBelow k (λ j. eqb (number j) (number k)) ≡ false)
+pub distinct : (number : ℕ → ℕ) (n : ℕ) → ((k : ℕ) → k < n → earlier number k ≡ false)
     → (i j : ℕ) → i < n → j < n → number i ≡ number j → i ≡ j
 distinct number n new i j hi hj e =
     elim (ℕ-discrete i j) [

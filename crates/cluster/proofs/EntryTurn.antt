@@ -1,17 +1,22 @@
--- The check of one entry's record: what is seen of its words agrees with the definition.
-use Prim.Native.Nat.{ℕ, zero, suc, _+_, _≤_, _<_}
-use mathlib.Core.Path.{_≡_, refl}
+-- The check of the entries: the words read are the fields.
+use Prim.Native.Nat.{ℕ, zero, suc, _+_, _-_, _≤_, _<_}
+use mathlib.Core.Path.{_≡_, refl, sym, _∙_}
 use mathlib.Core.Bool.{Bool, true}
 use mathlib.Core.List.{List}
+use native.Mathlib.Nat.{sub-zero}
 use native.Mathlib.Omega.{arith}
 use borrow.Author.Tests.{ltb-true, leb-true, eqb-true}
-use lib.Dec.{leb, eqb}
-use Rattle.cluster.specs.Right.{targetRight, entryKindRight, delayRight, entryRight}
-use Rattle.cluster.specs.Seen.{due, leading, follows, entrySeen}
-use Rattle.cluster.specs.Table.{word, counted, frameCount, listCount, entryAt, entrySchedule, entryKind, entryTarget, entryDelay}
-use Rattle.cluster.proofs.Counting.{counts-up, follows-high}
-use Rattle.cluster.proofs.Ranges.{within-high}
-use Rattle.cluster.proofs.Scan.{Agrees, due-is, leading-all}
+use lib.Dec.{eqb}
+use Rattle.cluster.specs.Check.{fault, faults, entryFaults}
+use Rattle.cluster.specs.Columns.{follows, targetRight, entryColumns}
+use Rattle.cluster.specs.Read.{due, leading}
+use Rattle.cluster.specs.Right.{entryRight, records}
+use Rattle.cluster.specs.Table.{mostFrames, mostEntries, counted, frameCount, listCount, entryCount, entryWords, entryAt}
+use Rattle.cluster.specs.Table.{entrySchedule, entryKind, entryTarget, entryDelay}
+use Rattle.cluster.specs.declared.Verdict.the-variants.{Accepted}
+use Rattle.cluster.proofs.Clauses.{within-high}
+use Rattle.cluster.proofs.Counting.{counted-none, counted-next, follows-high}
+use Rattle.cluster.proofs.Scan.{Agrees, leading-all, all-there, halt-record, next-record, no-record}
 
 -- a target is below what its kind allows
 target-below : (frames lists kind target : ℕ) → frames ≤ 60 → lists ≤ 65536 → targetRight frames lists kind target ≡ true → target < 65536
@@ -26,8 +31,21 @@ other-kind frames lists zero target h k = absurd (h refl)
 other-kind frames lists (suc zero) target h k = absurd (k refl)
 other-kind frames lists (suc (suc kind)) target h k = refl
 
+-- the entries before entry e are passed, and their schedules counted
+abbrev pub Passed : List ℕ → ℕ → ℕ → Type 0
+Passed t e schedules = (e ≤ entryCount t)
+    × (schedules ≡ counted (entrySchedule t) e)
+    × (schedules ≤ e)
+    × (entryFaults t ≡ faults t (entryAt t e) (records e (entryCount t - e) (entryRight t)))
+
+pub none-passed : (t : List ℕ) → Passed t 0 0
+none-passed t = (omega arith, sym (counted-none (entrySchedule t) 0 refl), omega arith, rw sub-zero)
+
+pub all-passed : (t : List ℕ) (e schedules : ℕ) → Passed t e schedules → entryCount t ≤ e → Accepted ≡ entryFaults t
+all-passed t e schedules p h = sym (p .3 ∙ no-record t (entryAt t e) (entryRight t) e (entryCount t) h)
+
 module _ (t : List ℕ) (e schedules : ℕ) where
-  -- the words of the record as they are read
+  -- the record's words as they are read
 
   abbrev scheduleRead : ℕ
   scheduleRead = due t (entryAt t e)
@@ -42,39 +60,50 @@ module _ (t : List ℕ) (e schedules : ℕ) where
   delayRead = due t (entryAt t e + 3)
 
   abbrev pub entryRead : List Bool
-  entryRead = entrySeen (frameCount t) (listCount t) (follows schedules scheduleRead) kindRead targetRead delayRead
+  entryRead = entryColumns (frameCount t) (listCount t) (follows schedules scheduleRead) kindRead targetRead delayRead
 
-  kind-is : kindRead < 65536 → kindRead ≡ entryKind t e
-  unfolding entryKind
-  kind-is h = due-is t (entryAt t e + 1) h
-
-  kind-agrees : kindRead ≡ word t (entryAt t e + 1) → entryKindRight t e ≡ leb kindRead 3
-  unfolding entryKindRight entryKind
-  kind-agrees w = rw w
-
-  pub entry-agrees : frameCount t ≤ 60 → listCount t ≤ 65536 → schedules ≡ counted (entrySchedule t) e → schedules ≤ 256
-      → Agrees t (entryAt t e) 0 entryRead (entryRight t e)
-  unfolding entrySeen entryRight entrySchedule entryTarget delayRight entryDelay
-  entry-agrees few fits count small = (
-    (λ h. omega (arith, follows-high schedules scheduleRead h)),
-    (λ w. rw (w, count) (counts-up (entrySchedule t) e)),
-    (λ _. (
-      (λ h. omega (arith, leb-true kindRead 3 h)),
-      kind-agrees,
-      (λ k. let kind = kind-is (omega (arith, leb-true kindRead 3 k)) in (
-        (λ h. target-below (frameCount t) (listCount t) kindRead targetRead few fits h),
-        (λ w. rw (← kind, w)),
-        (λ _. ((λ h. omega (arith, within-high 1 65535 delayRead h)), (λ w. rw w), (λ _. refl))),
+  module _ (p : Passed t e schedules) (h : e < entryCount t) (few : frameCount t ≤ mostFrames) (short : entryCount t ≤ mostEntries)
+      (fits : listCount t ≤ 65536) where
+    agrees : Agrees t (entryAt t e) 0 entryRead (entryRight t e)
+    unfolding entryColumns entryRight entrySchedule entryKind entryTarget entryDelay
+    agrees = (
+      (λ r. omega (arith, follows-high schedules scheduleRead r)),
+      (λ s. (
+        rw (s, p .1),
+        λ _. (
+          (λ r. omega (arith, leb-true kindRead 3 r)),
+          (λ k. (
+            rw k,
+            λ _. (
+              (λ r. target-below (frameCount t) (listCount t) kindRead targetRead few fits r),
+              (λ w. (rw (k, w), λ _. ((λ r. omega (arith, within-high 1 65535 delayRead r)), (λ d. (rw d, λ _. refl))))),
+            ),
+          )),
+        ),
       )),
-    )),
-  )
+    )
 
-  -- ---- an entry of which all words are seen as right
+    -- a word is not right
+    pub stops : leading entryRead < entryWords → (place : ℕ) → entryAt t e + leading entryRead ≡ place → fault place ≡ entryFaults t
+    unfolding entryColumns
+    stops l place is =
+        sym (p .3 ∙ halt-record t (entryRight t) e (entryCount t) (entryAt t e) entryRead place h agrees l is)
 
-  pub schedule-high : 4 ≤ leading entryRead → scheduleRead ≤ schedules
-  unfolding entrySeen
-  schedule-high h = follows-high schedules scheduleRead (leading-all entryRead h .0)
+    -- all words are right: the schedule read is the last so far
+    module _ (right : entryWords ≤ leading entryRead) where
+      schedule-is : scheduleRead ≡ entrySchedule t e
+      unfolding entryColumns entrySchedule
+      schedule-is = all-there t (entryAt t e) 0 entryRead (entryRight t e) agrees (leading-all entryRead right) .0
 
-  pub schedule-read : 4 ≤ leading entryRead → schedules ≤ 256 → scheduleRead ≡ entrySchedule t e
-  unfolding entrySchedule
-  schedule-read h small = due-is t (entryAt t e) (omega (arith, schedule-high h))
+      schedule-high : scheduleRead ≤ schedules
+      unfolding entryColumns
+      schedule-high = follows-high schedules scheduleRead (leading-all entryRead right .0)
+
+      pub passes : Passed t (e + 1) (scheduleRead + 1)
+      unfolding entryColumns
+      passes = (
+        omega arith,
+        rw schedule-is (sym (counted-next (entrySchedule t) e)),
+        omega (arith, schedule-high),
+        p .3 ∙ next-record t (entryRight t) e (entryCount t) (entryAt t e) entryRead (entryAt t (e + 1)) h agrees right (omega arith),
+      )

@@ -9,7 +9,8 @@ use borrow.Author.Fill.{fill-more}
 use lib.ListN.{length, set, take, drop, replicate, length-replicate, drop-of-length-le}
 use Rattle.signal.specs.Signal.{putScalar, putArray}
 use Rattle.cluster.specs.Table.{signalCount, signalWidth, signalStart, isArray}
-use Rattle.cluster.specs.Fresh.{signalPlace, arrayLength, putStart, filled}
+use Rattle.cluster.specs.Fresh.{arrayLength, putStart, filled}
+use Rattle.cluster.specs.Places.{signalPlace}
 use Rattle.cluster.proofs.Starts.{filled-length}
 
 -- one more byte set

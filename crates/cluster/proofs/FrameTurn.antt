@@ -1,53 +1,73 @@
--- The check of one frame's record: what is seen of its words agrees with the definition.
-use Prim.Native.Nat.{ℕ, _+_, _≤_, _<_}
-use mathlib.Core.Path.{_≡_, refl}
-use mathlib.Core.Bool.{Bool, false, not, _&&_}
+-- The check of the frames: the words read are the fields, and a mark says whether an identifier was used.
+use Prim.Native.Nat.{ℕ, _+_, _-_, _≤_, _<_}
+use mathlib.Core.Path.{_≡_, refl, sym, _∙_}
+use mathlib.Core.Bool.{Bool, true, false}
 use mathlib.Core.List.{List}
+use native.Mathlib.Nat.{sub-zero}
 use native.Mathlib.Omega.{arith}
 use borrow.Author.Tests.{leb-true}
-use lib.Dec.{leb}
-use lib.ListN.{getD}
-use Rattle.wire.proofs.Tests.{whether, and-left}
-use Rattle.cluster.specs.Right.{identifierRight, lengthRight, flagsRight, frameRight}
-use Rattle.cluster.specs.Seen.{due, leading, frameSeen}
-use Rattle.cluster.specs.Table.{word, frameAt, identifier, frameLength, flags}
-use Rattle.cluster.proofs.Ranges.{within-high}
-use Rattle.cluster.proofs.Scan.{Agrees, due-is, leading-all}
-use Rattle.cluster.proofs.UsedMarks.{Marks, mark-read}
+use lib.ListN.{getD, set, replicate}
+use Rattle.cluster.specs.Check.{fault, faults, frameFaults}
+use Rattle.cluster.specs.Columns.{frameColumns}
+use Rattle.cluster.specs.Read.{due, leading}
+use Rattle.cluster.specs.Right.{frameRight, records}
+use Rattle.cluster.specs.Table.{identifiers, frameCount, frameWords, frameAt, word, identifier, frameLength, flags}
+use Rattle.cluster.specs.declared.Verdict.the-variants.{Accepted}
+use Rattle.cluster.proofs.Clauses.{within-high, identifier-says}
+use Rattle.cluster.proofs.Scan.{Agrees, leading-all, all-there, halt-record, next-record, no-record}
+use Rattle.cluster.proofs.UsedMarks.{Marks, unmarked, marked}
+
+-- the frames before frame f are passed, and their identifiers marked
+abbrev pub Passed : List ℕ → ℕ → List Bool → Type 0
+Passed t f used = (f ≤ frameCount t)
+    × Marks identifiers (identifier t) f used
+    × (frameFaults t ≡ faults t (frameAt f) (records f (frameCount t - f) (frameRight t)))
+
+pub none-passed : (t : List ℕ) → Passed t 0 (replicate identifiers false)
+none-passed t = (omega arith, unmarked identifiers (identifier t), rw sub-zero)
+
+pub all-passed : (t : List ℕ) (f : ℕ) (used : List Bool) → Passed t f used → frameCount t ≤ f → Accepted ≡ frameFaults t
+all-passed t f used p h = sym (p .2 ∙ no-record t (frameAt f) (frameRight t) f (frameCount t) h)
 
 module _ (t : List ℕ) (f : ℕ) (used : List Bool) where
-  identifier-agrees : Marks (identifier t) f used
-      → identifierRight t f ≡ (leb (word t (frameAt f)) 59 && not (getD used (word t (frameAt f)) false))
-  unfolding identifierRight identifier
-  identifier-agrees m =
-      whether (leb (word t (frameAt f)) 59)
-      (λ e. rw (mark-read (identifier t) f used m (omega (arith, leb-true (word t (frameAt f)) 59 e))))
-      (λ e. rw e)
-
-  -- the words of the record as they are read, with the identifier's mark
+  -- the record's words as they are read, with the identifier's mark
   abbrev pub frameRead : List Bool
-  frameRead = frameSeen (getD used (due t (frameAt f)) false) (due t (frameAt f)) (due t (frameAt f + 1)) (due t (frameAt f + 2))
+  frameRead = frameColumns (getD used (due t (frameAt f)) false) (due t (frameAt f)) (due t (frameAt f + 1)) (due t (frameAt f + 2))
 
-  pub frame-agrees : Marks (identifier t) f used → Agrees t (frameAt f) 0 frameRead (frameRight t f)
-  unfolding frameSeen frameRight lengthRight frameLength flagsRight flags
-  frame-agrees m = (
-    (λ e. omega (arith, leb-true (due t (frameAt f)) 59 (and-left (leb (due t (frameAt f)) 59) (not (getD used (due t (frameAt f)) false)) e))),
-    (λ w. rw w (identifier-agrees m)),
-    (λ _. (
-      (λ e. omega (arith, within-high 1 8 (due t (frameAt f + 1)) e)),
-      (λ w. rw w),
-      (λ _. ((λ e. omega (arith, leb-true (due t (frameAt f + 2)) 3 e)), (λ w. rw w), (λ _. refl))),
-    )),
-  )
+  module _ (p : Passed t f used) (h : f < frameCount t) where
+    agrees : Agrees t (frameAt f) 0 frameRead (frameRight t f)
+    unfolding frameColumns frameRight identifier frameLength flags
+    agrees = (
+      (λ e. omega (arith, identifier-says (getD used (due t (frameAt f)) false) (due t (frameAt f)) e)),
+      (λ i. (
+        rw (i, p .1 .1 (word t (frameAt f))),
+        λ _. (
+          (λ e. omega (arith, within-high 1 8 (due t (frameAt f + 1)) e)),
+          (λ l. (rw l, λ _. ((λ e. omega (arith, leb-true (due t (frameAt f + 2)) 3 e)), (λ g. (rw g, λ _. refl))))),
+        ),
+      )),
+    )
 
-  -- where all words are seen as right, the identifier read is the one that gets the mark
+    -- a word is not right
+    pub stops : leading frameRead < frameWords → (place : ℕ) → frameAt f + leading frameRead ≡ place → fault place ≡ frameFaults t
+    unfolding frameColumns
+    stops l place e =
+        sym (p .2 ∙ halt-record t (frameRight t) f (frameCount t) (frameAt f) frameRead place h agrees l e)
 
-  pub identifier-below : 3 ≤ leading frameRead → due t (frameAt f) < 60
-  unfolding frameSeen
-  identifier-below h =
-      omega
-      (arith, leb-true (due t (frameAt f)) 59 (and-left (leb (due t (frameAt f)) 59) (not (getD used (due t (frameAt f)) false)) (leading-all frameRead h .0)))
+    -- all words are right: the identifier read is the one that gets the mark
+    module _ (right : frameWords ≤ leading frameRead) where
+      pub identifier-below : due t (frameAt f) < identifiers
+      unfolding frameColumns
+      identifier-below = identifier-says (getD used (due t (frameAt f)) false) (due t (frameAt f)) (leading-all frameRead right .0) .0
 
-  pub identifier-read : 3 ≤ leading frameRead → due t (frameAt f) ≡ identifier t f
-  unfolding identifier
-  identifier-read h = due-is t (frameAt f) (omega (arith, identifier-below h))
+      identifier-is : due t (frameAt f) ≡ identifier t f
+      unfolding frameColumns identifier
+      identifier-is = all-there t (frameAt f) 0 frameRead (frameRight t f) agrees (leading-all frameRead right) .0
+
+      pub passes : Passed t (f + 1) (set used (due t (frameAt f)) true)
+      unfolding frameColumns
+      passes = (
+        omega arith,
+        rw identifier-is (marked identifiers (identifier t) f used (p .1) (omega (arith, identifier-is, identifier-below))),
+        p .2 ∙ next-record t (frameRight t) f (frameCount t) (frameAt f) frameRead (frameAt (f + 1)) h agrees right (omega arith),
+      )

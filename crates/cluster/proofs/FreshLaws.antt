@@ -10,27 +10,22 @@ use lib.ListN.{length, replicate, getD-replicate}
 use Rattle.wire.specs.Bits.{bit}
 use Rattle.wire.proofs.Below.{below}
 use Rattle.wire.proofs.Tests.{whether}
-use Rattle.signal.specs.Signal.{number, bitAt, bytesOf, inside, scalarWidth, getScalar, getArray}
+use Rattle.signal.specs.Signal.{number, bitAt, bytesOf, scalarWidth, getScalar, getArray}
 use Rattle.signal.proofs.BytesOf.{bytes-ext, bytes-are}
-use Rattle.signal.proofs.Inside.{order, inside-true}
-use Rattle.signal.proofs.Laws.{Apart, bit-stays, bit-put-inside}
+use Rattle.signal.proofs.Laws.{bit-stays, bit-put-inside}
 use Rattle.signal.proofs.Numbers.{number-ext, number-bits}
 use Rattle.cluster.specs.Check.{RightTable}
 use Rattle.cluster.specs.Table.{frameCount, signalCount, signalWidth, signalStart, isArray}
-use Rattle.cluster.specs.Fresh.{signalPlace, arrayLength, putStart, filled, freshBytes}
-use Rattle.cluster.proofs.PlaceLaws.{place-end, places-apart, array-bits}
+use Rattle.cluster.specs.Fresh.{arrayLength, putStart, filled, freshBytes}
+use Rattle.cluster.specs.Places.{signalPlace, occupies}
+use Rattle.cluster.proofs.DisjointSignals.{places-apart}
+use Rattle.cluster.proofs.Occupied.{not-occupied}
+use Rattle.cluster.proofs.PlaceLaws.{place-end, array-bits}
 use Rattle.cluster.proofs.SignalLaws.{scalar-width-high, scalar-start-below, array-width-whole, array-width-high, array-start-high}
 use Rattle.cluster.proofs.Starts.{startBytes, startWidth, startBit, array-start-width, scalar-start-width, array-start-bit, scalar-start-bit}
 use Rattle.cluster.proofs.Starts.{start-within, start-is, start-bytes-length, replicate-bytes, filled-length}
 
 -- ---- the bits of no signal
-
--- a bit that is not inside stands before or behind
-pub not-inside : (o w j : ℕ) → inside o w j ≡ false → Apart j 1 o w
-not-inside o w j h =
-    order j o
-    (λ a. inl (omega arith))
-    (λ a. order j (o + w) (λ b. absurd (let z : _≡_ {A = ℕ} 0 1 = cc (inside-true o w j a b) in omega arith)) (λ b. inr b))
 
 ones : (k : ℕ) → k < 8 → bit 255 k ≡ true
 unfolding bit
@@ -42,19 +37,19 @@ set-bit size j h = rw (getD-replicate {A = ℕ} size (j / 8) 255 0 (omega arith)
 
 -- a bit of none of the first n signals
 module _ (t : List ℕ) (size j : ℕ) (within : j < 8 * size) where
-  free-bit : (n : ℕ) → ((s : ℕ) → s < n → inside (signalPlace t s) (signalWidth t s) j ≡ false) → bitAt (filled t size n) j ≡ true
+  free-bit : (n : ℕ) → ((s : ℕ) → s < n → occupies t s j ≡ false) → bitAt (filled t size n) j ≡ true
   unfolding filled
   free-bit zero free = set-bit size j within
   free-bit (suc n) free =
       let w : startWidth t n ≤ signalWidth t n = start-within t n in
       rw (start-is t n (filled t size n))
       (bit-stays (filled t size n) (signalPlace t n) (startWidth t n) (startBit t n) j
-      (⊎-elim (λ a. inl a) (λ a. inr (omega arith)) (not-inside (signalPlace t n) (signalWidth t n) j (free n (omega arith))))
+      (⊎-elim (λ a. inl a) (λ a. inr (omega arith)) (not-occupied t n j (free n (omega arith))))
       ∙ free-bit n (λ s h. free s (omega arith)))
 
 -- "255 everywhere": every bit of no signal is 1
 pub fresh-free : (t : List ℕ) (j : ℕ) → j < 64 * frameCount t
-    → ((s : ℕ) → s < signalCount t → inside (signalPlace t s) (signalWidth t s) j ≡ false) → bitAt (freshBytes t) j ≡ true
+    → ((s : ℕ) → s < signalCount t → occupies t s j ≡ false) → bitAt (freshBytes t) j ≡ true
 unfolding freshBytes
 fresh-free t j h free = free-bit t (8 * frameCount t) j (omega arith) (signalCount t) free
 

@@ -6,19 +6,20 @@ use native.Mathlib.Omega.{arith}
 use borrow.Author.Tests.{leb-true}
 use lib.ListN.{length}
 use Rattle.cluster.specs.Check.{RightTable}
+use Rattle.cluster.specs.Columns.{headerColumns}
 use Rattle.cluster.specs.Right.{headerRight}
-use Rattle.cluster.specs.Table.{word, frameCount, signalCount, memberCount, entryCount, size}
+use Rattle.cluster.specs.Table.{mostFrames, mostSignals, mostMembers, mostEntries, frameCount, signalCount, memberCount, entryCount, size}
 use Rattle.cluster.proofs.Accepted.{AllTrue, exact, header-right}
 
 -- a header of which each word is right
 pub header-counts : (t : List ℕ) → AllTrue (headerRight t)
-    → (frameCount t ≤ 60) × (signalCount t ≤ 256) × (memberCount t ≤ 60) × (entryCount t ≤ 256)
-unfolding headerRight frameCount signalCount memberCount entryCount
+    → (frameCount t ≤ mostFrames) × (signalCount t ≤ mostSignals) × (memberCount t ≤ mostMembers) × (entryCount t ≤ mostEntries)
+unfolding headerRight headerColumns
 header-counts t right = (
-  leb-true (word t 0) 60 (right .0),
-  leb-true (word t 1) 256 (right .1 .0),
-  leb-true (word t 2) 60 (right .1 .1 .0),
-  leb-true (word t 3) 256 (right .1 .1 .1 .0),
+  leb-true (frameCount t) mostFrames (right .0),
+  leb-true (signalCount t) mostSignals (right .1 .0),
+  leb-true (memberCount t) mostMembers (right .1 .1 .0),
+  leb-true (entryCount t) mostEntries (right .1 .1 .1 .0),
 )
 
 module _ (t : List ℕ) (ok : RightTable t) where
@@ -41,7 +42,7 @@ module _ (t : List ℕ) (ok : RightTable t) where
   -- "Length is exactly 4 + 3F + 5S + 2M + 4E"
   pub table-length : length t ≡ 4 + 3 * frameCount t + 5 * signalCount t + 2 * memberCount t + 4 * entryCount t
   unfolding size
-  table-length = exact t ok
+  table-length = omega (arith, exact t ok)
 
   -- "at most 2,608"
   pub table-limit : length t ≤ 2608

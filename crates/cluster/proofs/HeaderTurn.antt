@@ -1,29 +1,34 @@
--- The check of the header: what is seen of its words agrees with the definition.
+-- The check of the header: the words read are the fields.
 use Prim.Native.Nat.{ℕ}
 use mathlib.Core.Path.{refl}
 use mathlib.Core.Bool.{Bool}
 use mathlib.Core.List.{List}
 use native.Mathlib.Omega.{arith}
 use borrow.Author.Tests.{leb-true}
+use Rattle.cluster.specs.Columns.{headerColumns}
+use Rattle.cluster.specs.Read.{due}
 use Rattle.cluster.specs.Right.{headerRight}
-use Rattle.cluster.specs.Seen.{due, headerSeen}
+use Rattle.cluster.specs.Table.{mostFrames, mostSignals, mostMembers, mostEntries, frameCount, signalCount, memberCount, entryCount}
 use Rattle.cluster.proofs.Scan.{Agrees}
 
 abbrev pub headerRead : List ℕ → List Bool
-headerRead t = headerSeen (due t 0) (due t 1) (due t 2) (due t 3)
+headerRead t = headerColumns (due t 0) (due t 1) (due t 2) (due t 3)
 
 pub header-agrees : (t : List ℕ) → Agrees t 0 0 (headerRead t) (headerRight t)
-unfolding headerSeen headerRight
+unfolding headerColumns headerRight frameCount signalCount memberCount entryCount
 header-agrees t = (
-  (λ e. omega (arith, leb-true (due t 0) 60 e)),
-  (λ w. rw w),
-  (λ _. (
-    (λ e. omega (arith, leb-true (due t 1) 256 e)),
-    (λ w. rw w),
-    (λ _. (
-      (λ e. omega (arith, leb-true (due t 2) 60 e)),
-      (λ w. rw w),
-      (λ _. ((λ e. omega (arith, leb-true (due t 3) 256 e)), (λ w. rw w), (λ _. refl))),
-    )),
+  (λ e. omega (arith, leb-true (due t 0) mostFrames e)),
+  (λ f. (
+    rw f,
+    λ _. (
+      (λ e. omega (arith, leb-true (due t 1) mostSignals e)),
+      (λ s. (
+        rw s,
+        λ _. (
+          (λ e. omega (arith, leb-true (due t 2) mostMembers e)),
+          (λ m. (rw m, λ _. ((λ e. omega (arith, leb-true (due t 3) mostEntries e)), (λ n. (rw n, λ _. refl))))),
+        ),
+      )),
+    ),
   )),
 )

@@ -1,7 +1,7 @@
 pub mod Accepted
 pub mod Any
 pub mod BitMarks
-pub mod Columns
+pub mod Clauses
 pub mod Counting
 pub mod CountingUp
 pub mod DisjointSignals
@@ -21,8 +21,8 @@ pub mod Local
 pub mod MemberLaws
 pub mod MemberTurn
 pub mod NextEntry
+pub mod Occupied
 pub mod PlaceLaws
-pub mod Ranges
 pub mod Scan
 pub mod ScheduleLaws
 pub mod Searching

@@ -8,11 +8,10 @@ use native.Mathlib.Omega.{arith}
 use borrow.Author.Tests.{ltb-true}
 use lib.Dec.{ltb, leb, eqb}
 use Rattle.wire.proofs.Tests.{whether}
-use Rattle.signal.specs.Signal.{inside}
-use Rattle.cluster.specs.Right.{identifierRight, lengthRight, flagsRight}
-use Rattle.cluster.specs.Right.{takenBefore, overlaps, frameBits, signalFrameRight, signalKindRight, offsetRight}
-use Rattle.cluster.specs.Right.{signalWidthRight, startRight, countsUp, memberFrameRight}
-use Rattle.cluster.specs.Right.{entryKindRight, targetRight, delayRight}
+use Rattle.cluster.specs.Columns.{identifierRight, lengthRight, flagsRight, signalFrameRight, signalKindRight, offsetRight}
+use Rattle.cluster.specs.Columns.{signalWidthRight, startRight, memberFrameRight, entryKindRight, targetRight, delayRight}
+use Rattle.cluster.specs.Places.{signalPlace, occupies}
+use Rattle.cluster.specs.Right.{earlier, takenBefore, overlaps, frameBits, countsUp}
 use Rattle.cluster.specs.Table.{word, frameCount, signalCount, memberCount, counted, listCount}
 use Rattle.cluster.specs.Table.{frameAt, identifier, frameLength, flags, published}
 use Rattle.cluster.specs.Table.{signalAt, signalFrame, signalKind, signalOffset, signalWidth, signalStart, isArray}
@@ -23,15 +22,18 @@ use Rattle.cluster.proofs.Any.{any-ext}
 abbrev pub Same : List ℕ → List ℕ → ℕ → Type 0
 Same t u n = (j : ℕ) → j < n → word t j ≡ word u j
 
-counts-ext : (f g : ℕ → ℕ) (k : ℕ) → ((j : ℕ) → j ≤ k → f j ≡ g j) → countsUp f k ≡ countsUp g k
-unfolding countsUp
-counts-ext f g zero e = rw (e 0 (omega arith))
-counts-ext f g (suc k) e = rw (e (suc k) (omega arith), e k (omega arith))
-
 counted-ext : (f g : ℕ → ℕ) (k : ℕ) → ((j : ℕ) → j < k → f j ≡ g j) → counted f k ≡ counted g k
 unfolding counted
 counted-ext f g zero e = refl
 counted-ext f g (suc k) e = rw (e k (omega arith))
+
+counts-ext : (f g : ℕ → ℕ) (k : ℕ) → ((j : ℕ) → j ≤ k → f j ≡ g j) → countsUp f k ≡ countsUp g k
+counts-ext f g k e = rw (e k (omega arith), counted-ext f g k (λ j h. e j (omega arith)))
+
+earlier-ext : (f g : ℕ → ℕ) (k : ℕ) → ((j : ℕ) → j ≤ k → f j ≡ g j) → earlier f k ≡ earlier g k
+earlier-ext f g k e =
+    rw (e k (omega arith))
+    (any-ext k (λ j. eqb (f j) (g k)) (λ j. eqb (g j) (g k)) (λ j h. rw (e j (omega arith))))
 
 module _ (t u : List ℕ) (n : ℕ) (same : Same t u n) where
   -- ---- the frames
@@ -48,20 +50,14 @@ module _ (t u : List ℕ) (n : ℕ) (same : Same t u n) where
   unfolding flags
   flags-same f h = same (frameAt f + 2) h
 
-  pub identifier-local : (f : ℕ) → frameAt f < n → identifierRight t f ≡ identifierRight u f
-  unfolding identifierRight
-  identifier-local f h =
-      rw (identifier-same f h)
-      (ap (λ b. leb (identifier u f) 59 && not b)
-      (any-ext f (λ g. eqb (identifier t g) (identifier u f)) (λ g. eqb (identifier u g) (identifier u f))
-      (λ g b. rw (identifier-same g (omega arith)))))
+  pub identifier-local : (f : ℕ) → frameAt f < n
+      → identifierRight (earlier (identifier t) f) (identifier t f) ≡ identifierRight (earlier (identifier u) f) (identifier u f)
+  identifier-local f h = rw (earlier-ext (identifier t) (identifier u) f (λ g b. identifier-same g (omega arith)), identifier-same f h)
 
-  pub length-local : (f : ℕ) → frameAt f + 1 < n → lengthRight t f ≡ lengthRight u f
-  unfolding lengthRight
+  pub length-local : (f : ℕ) → frameAt f + 1 < n → lengthRight (frameLength t f) ≡ lengthRight (frameLength u f)
   length-local f h = rw (length-same f h)
 
-  pub flags-local : (f : ℕ) → frameAt f + 2 < n → flagsRight t f ≡ flagsRight u f
-  unfolding flagsRight
+  pub flags-local : (f : ℕ) → frameAt f + 2 < n → flagsRight (flags t f) ≡ flagsRight (flags u f)
   flags-local f h = rw (flags-same f h)
 
   -- ---- the signals, behind a header that is the same
@@ -107,12 +103,11 @@ module _ (t u : List ℕ) (n : ℕ) (same : Same t u n) where
     unfolding signalStart
     start-same s h = word-same (signalAt t s + 4) (signalAt u s + 4) h (omega (arith, frames-same))
 
-    pub signal-frame-local : (s : ℕ) → signalAt t s < n → signalFrameRight t s ≡ signalFrameRight u s
-    unfolding signalFrameRight
+    pub signal-frame-local : (s : ℕ) → signalAt t s < n
+        → signalFrameRight (frameCount t) (signalFrame t s) ≡ signalFrameRight (frameCount u) (signalFrame u s)
     signal-frame-local s h = rw (signal-frame-same s h, frames-same)
 
-    pub signal-kind-local : (s : ℕ) → signalAt t s + 1 < n → signalKindRight t s ≡ signalKindRight u s
-    unfolding signalKindRight
+    pub signal-kind-local : (s : ℕ) → signalAt t s + 1 < n → signalKindRight (signalKind t s) ≡ signalKindRight (signalKind u s)
     signal-kind-local s h = rw (kind-same s h)
 
     bits-same : (s : ℕ) → signalAt t s < n → signalFrame t s < frameCount t → frameBits t s ≡ frameBits u s
@@ -122,27 +117,29 @@ module _ (t u : List ℕ) (n : ℕ) (same : Same t u n) where
         → offsetRight (isArray t s) (frameBits t s) (signalOffset t s) ≡ offsetRight (isArray u s) (frameBits u s) (signalOffset u s)
     offset-local s h f = rw (array-same s (omega arith), bits-same s (omega arith) f, offset-same s h)
 
-    taken-same : (s f j : ℕ) → signalAt t s ≤ n → takenBefore t s f j ≡ takenBefore u s f j
+    occupies-same : (s j : ℕ) → signalAt t s + 3 < n → occupies t s j ≡ occupies u s j
+    unfolding occupies signalPlace
+    occupies-same s j h = rw (signal-frame-same s (omega arith), offset-same s (omega arith), width-same s h)
+
+    taken-same : (s j : ℕ) → signalAt t s ≤ n → takenBefore t s j ≡ takenBefore u s j
     unfolding takenBefore
-    taken-same s f j h =
-        any-ext s (λ r. eqb (signalFrame t r) f && inside (signalOffset t r) (signalWidth t r) j)
-        (λ r. eqb (signalFrame u r) f && inside (signalOffset u r) (signalWidth u r) j)
-        (λ r b. rw (signal-frame-same r (omega arith), offset-same r (omega arith), width-same r (omega arith)))
+    taken-same s j h = any-ext s (λ r. occupies t r j) (λ r. occupies u r j) (λ r b. occupies-same r j (omega arith))
 
     overlaps-same : (s : ℕ) → signalAt t s + 3 < n → overlaps t s ≡ overlaps u s
     unfolding overlaps
     overlaps-same s h =
-        rw (width-same s h, signal-frame-same s (omega arith), offset-same s (omega arith))
-        (any-ext (signalWidth u s) (λ k. takenBefore t s (signalFrame u s) (signalOffset u s + k)) (λ k. takenBefore u s (signalFrame u s) (signalOffset u s + k))
-        (λ k b. taken-same s (signalFrame u s) (signalOffset u s + k) (omega arith)))
+        rw frames-same
+        (any-ext (64 * frameCount u) (λ j. occupies t s j && takenBefore t s j) (λ j. occupies u s j && takenBefore u s j)
+        (λ j b. rw (occupies-same s j h, taken-same s j (omega arith))))
 
-    pub signal-width-local : (s : ℕ) → signalAt t s + 3 < n → signalFrame t s < frameCount t → signalWidthRight t s ≡ signalWidthRight u s
-    unfolding signalWidthRight
+    pub signal-width-local : (s : ℕ) → signalAt t s + 3 < n → signalFrame t s < frameCount t
+        → signalWidthRight (isArray t s) (frameBits t s) (overlaps t s) (signalOffset t s) (signalWidth t s)
+        ≡ signalWidthRight (isArray u s) (frameBits u s) (overlaps u s) (signalOffset u s) (signalWidth u s)
     signal-width-local s h f =
         rw (array-same s (omega arith), bits-same s (omega arith) f, overlaps-same s h, offset-same s (omega arith), width-same s h)
 
-    pub start-local : (s : ℕ) → signalAt t s + 4 < n → startRight t s ≡ startRight u s
-    unfolding startRight
+    pub start-local : (s : ℕ) → signalAt t s + 4 < n
+        → startRight (isArray t s) (signalWidth t s) (signalStart t s) ≡ startRight (isArray u s) (signalWidth u s) (signalStart u s)
     start-local s h = rw (array-same s (omega arith), width-same s (omega arith), start-same s h)
 
     -- ---- the members
@@ -162,14 +159,14 @@ module _ (t u : List ℕ) (n : ℕ) (same : Same t u n) where
     pub list-local : (m : ℕ) → memberAt t m < n → countsUp (memberList t) m ≡ countsUp (memberList u) m
     list-local m h = counts-ext (memberList t) (memberList u) m (λ k b. list-same k (omega arith))
 
-    pub member-frame-local : (m : ℕ) → memberAt t m + 1 < n → memberFrameRight t m ≡ memberFrameRight u m
-    unfolding memberFrameRight
+    pub member-frame-local : (m : ℕ) → memberAt t m + 1 < n
+        → memberFrameRight (frameCount t) (published t (memberFrame t m)) (earlier (memberFrame t) m) (memberFrame t m)
+        ≡ memberFrameRight (frameCount u) (published u (memberFrame u m)) (earlier (memberFrame u) m) (memberFrame u m)
     member-frame-local m h =
         rw (
+          earlier-ext (memberFrame t) (memberFrame u) m (λ k b. member-frame-same k (omega arith)),
           member-frame-same m h,
           frames-same,
-          any-ext m (λ k. eqb (memberFrame t k) (memberFrame u m)) (λ k. eqb (memberFrame u k) (memberFrame u m))
-              (λ k b. rw (member-frame-same k (omega arith))),
         )
         (whether (ltb (memberFrame u m) (frameCount u))
         (λ e. rw (published-same (memberFrame u m) (omega (arith, ltb-true (memberFrame u m) (frameCount u) e, frames-same))))
@@ -200,8 +197,7 @@ module _ (t u : List ℕ) (n : ℕ) (same : Same t u n) where
     pub schedule-local : (e : ℕ) → entryAt t e < n → countsUp (entrySchedule t) e ≡ countsUp (entrySchedule u) e
     schedule-local e h = counts-ext (entrySchedule t) (entrySchedule u) e (λ k b. schedule-same k (omega arith))
 
-    pub entry-kind-local : (e : ℕ) → entryAt t e + 1 < n → entryKindRight t e ≡ entryKindRight u e
-    unfolding entryKindRight
+    pub entry-kind-local : (e : ℕ) → entryAt t e + 1 < n → entryKindRight (entryKind t e) ≡ entryKindRight (entryKind u e)
     entry-kind-local e h = rw (entry-kind-same e h)
 
     pub target-local : (e : ℕ) → entryAt t e + 2 < n
@@ -209,6 +205,5 @@ module _ (t u : List ℕ) (n : ℕ) (same : Same t u n) where
         ≡ targetRight (frameCount u) (listCount u) (entryKind u e) (entryTarget u e)
     target-local e h = rw (frames-same, lists-same (omega arith), entry-kind-same e (omega arith), target-same e h)
 
-    pub delay-local : (e : ℕ) → entryAt t e + 3 < n → delayRight t e ≡ delayRight u e
-    unfolding delayRight
+    pub delay-local : (e : ℕ) → entryAt t e + 3 < n → delayRight (entryDelay t e) ≡ delayRight (entryDelay u e)
     delay-local e h = rw (delay-same e h)

@@ -1,69 +1,90 @@
--- The check of one member's record: what is seen of its words agrees with the definition.
-use Prim.Native.Nat.{ℕ, _+_, _≤_, _<_}
-use mathlib.Core.Path.{_≡_, refl}
-use mathlib.Core.Bool.{Bool, true, false, not, _&&_}
+-- The check of the members: the words read are the fields, and a mark says whether a frame is in a list.
+use Prim.Native.Nat.{ℕ, _+_, _-_, _≤_, _<_}
+use mathlib.Core.Path.{_≡_, refl, sym, _∙_}
+use mathlib.Core.Bool.{Bool, true, false}
 use mathlib.Core.List.{List}
+use native.Mathlib.Nat.{sub-zero}
 use native.Mathlib.Omega.{arith}
-use borrow.Author.Tests.{ltb-true}
-use lib.Dec.{ltb}
-use lib.ListN.{getD}
-use Rattle.wire.proofs.Tests.{whether, and-left}
-use Rattle.cluster.specs.Right.{memberFrameRight, memberRight}
-use Rattle.cluster.specs.Seen.{due, leading, follows, memberSeen}
-use Rattle.cluster.specs.Table.{word, counted, published, frameCount, memberAt, memberList, memberFrame}
-use Rattle.cluster.proofs.Counting.{counts-up, follows-high}
-use Rattle.cluster.proofs.Scan.{Agrees, due-is, leading-all}
-use Rattle.cluster.proofs.UsedMarks.{Marks, mark-read}
+use lib.ListN.{getD, set, replicate}
+use Rattle.cluster.specs.Check.{fault, faults, memberFaults}
+use Rattle.cluster.specs.Columns.{follows, memberColumns}
+use Rattle.cluster.specs.Read.{due, leading}
+use Rattle.cluster.specs.Right.{memberRight, records}
+use Rattle.cluster.specs.Table.{mostFrames, mostMembers, counted, published, frameCount, memberCount, memberWords, memberAt, word, memberList, memberFrame}
+use Rattle.cluster.specs.declared.Verdict.the-variants.{Accepted}
+use Rattle.cluster.proofs.Clauses.{member-says}
+use Rattle.cluster.proofs.Counting.{counted-none, counted-next, follows-high}
+use Rattle.cluster.proofs.Scan.{Agrees, leading-all, all-there, halt-record, next-record, no-record}
+use Rattle.cluster.proofs.UsedMarks.{Marks, unmarked, marked}
+
+-- the members before member m are passed, their frames marked and their lists counted
+abbrev pub Passed : List ℕ → ℕ → ℕ → List Bool → Type 0
+Passed t m lists listed = (m ≤ memberCount t)
+    × Marks mostFrames (memberFrame t) m listed
+    × (lists ≡ counted (memberList t) m)
+    × (lists ≤ m)
+    × (memberFaults t ≡ faults t (memberAt t m) (records m (memberCount t - m) (memberRight t)))
+
+pub none-passed : (t : List ℕ) → Passed t 0 0 (replicate mostFrames false)
+none-passed t = (omega arith, unmarked mostFrames (memberFrame t), sym (counted-none (memberList t) 0 refl), omega arith, rw sub-zero)
+
+pub all-passed : (t : List ℕ) (m lists : ℕ) (listed : List Bool) → Passed t m lists listed → memberCount t ≤ m → Accepted ≡ memberFaults t
+all-passed t m lists listed p h = sym (p .4 ∙ no-record t (memberAt t m) (memberRight t) m (memberCount t) h)
 
 module _ (t : List ℕ) (m lists : ℕ) (listed : List Bool) where
-  -- the words of the record as they are read
-
   abbrev listRead : ℕ
   listRead = due t (memberAt t m)
 
   abbrev frameRead : ℕ
   frameRead = due t (memberAt t m + 1)
 
+  -- the record's words as they are read, with the frame's mark
   abbrev pub memberRead : List Bool
-  memberRead = memberSeen (frameCount t) (follows lists listRead) (published t frameRead) (getD listed frameRead false) frameRead
+  memberRead = memberColumns (frameCount t) (follows lists listRead) (published t frameRead) (getD listed frameRead false) frameRead
 
-  frame-agrees : Marks (memberFrame t) m listed → frameCount t ≤ 60 → frameRead ≡ word t (memberAt t m + 1)
-      → memberFrameRight t m ≡ (ltb frameRead (frameCount t) && published t frameRead && not (getD listed frameRead false))
-  unfolding memberFrameRight memberFrame
-  frame-agrees marks few w =
-      whether (ltb (word t (memberAt t m + 1)) (frameCount t))
-      (λ e. rw (w, mark-read (memberFrame t) m listed marks (omega (arith, ltb-true (word t (memberAt t m + 1)) (frameCount t) e))))
-      (λ e. rw (w, e))
+  module _ (p : Passed t m lists listed) (h : m < memberCount t) (few : frameCount t ≤ mostFrames) (short : memberCount t ≤ mostMembers) where
+    agrees : Agrees t (memberAt t m) 0 memberRead (memberRight t m)
+    unfolding memberColumns memberRight memberList memberFrame
+    agrees = (
+      (λ e. omega (arith, follows-high lists listRead e)),
+      (λ l. (
+        rw (l, p .2),
+        λ _. (
+          (λ e. omega (arith, member-says (frameCount t) (published t frameRead) (getD listed frameRead false) frameRead e)),
+          (λ f. (rw (f, p .1 .1 (word t (memberAt t m + 1))), λ _. refl)),
+        ),
+      )),
+    )
 
-  below : (ltb frameRead (frameCount t) && published t frameRead && not (getD listed frameRead false)) ≡ true → frameRead < frameCount t
-  below e =
-      ltb-true frameRead (frameCount t)
-      (and-left (ltb frameRead (frameCount t)) (published t frameRead)
-      (and-left (ltb frameRead (frameCount t) && published t frameRead) (not (getD listed frameRead false)) e))
+    -- a word is not right
+    pub stops : leading memberRead < memberWords → (place : ℕ) → memberAt t m + leading memberRead ≡ place → fault place ≡ memberFaults t
+    unfolding memberColumns
+    stops l place e =
+        sym (p .4 ∙ halt-record t (memberRight t) m (memberCount t) (memberAt t m) memberRead place h agrees l e)
 
-  pub member-agrees : Marks (memberFrame t) m listed → frameCount t ≤ 60 → lists ≡ counted (memberList t) m → lists ≤ 60
-      → Agrees t (memberAt t m) 0 memberRead (memberRight t m)
-  unfolding memberSeen memberRight memberList
-  member-agrees marks few count small = (
-    (λ e. omega (arith, follows-high lists listRead e)),
-    (λ w. rw (w, count) (counts-up (memberList t) m)),
-    (λ _. ((λ e. omega (arith, below e)), frame-agrees marks few, (λ _. refl))),
-  )
+    -- both words are right: the frame read is the one that gets the mark, and the list read is the last so far
+    module _ (right : memberWords ≤ leading memberRead) where
+      pub frame-below : frameRead < mostFrames
+      unfolding memberColumns
+      frame-below =
+          omega (arith, member-says (frameCount t) (published t frameRead) (getD listed frameRead false) frameRead (leading-all memberRead right .1 .0))
 
-  -- ---- a member of which both words are seen as right
+      are : (listRead ≡ memberList t m) × (frameRead ≡ memberFrame t m)
+      unfolding memberColumns memberList memberFrame
+      are =
+          let there = all-there t (memberAt t m) 0 memberRead (memberRight t m) agrees (leading-all memberRead right) in
+          (there .0, there .1 .0)
 
-  pub list-high : 2 ≤ leading memberRead → listRead ≤ lists
-  unfolding memberSeen
-  list-high h = follows-high lists listRead (leading-all memberRead h .0)
+      list-high : listRead ≤ lists
+      unfolding memberColumns
+      list-high = follows-high lists listRead (leading-all memberRead right .0)
 
-  pub list-read : 2 ≤ leading memberRead → lists ≤ 60 → listRead ≡ memberList t m
-  unfolding memberList
-  list-read h small = due-is t (memberAt t m) (omega (arith, list-high h))
-
-  pub frame-below : 2 ≤ leading memberRead → frameRead < frameCount t
-  unfolding memberSeen
-  frame-below h = below (leading-all memberRead h .1 .0)
-
-  pub frame-read : 2 ≤ leading memberRead → frameCount t ≤ 60 → frameRead ≡ memberFrame t m
-  unfolding memberFrame
-  frame-read h few = due-is t (memberAt t m + 1) (omega (arith, frame-below h))
+      pub passes : (list frame : ℕ) → list ≡ listRead → frame ≡ frameRead → Passed t (m + 1) (list + 1) (set listed frame true)
+      unfolding memberColumns
+      passes list frame el ef = (
+        omega arith,
+        rw (ef, are .1) (marked mostFrames (memberFrame t) m listed (p .1) (omega (arith, are, frame-below))),
+        rw (el, are .0) (sym (counted-next (memberList t) m)),
+        omega (arith, list-high),
+        p .4 ∙ next-record t (memberRight t) m (memberCount t) (memberAt t m) memberRead (memberAt t (m + 1)) h agrees right (omega arith),
+      )

@@ -12,7 +12,7 @@ use Rattle.signal.proofs.Inside.{order}
 use Rattle.cluster.specs.Check.{fault, faults}
 use Rattle.cluster.specs.declared.Verdict.the-variants.{Accepted}
 use Rattle.cluster.specs.Right.{records}
-use Rattle.cluster.specs.Seen.{due, leading}
+use Rattle.cluster.specs.Read.{due, leading}
 use Rattle.cluster.specs.Table.{word}
 use Rattle.cluster.proofs.Accepted.{AllTrue}
 
@@ -59,15 +59,14 @@ position-is : (at k : ℕ) → position at k ≡ at + k
 position-is at zero = omega arith
 position-is at (suc k) = refl
 
--- What was seen of the words from word k on agrees with the definition: a word seen as right is there; where it is there,
--- it is right exactly where it is seen as right; and then the words behind it agree.
+-- What was seen of the words from word k on agrees with the definition: a word seen as right is there; and where it is there,
+-- it is right exactly where it is seen as right, and then the words behind it agree.
 abbrev pub Agrees : List ℕ → ℕ → ℕ → List Bool → List Bool → Type 0
 Agrees t at k [] rights = rights ≡ []
 Agrees t at k (seen ∷ more) [] = ⊥
 Agrees t at k (seen ∷ more) (right ∷ rights) =
     (seen ≡ true → due t (position at k) < 65536)
-    × (due t (position at k) ≡ word t (position at k) → right ≡ seen)
-    × (seen ≡ true → Agrees t at (suc k) more rights)
+    × (due t (position at k) ≡ word t (position at k) → (right ≡ seen) × (seen ≡ true → Agrees t at (suc k) more rights))
 
 leading-right : (seen : Bool) (more : List Bool) → seen ≡ true → leading (seen ∷ more) ≡ suc (leading more)
 unfolding leading
@@ -77,9 +76,10 @@ leading-wrong : (seen : Bool) (more : List Bool) → seen ≡ false → leading 
 unfolding leading
 leading-wrong seen more e = rw e
 
-leading-none : leading [] ≡ 0
-unfolding leading
-leading-none = refl
+-- the words are there
+abbrev pub AllThere : List ℕ → ℕ → ℕ → List Bool → Type 0
+AllThere t at k [] = Unit {0}
+AllThere t at k (seen ∷ more) = (due t (position at k) ≡ word t (position at k)) × AllThere t at (suc k) more
 
 -- words seen as right, all of them
 pub leading-all : (seen : List Bool) → length seen ≤ leading seen → AllTrue seen
@@ -89,12 +89,17 @@ leading-all (seen ∷ more) h =
     (λ e. (e, leading-all more (omega (arith, leading-right seen more e))))
     (λ e. absurd (omega (arith, leading-wrong seen more e)))
 
+pub all-there : (t : List ℕ) (at k : ℕ) (seen rights : List Bool) → Agrees t at k seen rights → AllTrue seen → AllThere t at k seen
+all-there t at k [] rights a h = tt
+all-there t at k (seen ∷ more) [] a h = absurd a
+all-there t at k (seen ∷ more) (right ∷ rights) a h =
+    let w = due-is t (position at k) (a .0 (h .0)) in
+    (w, all-there t at (suc k) more rights (a .1 w .1 (h .0)) (h .1))
+
 module _ (t : List ℕ) (at : ℕ) (rest : List Bool) where
-  forward : (k : ℕ) (seen right : Bool) (rights : List Bool) → seen ≡ true → (seen ≡ true → due t (position at k) < 65536)
-      → (due t (position at k) ≡ word t (position at k) → right ≡ seen)
+  forward : (k : ℕ) (right : Bool) (rights : List Bool) → due t (position at k) < 65536 → (due t (position at k) ≡ word t (position at k) → right ≡ true)
       → faults t (position at k) (right ∷ rights ++ rest) ≡ faults t (position at (suc k)) (rights ++ rest)
-  forward k seen right rights e d p =
-      pass t (position at k) (position at (suc k)) right (rights ++ rest) (omega (arith, position-is at k)) (d e) (λ w. p w ∙ e)
+  forward k right rights = pass t (position at k) (position at (suc k)) right (rights ++ rest) (omega (arith, position-is at k))
 
   -- the first word that is not seen as right is the answer
   halts : (k : ℕ) (seen rights : List Bool) → Agrees t at k seen rights → leading seen < length seen
@@ -104,10 +109,11 @@ module _ (t : List ℕ) (at : ℕ) (rest : List Bool) where
   halts k (seen ∷ more) (right ∷ rights) a h =
       whether seen
       (λ e. let here : at + (suc k + leading more) ≡ at + (k + leading (seen ∷ more)) = omega (arith, leading-right seen more e) in
-      forward k seen right rights e (a .0) (a .1)
-      ∙ rw here at (halts (suc k) more rights (a .2 e) (omega (arith, leading-right seen more e))))
+      let d = a .0 e in
+      forward k right rights d (λ w. a .1 w .0 ∙ e)
+      ∙ rw here at (halts (suc k) more rights (a .1 (due-is t (position at k) d) .1 e) (omega (arith, leading-right seen more e))))
       (λ e. let here : position at k ≡ at + (k + leading (seen ∷ more)) = omega (arith, position-is at k, leading-wrong seen more e) in
-      stop t (position at k) right (rights ++ rest) (λ w. a .1 w ∙ e) ∙ ap fault here)
+      stop t (position at k) right (rights ++ rest) (λ w. a .1 w .0 ∙ e) ∙ ap fault here)
 
   -- all words are seen as right
   goes-on : (k : ℕ) (seen rights : List Bool) → Agrees t at k seen rights → length seen ≤ leading seen
@@ -117,8 +123,9 @@ module _ (t : List ℕ) (at : ℕ) (rest : List Bool) where
   goes-on k (seen ∷ more) (right ∷ rights) a h =
       whether seen
       (λ e. let here : at + (suc k + length more) ≡ at + (k + suc (length more)) = omega arith in
-      forward k seen right rights e (a .0) (a .1)
-      ∙ rw here at (goes-on (suc k) more rights (a .2 e) (omega (arith, leading-right seen more e))))
+      let d = a .0 e in
+      forward k right rights d (λ w. a .1 w .0 ∙ e)
+      ∙ rw here at (goes-on (suc k) more rights (a .1 (due-is t (position at k) d) .1 e) (omega (arith, leading-right seen more e))))
       (λ e. absurd (omega (arith, leading-wrong seen more e)))
 
 -- words alone, with no record behind them

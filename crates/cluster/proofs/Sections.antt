@@ -7,14 +7,16 @@ use native.Mathlib.Omega.{arith}
 use lib.Dec.{ltb}
 use lib.ListN.{length, length-append}
 use Rattle.wire.proofs.Tests.{whether}
-use Rattle.cluster.specs.Check.{faults, then, surplus, judged}
+use Rattle.cluster.specs.Check.{faults, headerFaults, frameFaults, signalFaults, memberFaults, entryFaults, then, surplus, judged}
+use Rattle.cluster.specs.Columns.{headerColumns, frameColumns, signalColumns, memberColumns}
 use Rattle.cluster.specs.declared.Verdict.{Verdict}
 use Rattle.cluster.specs.declared.Verdict.the-variants.{Accepted, Refused}
-use Rattle.cluster.specs.Right.{records, headerRight, lengthRight, frameRight, signalRight, memberRight, entryRight, wordsRight}
+use Rattle.cluster.specs.Right.{records, headerRight, frameRight, signalRight, memberRight, entryRight, wordsRight}
+use Rattle.cluster.specs.Table.{mostFrames, mostSignals, mostMembers, mostEntries, headerWords, frameWords, signalWords, memberWords}
 use Rattle.cluster.specs.Table.{frameCount, signalCount, memberCount, entryCount, frameLength, frameAt, signalAt, memberAt, entryAt}
 use Rattle.cluster.proofs.Accepted.{all-records, length-records, faults-true}
 use Rattle.cluster.proofs.HeaderLaws.{header-counts}
-use Rattle.cluster.proofs.Ranges.{within-high}
+use Rattle.cluster.proofs.Clauses.{within-high}
 
 -- ---- one section after another
 
@@ -32,24 +34,9 @@ then-then Accepted v w = refl
 then-then (Refused r) v w = refl
 
 module _ (t : List ℕ) where
-  abbrev pub theHeader : Verdict
-  theHeader = faults t 0 (headerRight t)
-
-  abbrev pub theFrames : Verdict
-  theFrames = faults t (frameAt 0) (records 0 (frameCount t) (frameRight t))
-
-  abbrev pub theSignals : Verdict
-  theSignals = faults t (signalAt t 0) (records 0 (signalCount t) (signalRight t))
-
-  abbrev pub theMembers : Verdict
-  theMembers = faults t (memberAt t 0) (records 0 (memberCount t) (memberRight t))
-
-  abbrev pub theEntries : Verdict
-  theEntries = faults t (entryAt t 0) (records 0 (entryCount t) (entryRight t))
-
   -- the words of each section, in order, and where the next one begins
-  module _ (h f s m e : List Bool) (hl : length h ≡ 4) (fl : length f ≡ 3 * frameCount t) (sl : length s ≡ 5 * signalCount t)
-      (ml : length m ≡ 2 * memberCount t) where
+  module _ (h f s m e : List Bool) (hl : length h ≡ headerWords) (fl : length f ≡ frameWords * frameCount t)
+      (sl : length s ≡ signalWords * signalCount t) (ml : length m ≡ memberWords * memberCount t) where
     in-order : faults t 0 (h ++ f ++ s ++ m ++ e)
         ≡ then (then (then (then (faults t 0 h) (faults t (frameAt 0) f)) (faults t (signalAt t 0) s)) (faults t (memberAt t 0) m)) (faults t (entryAt t 0) e)
     in-order =
@@ -60,8 +47,8 @@ module _ (t : List ℕ) where
           faults-append t 0 (frameAt 0) h f (omega arith),
         )
 
-  pub judged-sections : judged t ≡ then theHeader (then theFrames (then theSignals (then theMembers (then theEntries (surplus t)))))
-  unfolding judged wordsRight headerRight frameRight signalRight memberRight
+  pub judged-sections : judged t ≡ then (headerFaults t) (then (frameFaults t) (then (signalFaults t) (then (memberFaults t) (then (entryFaults t) (surplus t)))))
+  unfolding judged wordsRight headerRight frameRight signalRight memberRight headerColumns frameColumns signalColumns memberColumns
   judged-sections =
       rw (in-order
       (headerRight t)
@@ -70,19 +57,19 @@ module _ (t : List ℕ) where
       (records 0 (memberCount t) (memberRight t))
       (records 0 (entryCount t) (entryRight t))
       refl
-      (length-records (frameRight t) 3 (λ j. refl) 0 (frameCount t))
-      (length-records (signalRight t) 5 (λ j. refl) 0 (signalCount t))
-      (length-records (memberRight t) 2 (λ j. refl) 0 (memberCount t)))
+      (length-records (frameRight t) frameWords (λ j. refl) 0 (frameCount t))
+      (length-records (signalRight t) signalWords (λ j. refl) 0 (signalCount t))
+      (length-records (memberRight t) memberWords (λ j. refl) 0 (memberCount t)))
       (simp then-then)
 
   -- ---- what each section leaves to the next
 
-  pub header-passed : theHeader ≡ Accepted
-      → (frameCount t ≤ 60) × (signalCount t ≤ 256) × (memberCount t ≤ 60) × (entryCount t ≤ 256)
+  pub header-passed : headerFaults t ≡ Accepted
+      → (frameCount t ≤ mostFrames) × (signalCount t ≤ mostSignals) × (memberCount t ≤ mostMembers) × (entryCount t ≤ mostEntries)
   header-passed h = header-counts t (faults-true t 0 (headerRight t) h)
 
-  pub frames-passed : theFrames ≡ Accepted → (f : ℕ) → f < frameCount t → frameLength t f ≤ 8
-  unfolding frameRight lengthRight
+  pub frames-passed : frameFaults t ≡ Accepted → (f : ℕ) → f < frameCount t → frameLength t f ≤ 8
+  unfolding frameRight frameColumns
   frames-passed h f b =
       within-high 1 8 (frameLength t f)
       (all-records (frameRight t) 0 (frameCount t) (faults-true t (frameAt 0) (records 0 (frameCount t) (frameRight t)) h) f (omega arith) (omega arith) .1 .0)

@@ -8,28 +8,48 @@ use borrow.Author.Tests.{ltb-true, leb-true, eqb-true}
 use lib.Dec.{ltb, eqb}
 use Rattle.wire.proofs.Tests.{and-right}
 use Rattle.cluster.specs.Check.{RightTable}
-use Rattle.cluster.specs.Right.{frameBits, offsetRight, startLimit}
-use Rattle.cluster.specs.Right.{signalFrameRight, signalKindRight, startRight}
+use Rattle.cluster.specs.Columns.{offsetRight, widthRight, startLimit, signalColumns}
+use Rattle.cluster.specs.Right.{frameBits, overlaps, signalRight}
 use Rattle.cluster.specs.Table.{frameCount, frameLength, signalCount}
 use Rattle.cluster.specs.Table.{signalFrame, signalKind, signalOffset, signalWidth, signalStart, isArray}
-use Rattle.cluster.proofs.Columns.{signal-frame-right, signal-kind-right, offset-right, width-right, inside-right, start-right}
+use Rattle.cluster.proofs.Accepted.{signal-right}
 use Rattle.cluster.proofs.FrameLaws.{frame-length-high}
-use Rattle.cluster.proofs.Widths.{offset-below, scalar-width, array-width, width-range}
+use Rattle.cluster.proofs.Widths.{offset-below, scalar-width, array-width, width-range, width-says}
 
 module _ (t : List ℕ) (ok : RightTable t) (s : ℕ) (h : s < signalCount t) where
+  -- the columns of a signal from its offset on
+  offset-right : offsetRight (isArray t s) (frameBits t s) (signalOffset t s) ≡ true
+  unfolding signalRight signalColumns isArray
+  offset-right = signal-right t ok s h .1 .1 .0
+
+  width-right : (widthRight (isArray t s) (signalWidth t s) ≡ true)
+      × (1 ≤ signalWidth t s)
+      × (signalOffset t s + signalWidth t s ≤ frameBits t s)
+      × (overlaps t s ≡ false)
+  unfolding signalRight signalColumns isArray
+  width-right = width-says (isArray t s) (frameBits t s) (overlaps t s) (signalOffset t s) (signalWidth t s) (signal-right t ok s h .1 .1 .1 .0)
+
+  start-right : signalStart t s < startLimit (isArray t s) (signalWidth t s)
+  unfolding signalRight signalColumns isArray
+  start-right = ltb-true (signalStart t s) (startLimit (isArray t s) (signalWidth t s)) (signal-right t ok s h .1 .1 .1 .1 .0)
+
   -- a signal stands in a frame of the table
   pub signal-frame-below : signalFrame t s < frameCount t
-  unfolding signalFrameRight
-  signal-frame-below = ltb-true (signalFrame t s) (frameCount t) (signal-frame-right t ok s h)
+  unfolding signalRight signalColumns
+  signal-frame-below = ltb-true (signalFrame t s) (frameCount t) (signal-right t ok s h .0)
 
   -- a signal is a scalar, 0, or an array, 1
   pub signal-kind-high : signalKind t s ≤ 1
-  unfolding signalKindRight
-  signal-kind-high = leb-true (signalKind t s) 1 (signal-kind-right t ok s h)
+  unfolding signalRight signalColumns
+  signal-kind-high = leb-true (signalKind t s) 1 (signal-right t ok s h .1 .0)
 
   -- a signal ends inside its frame
   pub signal-end : signalOffset t s + signalWidth t s ≤ 8 * frameLength t (signalFrame t s)
-  signal-end = leb-true (signalOffset t s + signalWidth t s) (frameBits t s) (inside-right t ok s h)
+  signal-end = width-right .2
+
+  -- no bit of a signal belongs to an earlier one
+  pub no-overlap : overlaps t s ≡ false
+  no-overlap = width-right .3
 
   -- a signal ends inside its eight bytes
   pub signal-end-high : signalOffset t s + signalWidth t s ≤ 64
@@ -37,10 +57,10 @@ module _ (t : List ℕ) (ok : RightTable t) (s : ℕ) (h : s < signalCount t) wh
 
   -- a signal begins inside its frame
   pub signal-offset-below : signalOffset t s < 8 * frameLength t (signalFrame t s)
-  signal-offset-below = offset-below (isArray t s) (frameBits t s) (signalOffset t s) (offset-right t ok s h)
+  signal-offset-below = offset-below (isArray t s) (frameBits t s) (signalOffset t s) offset-right
 
   scalar : isArray t s ≡ false → (1 ≤ signalWidth t s) × (signalWidth t s ≤ 16)
-  scalar k = scalar-width (signalWidth t s) (rw k at (width-right t ok s h))
+  scalar k = scalar-width (signalWidth t s) (rw k at (width-right .0))
 
   -- a scalar has at least one bit
   pub scalar-width-low : isArray t s ≡ false → 1 ≤ signalWidth t s
@@ -52,18 +72,18 @@ module _ (t : List ℕ) (ok : RightTable t) (s : ℕ) (h : s < signalCount t) wh
 
   -- a scalar's start value fits its bits
   pub scalar-start-below : isArray t s ≡ false → signalStart t s < 2 ^ signalWidth t s
-  unfolding startRight startLimit
-  scalar-start-below k = let w = start-right t ok s h in ltb-true (signalStart t s) (2 ^ signalWidth t s) (rw k at w)
+  unfolding startLimit
+  scalar-start-below k = rw k at start-right
 
   -- an array begins at a byte
   pub array-offset : isArray t s ≡ true → signalOffset t s % 8 ≡ 0
   unfolding offsetRight
   array-offset k =
-      let w = and-right (ltb (signalOffset t s) (frameBits t s)) (cond (isArray t s) (eqb (signalOffset t s % 8) 0) true) (offset-right t ok s h) in
+      let w = and-right (ltb (signalOffset t s) (frameBits t s)) (cond (isArray t s) (eqb (signalOffset t s % 8) 0) true) offset-right in
       eqb-true (signalOffset t s % 8) 0 (rw k at w)
 
   array : isArray t s ≡ true → (8 ≤ signalWidth t s) × (signalWidth t s ≤ 64) × (signalWidth t s % 8 ≡ 0)
-  array k = array-width (signalWidth t s) (rw k at (width-right t ok s h))
+  array k = array-width (signalWidth t s) (rw k at (width-right .0))
 
   -- an array has at least one byte
   pub array-width-low : isArray t s ≡ true → 8 ≤ signalWidth t s
@@ -79,10 +99,9 @@ module _ (t : List ℕ) (ok : RightTable t) (s : ℕ) (h : s < signalCount t) wh
 
   -- an array's start value is a byte
   pub array-start-high : isArray t s ≡ true → signalStart t s ≤ 255
-  unfolding startRight startLimit
-  array-start-high k =
-      let w = start-right t ok s h in omega (arith, ltb-true (signalStart t s) 256 (rw k at w))
+  unfolding startLimit
+  array-start-high k = let below : signalStart t s < 256 = rw k at start-right in omega arith
 
   -- a signal has at least one bit
   pub signal-width-low : 1 ≤ signalWidth t s
-  signal-width-low = width-range (isArray t s) (signalWidth t s) (width-right t ok s h) .0
+  signal-width-low = width-right .1

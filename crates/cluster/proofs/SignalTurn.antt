@@ -1,45 +1,47 @@
--- The check of one signal's record: what is seen of its words agrees with the definition.
-use Prim.Native.Nat.{ℕ, _+_, _*_, _≤_, _<_}
-use mathlib.Core.Path.{_≡_, refl, sym}
-use mathlib.Core.Bool.{Bool, true, false, not, _&&_}
-use mathlib.Core.List.{List, [], _∷_}
+-- The check of the signals: the words read are the fields, and the marks say which bits belong to an earlier signal.
+use Prim.Native.Nat.{ℕ, _+_, _-_, _*_, _≤_, _<_}
+use mathlib.Core.Path.{_≡_, refl, sym, _∙_}
+use mathlib.Core.Bool.{Bool, true, false, not, _&&_, _||_, and-false}
+use mathlib.Core.List.{List}
+use native.Mathlib.Nat.{sub-zero}
 use native.Mathlib.Omega.{arith}
-use borrow.Author.Tests.{ltb-true, leb-true, not-true}
-use lib.Dec.{ltb, leb, eqb}
-use lib.ListN.{getD}
+use borrow.Author.Tests.{ltb-true, leb-true}
+use lib.Dec.{leb, eqb}
+use lib.ListN.{getD, set, replicate}
 use Rattle.wire.specs.Bits.{bit}
-use Rattle.wire.proofs.Tests.{and-left, and-right}
-use Rattle.cluster.specs.Right.{takenBefore, overlaps, signalFrameRight, signalKindRight, widthRight}
-use Rattle.cluster.specs.Right.{signalWidthRight, startLimit, startRight, signalRight}
-use Rattle.cluster.specs.Seen.{due, leading, hits, signalSeen}
-use Rattle.cluster.specs.Table.{frameCount, frameLength, signalAt}
-use Rattle.cluster.specs.Table.{signalFrame, signalKind, signalOffset, signalWidth, signalStart, isArray}
-use Rattle.cluster.proofs.Any.{any-ext}
-use Rattle.cluster.proofs.BitMarks.{BitMarks}
-use Rattle.cluster.proofs.Scan.{Agrees, due-is, leading-all}
-use Rattle.cluster.proofs.Widths.{offset-below, inside-frame, start-limit-high}
+use Rattle.wire.proofs.Tests.{whether}
+use Rattle.signal.specs.Signal.{inside}
+use Rattle.cluster.specs.Check.{fault, faults, signalFaults}
+use Rattle.cluster.specs.Columns.{signalWidthRight, startLimit, signalColumns}
+use Rattle.cluster.specs.Read.{due, leading, hits}
+use Rattle.cluster.specs.Right.{overlaps, signalRight, records}
+use Rattle.cluster.specs.Table.{mostFrames, frameCount, frameLength, signalCount, signalWords, signalAt}
+use Rattle.cluster.specs.Table.{signalFrame, signalKind, signalOffset, signalWidth, signalStart}
+use Rattle.cluster.specs.declared.Verdict.the-variants.{Accepted}
+use Rattle.cluster.proofs.BitMarks.{BitMarks, untaken, bits-marked, overlap-is}
+use Rattle.cluster.proofs.Scan.{Agrees, leading-all, all-there, halt-record, next-record, no-record}
+use Rattle.cluster.proofs.Widths.{offset-below, width-says, start-limit-high}
 
--- what a right width column says
-module _ (array : Bool) (bits taken offset width : ℕ)
-    (right : (widthRight array width && leb (offset + width) bits && not (hits taken offset width)) ≡ true) where
-  both : (widthRight array width ≡ true) × (1 ≤ width) × (offset + width ≤ bits)
-  both =
-      inside-frame array width (offset + width) bits
-      (and-left (widthRight array width && leb (offset + width) bits) (not (hits taken offset width)) right)
+-- the signals before signal s are passed, and their bits marked
+abbrev pub Passed : List ℕ → ℕ → List ℕ → Type 0
+Passed t s taken = (s ≤ signalCount t)
+    × BitMarks t s taken
+    × (signalFaults t ≡ faults t (signalAt t s) (records s (signalCount t - s) (signalRight t)))
 
-  not-hit : hits taken offset width ≡ false
-  not-hit =
-      not-true (hits taken offset width)
-      (and-right (widthRight array width && leb (offset + width) bits) (not (hits taken offset width)) right)
+pub none-passed : (t : List ℕ) → Passed t 0 (replicate mostFrames 0)
+none-passed t = (omega arith, untaken t, rw sub-zero)
+
+pub all-passed : (t : List ℕ) (s : ℕ) (taken : List ℕ) → Passed t s taken → signalCount t ≤ s → Accepted ≡ signalFaults t
+all-passed t s taken p h = sym (p .2 ∙ no-record t (signalAt t s) (signalRight t) s (signalCount t) h)
 
 module _ (t : List ℕ) (s : ℕ) (taken : List ℕ) where
-  -- the words of the record as they are read
+  -- the record's words as they are read, with the bits taken in its frame
 
   abbrev frameRead : ℕ
   frameRead = due t (signalAt t s)
 
-  abbrev arrayRead : Bool
-  arrayRead = eqb (due t (signalAt t s + 1)) 1
+  abbrev kindRead : ℕ
+  kindRead = due t (signalAt t s + 1)
 
   abbrev offsetRead : ℕ
   offsetRead = due t (signalAt t s + 2)
@@ -53,115 +55,95 @@ module _ (t : List ℕ) (s : ℕ) (taken : List ℕ) where
   abbrev bitsRead : ℕ
   bitsRead = 8 * frameLength t frameRead
 
-  abbrev takenRead : ℕ
-  takenRead = getD taken frameRead 0
+  abbrev hitRead : Bool
+  hitRead = hits (getD taken frameRead 0) offsetRead widthRead
 
   abbrev pub signalRead : List Bool
-  signalRead =
-      signalSeen (frameCount t) bitsRead takenRead frameRead (due t (signalAt t s + 1)) offsetRead widthRead startRead
+  signalRead = signalColumns (frameCount t) bitsRead hitRead frameRead kindRead offsetRead widthRead startRead
 
-  -- a word that is there is the field
+  module _ (p : Passed t s taken) (h : s < signalCount t) (few : frameCount t ≤ mostFrames)
+      (short : (f : ℕ) → f < frameCount t → frameLength t f ≤ 8) where
+    -- inside the frame the marks tell an overlap
+    width-agrees : (array : Bool) → signalFrame t s < frameCount t
+        → signalWidthRight array (8 * frameLength t (signalFrame t s)) (overlaps t s) (signalOffset t s) (signalWidth t s)
+        ≡ signalWidthRight array (8 * frameLength t (signalFrame t s)) (hits (getD taken (signalFrame t s) 0) (signalOffset t s) (signalWidth t s))
+        (signalOffset t s) (signalWidth t s)
+    width-agrees array f =
+        let end = signalOffset t s + signalWidth t s in
+        let bits = 8 * frameLength t (signalFrame t s) in
+        whether (leb end bits)
+        (λ e. rw (overlap-is t s taken (p .1) (omega (arith, leb-true end bits e, short (signalFrame t s) f)) f))
+        (λ e. simp (e, and-false))
 
-  frame-is : frameRead < 65536 → frameRead ≡ signalFrame t s
-  unfolding signalFrame
-  frame-is h = due-is t (signalAt t s) h
-
-  array-is : due t (signalAt t s + 1) < 65536 → arrayRead ≡ isArray t s
-  unfolding isArray signalKind
-  array-is h = rw (due-is t (signalAt t s + 1) h)
-
-  offset-is : offsetRead < 65536 → offsetRead ≡ signalOffset t s
-  unfolding signalOffset
-  offset-is h = due-is t (signalAt t s + 2) h
-
-  width-is : widthRead < 65536 → widthRead ≡ signalWidth t s
-  unfolding signalWidth
-  width-is h = due-is t (signalAt t s + 3) h
-
-  overlap-agrees : BitMarks t s taken → frameRead < 60 → frameRead ≡ signalFrame t s → offsetRead ≡ signalOffset t s → widthRead ≡ signalWidth t s
-      → overlaps t s ≡ hits takenRead offsetRead widthRead
-  unfolding overlaps hits
-  overlap-agrees m b f o w =
-      rw (← f, ← o, ← w)
-      (any-ext widthRead (λ k. takenBefore t s frameRead (offsetRead + k)) (λ k. bit takenRead (offsetRead + k))
-      (λ k h. sym (m .1 frameRead b (offsetRead + k))))
-
-  -- the columns from each word on, where those before it are seen as right
-
-  module _ (array : arrayRead ≡ isArray t s) where
-    from-start : widthRead ≡ signalWidth t s → widthRight arrayRead widthRead ≡ true
-        → Agrees t (signalAt t s) 4 (ltb startRead (startLimit arrayRead widthRead) ∷ []) (startRight t s ∷ [])
-    unfolding startRight signalStart
-    from-start width kind = (
-      (λ e. omega (arith, ltb-true startRead (startLimit arrayRead widthRead) e, start-limit-high arrayRead widthRead kind)),
-      (λ w. rw (← array, ← width, w)),
-      (λ _. refl),
+    agrees : Agrees t (signalAt t s) 0 signalRead (signalRight t s)
+    unfolding signalColumns signalRight signalFrame signalKind signalOffset signalWidth signalStart
+    agrees = (
+      (λ e. omega (arith, ltb-true frameRead (frameCount t) e)),
+      (λ f. (
+        rw f,
+        λ e0. let below = ltb-true frameRead (frameCount t) e0 in (
+          (λ e. omega (arith, leb-true kindRead 1 e)),
+          (λ k. (
+            rw k,
+            λ _. (
+              (λ e. omega (arith, offset-below (eqb kindRead 1) bitsRead offsetRead e, short frameRead below)),
+              (λ o. (
+                rw (f, k, o),
+                λ _. (
+                  (λ e. omega (arith, width-says (eqb kindRead 1) bitsRead hitRead offsetRead widthRead e, short frameRead below)),
+                  (λ w. (
+                    rw (f, k, o, w) (width-agrees (eqb (signalKind t s) 1) (omega arith)),
+                    λ e3.
+                        let wide = width-says (eqb kindRead 1) bitsRead hitRead offsetRead widthRead e3 in (
+                          (λ e. omega (arith, ltb-true startRead (startLimit (eqb kindRead 1) widthRead) e, start-limit-high (eqb kindRead 1) widthRead (wide .0))),
+                          (λ v. (rw (k, w, v), λ _. refl)),
+                        ),
+                  )),
+                ),
+              )),
+            ),
+          )),
+        ),
+      )),
     )
 
-    module _ (m : BitMarks t s taken) (below : frameRead < 60) (frame : frameRead ≡ signalFrame t s) (short : bitsRead ≤ 64) where
-      width-agrees : offsetRead ≡ signalOffset t s → widthRead ≡ signalWidth t s
-          → signalWidthRight t s
-          ≡ (widthRight arrayRead widthRead && leb (offsetRead + widthRead) bitsRead && not (hits takenRead offsetRead widthRead))
-      unfolding signalWidthRight
-      width-agrees o w = rw (overlap-agrees m below frame o w, ← array, ← frame, ← o, ← w)
+    -- a word is not right
+    pub stops : leading signalRead < signalWords → (place : ℕ) → signalAt t s + leading signalRead ≡ place → fault place ≡ signalFaults t
+    unfolding signalColumns
+    stops l place e =
+        sym (p .2 ∙ halt-record t (signalRight t) s (signalCount t) (signalAt t s) signalRead place h agrees l e)
 
-      from-width : offsetRead ≡ signalOffset t s
-          → Agrees t (signalAt t s) 3
-          ((widthRight arrayRead widthRead && leb (offsetRead + widthRead) bitsRead && not (hits takenRead offsetRead widthRead))
-          ∷ ltb startRead (startLimit arrayRead widthRead)
-          ∷ [])
-          (signalWidthRight t s ∷ startRight t s ∷ [])
-      unfolding signalWidth
-      from-width o = (
-        (λ e. omega (arith, both arrayRead bitsRead takenRead offsetRead widthRead e)),
-        (λ w. width-agrees o w),
-        (λ e. from-start
-            (width-is (omega (arith, both arrayRead bitsRead takenRead offsetRead widthRead e)))
-            (both arrayRead bitsRead takenRead offsetRead widthRead e .0)),
+    -- all words are right: the field read lies in a frame of the table, and its bits are free
+    module _ (right : signalWords ≤ leading signalRead) where
+      pub record Placed : Type 0 where
+        pub below : frameRead < mostFrames
+        pub wide : 1 ≤ widthRead
+        pub fits : offsetRead + widthRead ≤ 64
+        pub free : hitRead ≡ false
+
+      frame-below : frameRead < frameCount t
+      unfolding signalColumns
+      frame-below = ltb-true frameRead (frameCount t) (leading-all signalRead right .0)
+
+      pub placed : Placed
+      unfolding signalColumns
+      placed =
+          let says = width-says (eqb kindRead 1) bitsRead hitRead offsetRead widthRead (leading-all signalRead right .1 .1 .1 .0) in
+          let bytes = short frameRead frame-below in
+          record { below = omega (arith, frame-below); wide = says .1; fits = omega arith; free = says .3 }
+
+      are : (frameRead ≡ signalFrame t s) × (offsetRead ≡ signalOffset t s) × (widthRead ≡ signalWidth t s)
+      unfolding signalColumns signalFrame signalOffset signalWidth
+      are =
+          let there = all-there t (signalAt t s) 0 signalRead (signalRight t s) agrees (leading-all signalRead right) in
+          (there .0, there .1 .1 .0, there .1 .1 .1 .0)
+
+      pub passes : (r : ℕ) → ((j : ℕ) → bit r j ≡ (bit (getD taken frameRead 0) j || inside offsetRead widthRead j)) → Passed t (s + 1) (set taken frameRead r)
+      unfolding signalColumns
+      passes r put = (
+        omega arith,
+        rw (are .0)
+            (bits-marked t s taken (p .1) (omega (arith, are, placed .fits)) (omega (arith, are, placed .below)) r
+            (λ j. rw (are .0, are .1, are .2) at (put j))),
+        p .2 ∙ next-record t (signalRight t) s (signalCount t) (signalAt t s) signalRead (signalAt t (s + 1)) h agrees right (omega arith),
       )
-
-  pub signal-agrees : frameCount t ≤ 60 → ((f : ℕ) → f < frameCount t → frameLength t f ≤ 8) → BitMarks t s taken
-      → Agrees t (signalAt t s) 0 signalRead (signalRight t s)
-  unfolding signalSeen signalRight signalFrameRight signalFrame signalKindRight signalKind signalOffset
-  signal-agrees few short m = (
-    (λ e. omega (arith, ltb-true frameRead (frameCount t) e)),
-    (λ w. rw w),
-    (λ e0. let f : frameRead < frameCount t = ltb-true frameRead (frameCount t) e0 in (
-      (λ e. omega (arith, leb-true (due t (signalAt t s + 1)) 1 e)),
-      (λ w. rw w),
-      (λ e1. let array = array-is (omega (arith, leb-true (due t (signalAt t s + 1)) 1 e1)) in (
-        (λ e. omega (arith, offset-below arrayRead bitsRead offsetRead e, short frameRead f)),
-        (λ w. rw (← array, ← (frame-is (omega arith)), w)),
-        (λ e2. from-width array m (omega arith) (frame-is (omega arith)) (omega (arith, short frameRead f))
-            (offset-is (omega (arith, offset-below arrayRead bitsRead offsetRead e2, short frameRead f)))),
-      )),
-    )),
-  )
-
-  -- ---- a signal of which all words are seen as right
-
-  pub record Placed : Type 0 where
-    pub below : frameRead < 60
-    pub frame : frameRead ≡ signalFrame t s
-    pub offset : offsetRead ≡ signalOffset t s
-    pub width : widthRead ≡ signalWidth t s
-    pub wide : 1 ≤ widthRead
-    pub fits : offsetRead + widthRead ≤ 64
-    pub free : hits takenRead offsetRead widthRead ≡ false
-
-  pub placed : frameCount t ≤ 60 → ((f : ℕ) → f < frameCount t → frameLength t f ≤ 8) → 5 ≤ leading signalRead → Placed
-  unfolding signalSeen
-  placed few short h =
-      let right = leading-all signalRead h in
-      let f : frameRead < frameCount t = ltb-true frameRead (frameCount t) (right .0) in
-      let end = both arrayRead bitsRead takenRead offsetRead widthRead (right .1 .1 .1 .0) in
-      let b : frameLength t frameRead ≤ 8 = short frameRead f in
-      record {
-        below = omega arith;
-        frame = frame-is (omega arith);
-        offset = offset-is (omega arith);
-        width = width-is (omega arith);
-        wide = end .1;
-        fits = omega arith;
-        free = not-hit arrayRead bitsRead takenRead offsetRead widthRead (right .1 .1 .1 .0);
-      }

@@ -11,7 +11,8 @@ use Rattle.signal.specs.Signal.{bitAt, putBits, scalarWidth, putScalar, putArra
 use Rattle.signal.proofs.Inside.{order}
 use Rattle.signal.proofs.PutBits.{put-length, put-bytes}
 use Rattle.cluster.specs.Table.{frameCount, signalCount, signalWidth, signalStart, isArray}
-use Rattle.cluster.specs.Fresh.{signalPlace, arrayLength, putStart, filled, freshBytes}
+use Rattle.cluster.specs.Fresh.{arrayLength, putStart, filled, freshBytes}
+use Rattle.cluster.specs.Places.{signalPlace}
 
 -- the bytes of an array's start value
 unfoldable pub startBytes : List ℕ → ℕ → List ℕ

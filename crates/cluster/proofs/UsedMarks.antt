@@ -8,32 +8,35 @@ use native.Mathlib.Numerals.{add-one}
 use native.Mathlib.Omega.{arith}
 use borrow.Author.Tests.{eq-eqb, ne-eqb}
 use lib.Dec.{eqb}
-use lib.ListN.{length, getD, set, replicate, getD-replicate, length-set}
+use lib.ListN.{length, getD, set, replicate, getD-replicate, length-replicate, length-set, List·getD-eq-default}
 use lib.Seq.{getD-set-same, getD-set-other}
+use Rattle.signal.proofs.Inside.{order}
 use Rattle.cluster.specs.Right.{anyBelow}
 
--- the marks say of each number below 60 whether one of the first n records has it
-abbrev pub Marks : (ℕ → ℕ) → ℕ → List Bool → Type 0
-Marks key n marks = (length marks ≡ 60) × ((x : ℕ) → x < 60 → getD marks x false ≡ anyBelow n (λ k. eqb (key k) x))
+-- an array of one value reads as that value, there and behind
+pub getD-same : {A : Type 0} (n : ℕ) (v : A) (i : ℕ) → getD (replicate n v) i v ≡ v
+getD-same n v i =
+    order i n
+    (λ h. getD-replicate n i v v h)
+    (λ h. List·getD-eq-default (replicate n v) v (omega (arith, length-replicate n v)))
 
-pub unmarked : (key : ℕ → ℕ) → Marks key 0 (replicate 60 false)
+-- the marks say of each number whether one of the first n records has it
+abbrev pub Marks : ℕ → (ℕ → ℕ) → ℕ → List Bool → Type 0
+Marks size key n marks = (length marks ≡ size) × ((x : ℕ) → getD marks x false ≡ anyBelow n (λ k. eqb (key k) x))
+
+pub unmarked : (size : ℕ) (key : ℕ → ℕ) → Marks size key 0 (replicate size false)
 unfolding anyBelow
-unmarked key = (refl, λ x h. getD-replicate 60 x false false h)
-
--- the mark of a record's own number says whether an earlier record has it
-pub mark-read : (key : ℕ → ℕ) (n : ℕ) (marks : List Bool) → Marks key n marks → key n < 60
-    → anyBelow n (λ k. eqb (key k) (key n)) ≡ getD marks (key n) false
-mark-read key n marks m h = sym (m .1 (key n) h)
+unmarked size key = (length-replicate size false, getD-same size false)
 
 -- one record more, by cases of the number asked about
-module _ (key : ℕ → ℕ) (n : ℕ) (marks : List Bool) (m : Marks key n marks) (x : ℕ) (h : x < 60) where
-  more : getD (set marks (key n) true) x false ≡ anyBelow (suc n) (λ k. eqb (key k) x)
+module _ (size : ℕ) (key : ℕ → ℕ) (n : ℕ) (marks : List Bool) (m : Marks size key n marks) (below : key n < size) where
+  more : (x : ℕ) → getD (set marks (key n) true) x false ≡ anyBelow (suc n) (λ k. eqb (key k) x)
   unfolding anyBelow
-  more =
+  more x =
       elim (ℕ-discrete x (key n)) [
-        | yes p ↦ rw (← p, getD-set-same marks x true false (omega (arith, m .0)), eq-eqb x x refl)
-        | no d ↦ rw (getD-set-other marks (key n) x true false d, ne-eqb (key n) x (λ p. d (sym p))) (m .1 x h)
+        | yes p ↦ rw (p, getD-set-same marks (key n) true false (omega (arith, m .0)), eq-eqb (key n) (key n) refl)
+        | no d ↦ rw (getD-set-other marks (key n) x true false d, ne-eqb (key n) x (λ p. d (sym p))) (m .1 x)
       ]
 
-pub marked : (key : ℕ → ℕ) (n : ℕ) (marks : List Bool) → Marks key n marks → Marks key (n + 1) (set marks (key n) true)
-marked key n marks m = (simp length-set (m .0), λ x h. rw (add-one n) (more key n marks m x h))
+  pub marked : Marks size key (n + 1) (set marks (key n) true)
+  marked = (simp length-set (m .0), λ x. rw (add-one n) (more x))

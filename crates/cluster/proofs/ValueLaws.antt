@@ -8,16 +8,18 @@ use native.Mathlib.Omega.{arith}
 use borrow.Author.Tests.{ltb-true, eqb-true, eqb-false}
 use lib.ListN.{length, getD}
 use Rattle.wire.specs.Bits.{bit, Bytes}
-use Rattle.signal.specs.Signal.{bitAt, inside, putBits, scalarWidth, putScalar, putArray}
+use Rattle.signal.specs.Signal.{bitAt, putBits, scalarWidth, putScalar, putArray}
 use Rattle.signal.proofs.Inside.{order}
 use Rattle.signal.proofs.Laws.{Apart, bit-stays, byte-stays, put-alike, get-put-value, get-put-array, get-other, get-other-array}
 use Rattle.signal.proofs.PutBits.{put-length, put-bytes}
 use Rattle.cluster.specs.Check.{RightTable}
-use Rattle.cluster.specs.Fresh.{signalPlace, arrayLength}
+use Rattle.cluster.specs.Fresh.{arrayLength}
+use Rattle.cluster.specs.Places.{signalPlace, occupies}
 use Rattle.cluster.specs.Table.{frameCount, published, signalCount, signalFrame, signalWidth, isArray}
 use Rattle.cluster.specs.Values.{touches, signalPublished, valueFits, arrayFits, scalarValue, arrayValue, withScalar, withArray}
-use Rattle.cluster.proofs.FreshLaws.{not-inside}
-use Rattle.cluster.proofs.PlaceLaws.{place-frame, place-end, places-apart}
+use Rattle.cluster.proofs.DisjointSignals.{places-apart}
+use Rattle.cluster.proofs.Occupied.{not-occupied}
+use Rattle.cluster.proofs.PlaceLaws.{place-frame, place-end}
 use Rattle.cluster.proofs.SignalLaws.{signal-frame-below, scalar-width-high}
 use Rattle.cluster.proofs.Widths.{scalar-limit}
 
@@ -94,11 +96,11 @@ array-write t bs s vs h = record {
 }
 
 module _ (t bs : List ℕ) (s : ℕ) (after : List ℕ) (w : Write t bs s after) where
-  outside : (j : ℕ) → inside (signalPlace t s) (signalWidth t s) j ≡ false → bitAt after j ≡ bitAt bs j
+  outside : (j : ℕ) → occupies t s j ≡ false → bitAt after j ≡ bitAt bs j
   outside j h =
       rw (w .put)
       (bit-stays bs (signalPlace t s) (w .width) (w .bits) j
-      (⊎-elim (λ a. inl a) (λ a. inr (omega (arith, w .within))) (not-inside (signalPlace t s) (signalWidth t s) j h)))
+      (⊎-elim (λ a. inl a) (λ a. inr (omega (arith, w .within))) (not-occupied t s j h)))
 
   module _ (ok : RightTable t) (hs : s < signalCount t) where
     untouched : Bytes bs → (f : ℕ) → touches t s f ≡ false → (k : ℕ) → k < 8 → getD after (8 * f + k) 0 ≡ getD bs (8 * f + k) 0
@@ -178,13 +180,13 @@ module _ (t : List ℕ) (ok : RightTable t) where
     array-untouched bs hb vs f a b = untouched t bs s (withArray t bs s vs) (array-write t bs s vs b) ok h hb f
 
     -- a write of a scalar changes no bit outside the signal
-    pub scalar-outside : (bs : List ℕ) (v : ℕ) → isArray t s ≡ false → (j : ℕ) → inside (signalPlace t s) (signalWidth t s) j ≡ false
+    pub scalar-outside : (bs : List ℕ) (v : ℕ) → isArray t s ≡ false → (j : ℕ) → occupies t s j ≡ false
         → bitAt (withScalar t bs s v) j ≡ bitAt bs j
     scalar-outside bs v a = outside t bs s (withScalar t bs s v) (scalar-write t bs s v)
 
     -- a write of an array changes no bit outside the signal
     pub array-outside : (bs vs : List ℕ) → isArray t s ≡ true → arrayFits t s vs ≡ true → (j : ℕ)
-        → inside (signalPlace t s) (signalWidth t s) j ≡ false → bitAt (withArray t bs s vs) j ≡ bitAt bs j
+        → occupies t s j ≡ false → bitAt (withArray t bs s vs) j ≡ bitAt bs j
     array-outside bs vs a b = outside t bs s (withArray t bs s vs) (array-write t bs s vs b)
 
     -- a signal touches frames of the table only

@@ -10,7 +10,8 @@ use lib.ListN.{length, take, drop, replicate}
 use lib.Pow.{pow-mono, shl-exact}
 use lib.Seq.{length-take-le}
 use Rattle.signal.specs.Signal.{getArray}
-use Rattle.cluster.specs.Fresh.{signalPlace, arrayLength}
+use Rattle.cluster.specs.Fresh.{arrayLength}
+use Rattle.cluster.specs.Places.{signalPlace}
 use Rattle.cluster.specs.Table.{signalWidth}
 use Rattle.cluster.specs.Values.{valueFits, arrayValue, arrayRead}
 use Rattle.cluster.specs.declared.values.Array.{Array}

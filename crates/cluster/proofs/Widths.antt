@@ -1,14 +1,14 @@
 -- The offsets, widths and start values that each kind of signal takes.
-use Prim.Native.Nat.{ℕ, _*_, _%_, _^_, _≤_, _<_}
+use Prim.Native.Nat.{ℕ, _+_, _*_, _%_, _^_, _≤_, _<_}
 use mathlib.Core.Path.{_≡_, _∙_}
-use mathlib.Core.Bool.{Bool, true, false, cond, _&&_}
+use mathlib.Core.Bool.{Bool, true, false, not, cond, _&&_}
 use native.Mathlib.Omega.{arith}
-use borrow.Author.Tests.{ltb-true, leb-true, eqb-true}
+use borrow.Author.Tests.{ltb-true, leb-true, eqb-true, not-true}
 use lib.Dec.{ltb, leb, eqb}
 use lib.Pow.{pow-mono, shl-exact}
 use Rattle.wire.proofs.Tests.{and-left, and-right}
-use Rattle.cluster.specs.Right.{within, offsetRight, widthRight, startLimit}
-use Rattle.cluster.proofs.Ranges.{within-low, within-high}
+use Rattle.cluster.specs.Columns.{within, offsetRight, widthRight, signalWidthRight, startLimit}
+use Rattle.cluster.proofs.Clauses.{within-low, within-high}
 
 pub offset-below : (array : Bool) (bits offset : ℕ) → offsetRight array bits offset ≡ true → offset < bits
 unfolding offsetRight
@@ -43,3 +43,10 @@ pub inside-frame : (array : Bool) (w end bits : ℕ) → (widthRight array w && 
 inside-frame array w end bits h =
     let kind : widthRight array w ≡ true = and-left (widthRight array w) (leb end bits) h in
     (kind, width-range array w kind .0, leb-true end bits (and-right (widthRight array w) (leb end bits) h))
+
+-- what a right width column says
+pub width-says : (array : Bool) (bits : ℕ) (overlap : Bool) (offset width : ℕ) → signalWidthRight array bits overlap offset width ≡ true
+    → (widthRight array width ≡ true) × (1 ≤ width) × (offset + width ≤ bits) × (overlap ≡ false)
+width-says array bits overlap offset width h =
+    let placed = inside-frame array width (offset + width) bits (and-left (widthRight array width && leb (offset + width) bits) (not overlap) h) in
+    (placed .0, placed .1, placed .2, not-true overlap (and-right (widthRight array width && leb (offset + width) bits) (not overlap) h))

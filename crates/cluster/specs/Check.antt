@@ -8,8 +8,8 @@ use lib.ListN.{length}
 use Rattle.refusal.specs.Numbers.{table, refusedAt}
 use Rattle.cluster.specs.declared.Verdict.{Verdict}
 use Rattle.cluster.specs.declared.Verdict.the-variants.{Accepted, Refused}
-use Rattle.cluster.specs.Table.{size}
-use Rattle.cluster.specs.Right.{wordsRight}
+use Rattle.cluster.specs.Table.{frameCount, signalCount, memberCount, entryCount, frameAt, signalAt, memberAt, entryAt, size}
+use Rattle.cluster.specs.Right.{records, headerRight, frameRight, signalRight, memberRight, entryRight, wordsRight}
 
 -- "refusal 1" with the position
 abbrev pub fault : ℕ → Verdict
@@ -24,6 +24,22 @@ faults t i (right ∷ rest) = cond (ltb i (length t) && right) (faults t (suc i)
 abbrev pub then : Verdict → Verdict → Verdict
 then Accepted v = v
 then (Refused r) v = Refused r
+
+-- the first fault of each section, where the sections before have none
+abbrev pub headerFaults : List ℕ → Verdict
+headerFaults t = faults t 0 (headerRight t)
+
+abbrev pub frameFaults : List ℕ → Verdict
+frameFaults t = faults t (frameAt 0) (records 0 (frameCount t) (frameRight t))
+
+abbrev pub signalFaults : List ℕ → Verdict
+signalFaults t = faults t (signalAt t 0) (records 0 (signalCount t) (signalRight t))
+
+abbrev pub memberFaults : List ℕ → Verdict
+memberFaults t = faults t (memberAt t 0) (records 0 (memberCount t) (memberRight t))
+
+abbrev pub entryFaults : List ℕ → Verdict
+entryFaults t = faults t (entryAt t 0) (records 0 (entryCount t) (entryRight t))
 
 -- a word behind the last record is surplus
 unfoldable pub surplus : List ℕ → Verdict

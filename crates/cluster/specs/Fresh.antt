@@ -1,14 +1,11 @@
 -- Document 01, "The cluster table": what a fresh call leaves in the frame buffer.
-use Prim.Native.Nat.{ℕ, zero, suc, _+_, _*_, _/_, _%_, min}
+use Prim.Native.Nat.{ℕ, zero, suc, _*_, _/_, _%_, min}
 use mathlib.Core.Bool.{cond}
 use mathlib.Core.List.{List}
 use lib.ListN.{replicate}
 use Rattle.signal.specs.Signal.{putScalar, putArray}
-use Rattle.cluster.specs.Table.{frameCount, signalCount, signalFrame, signalOffset, signalWidth, signalStart, isArray}
-
--- "Frame data lie in a lent buffer of exactly 8F bytes, eight a frame": the bit of the buffer at which a signal begins
-unfoldable pub signalPlace : List ℕ → ℕ → ℕ
-signalPlace t s = 64 * signalFrame t s + signalOffset t s
+use Rattle.cluster.specs.Table.{frameCount, signalCount, signalWidth, signalStart, isArray}
+use Rattle.cluster.specs.Places.{signalPlace}
 
 -- the bytes of an array; above 8, which no right table has, they count as 8
 unfoldable pub arrayLength : List ℕ → ℕ → ℕ

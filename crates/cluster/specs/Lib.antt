@@ -1,8 +1,9 @@
 pub mod Table
-pub mod Values
+pub mod Places
+pub mod Columns
 pub mod Right
 pub mod Check
 pub mod Lists
 pub mod Fresh
-pub mod Seen
+pub mod Values
 pub mod Read

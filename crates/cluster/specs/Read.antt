@@ -1,11 +1,36 @@
--- The words of a signal's and of an entry's record as the check reads them; only private contracts cite this.
-use Prim.Native.Nat.{ℕ, _+_, _≤_}
+-- What the steps of the check read and compute; only private contracts cite this.
+use Prim.Native.Nat.{ℕ, suc, _+_, _≤_}
 use mathlib.Core.Path.{_≡_}
-use mathlib.Core.List.{List}
+use mathlib.Core.Bool.{Bool, cond}
+use mathlib.Core.List.{List, [], _∷_}
+use lib.Dec.{ltb}
+use lib.ListN.{length}
+use Rattle.wire.specs.Bits.{bit}
 use Rattle.cluster.specs.declared.entries.Words as entry
 use Rattle.cluster.specs.declared.signals.Words as signal
-use Rattle.cluster.specs.Seen.{due}
+use Rattle.cluster.specs.Table.{word}
+use Rattle.cluster.specs.Columns.{signalColumns}
+use Rattle.cluster.specs.Right.{anyBelow}
 
+-- the word at a position, and 65536, which no column takes, where it is missing
+unfoldable pub due : List ℕ → ℕ → ℕ
+due t i = cond (ltb i (length t)) (word t i) 65536
+
+-- how many words are right before the first that is not
+unfoldable pub leading : List Bool → ℕ
+leading [] = 0
+leading (right ∷ rest) = cond right (suc (leading rest)) 0
+
+-- some bit of a field is set in the number of the bits taken
+unfoldable pub hits : ℕ → ℕ → ℕ → Bool
+hits taken offset width = anyBelow width (λ k. bit taken (offset + k))
+
+-- the columns of a signal's record as it was read, with the number of the bits taken in its frame
+abbrev pub signalSeen : ℕ → ℕ → ℕ → signal.Words → List Bool
+signalSeen frames bits taken w =
+    signalColumns frames bits (hits taken (w .offset) (w .width)) (w .frame) (w .kind) (w .offset) (w .width) (w .start)
+
+-- the words of a signal's and of an entry's record
 pub record SignalRead (t : List ℕ) (at : ℕ) (r : signal.Words) : Type 0 where
   pub frame-is : r .frame ≡ due t at
   pub kind-is : r .kind ≡ due t (at + 1)

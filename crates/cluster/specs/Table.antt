@@ -25,23 +25,56 @@ memberCount t = word t 2
 unfoldable pub entryCount : List ℕ → ℕ
 entryCount t = word t 3
 
--- ---- the first word of each record: frames of 3 words, then signals of 5, members of 2 and entries of 4
+-- ---- "frames F (0..60), signals S (0..256), list members M (0..60), schedule entries E (0..256)"
+
+abbrev pub mostFrames : ℕ
+mostFrames = 60
+
+abbrev pub mostSignals : ℕ
+mostSignals = 256
+
+abbrev pub mostMembers : ℕ
+mostMembers = 60
+
+abbrev pub mostEntries : ℕ
+mostEntries = 256
+
+-- "identifier 0..59": how many identifiers there are for frames
+abbrev pub identifiers : ℕ
+identifiers = 60
+
+-- ---- the words of the header and of each record, and where a record begins
+
+abbrev pub headerWords : ℕ
+headerWords = 4
+
+abbrev pub frameWords : ℕ
+frameWords = 3
+
+abbrev pub signalWords : ℕ
+signalWords = 5
+
+abbrev pub memberWords : ℕ
+memberWords = 2
+
+abbrev pub entryWords : ℕ
+entryWords = 4
 
 abbrev pub frameAt : ℕ → ℕ
-frameAt f = 4 + 3 * f
+frameAt f = headerWords + frameWords * f
 
 abbrev pub signalAt : List ℕ → ℕ → ℕ
-signalAt t s = frameAt (frameCount t) + 5 * s
+signalAt t s = frameAt (frameCount t) + signalWords * s
 
 abbrev pub memberAt : List ℕ → ℕ → ℕ
-memberAt t m = signalAt t (signalCount t) + 2 * m
+memberAt t m = signalAt t (signalCount t) + memberWords * m
 
 abbrev pub entryAt : List ℕ → ℕ → ℕ
-entryAt t e = memberAt t (memberCount t) + 4 * e
+entryAt t e = memberAt t (memberCount t) + entryWords * e
 
--- "Length is exactly 4 + 3F + 5S + 2M + 4E"
+-- "Length is exactly 4 + 3F + 5S + 2M + 4E": behind the last record the table ends
 unfoldable pub size : List ℕ → ℕ
-size t = 4 + 3 * frameCount t + 5 * signalCount t + 2 * memberCount t + 4 * entryCount t
+size t = entryAt t (entryCount t)
 
 -- ---- a frame: identifier, length, flags
 

@@ -7,7 +7,8 @@ use lib.Dec.{ltb, eqb}
 use lib.ListN.{length, replicate}
 use Rattle.signal.specs.Signal.{getScalar, putScalar, getArray, putArray}
 use Rattle.cluster.specs.Table.{published, signalFrame, signalWidth}
-use Rattle.cluster.specs.Fresh.{signalPlace, arrayLength}
+use Rattle.cluster.specs.Places.{signalPlace}
+use Rattle.cluster.specs.Fresh.{arrayLength}
 use Rattle.cluster.specs.declared.values.Array.{Array}
 
 -- signal s stands in frame f

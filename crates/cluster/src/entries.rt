@@ -3,18 +3,19 @@ use crate::Verdict;
 use crate::fault;
 use crate::frames;
 use crate::members;
+use crate::table::Layout;
 use crate::table::due;
 use crate::table::entry_at;
 use crate::table::follows;
 use crate::table::word;
 ghost use mathlib.Core.Path.{_≡_};
 ghost use Prim.Native.Nat.{_<_, _≤_};
-ghost use Rattle.cluster.specs.Check.{faults};
+ghost use Rattle.cluster.specs.Check.{entryFaults};
+ghost use Rattle.cluster.specs.Columns.{targetRight, entryColumns};
 ghost use Rattle.cluster.specs.Lists.{firstEntry, nextEntry};
-ghost use Rattle.cluster.specs.Read.{EntryRead};
-ghost use Rattle.cluster.specs.Right.{entryRight, targetRight, records};
-ghost use Rattle.cluster.specs.Seen.{entrySeen, leading};
-ghost use Rattle.cluster.specs.Table.{frameCount, signalCount, memberCount, entryCount, entryAt, scheduleCount};
+ghost use Rattle.cluster.specs.Read.{EntryRead, leading};
+ghost use Rattle.cluster.specs.Table.{mostFrames, mostSignals, mostMembers, mostEntries};
+ghost use Rattle.cluster.specs.Table.{frameCount, signalCount, memberCount, entryCount, scheduleCount};
 ghost use Rattle.cluster.specs.Table.{entrySchedule, entryKind, entryTarget, entryDelay};
 
 // How many entries there are, in all schedules together.
@@ -28,28 +29,28 @@ pub fn count(t: &[u16]) -> u16
 pub fn schedule(t: &[u16], e: u16) -> u16
     ensures { λ r. ⌜ r ≡ entrySchedule (now (t .entry)) e ⌝ }
 {
-    word(t, entry_at(t, e))
+    word(t, entry_at(t, e as usize))
 }
 
 // The kind of an entry: 0 frame, 1 list, 2 request, 3 response.
 pub fn kind(t: &[u16], e: u16) -> u16
     ensures { λ r. ⌜ r ≡ entryKind (now (t .entry)) e ⌝ }
 {
-    word(t, entry_at(t, e) + 1)
+    word(t, entry_at(t, e as usize) + 1)
 }
 
 // The target of an entry: a frame number, a list number, or 0.
 pub fn target(t: &[u16], e: u16) -> u16
     ensures { λ r. ⌜ r ≡ entryTarget (now (t .entry)) e ⌝ }
 {
-    word(t, entry_at(t, e) + 2)
+    word(t, entry_at(t, e as usize) + 2)
 }
 
 // The delay of an entry in ticks.
 pub fn delay(t: &[u16], e: u16) -> u16
     ensures { λ r. ⌜ r ≡ entryDelay (now (t .entry)) e ⌝ }
 {
-    word(t, entry_at(t, e) + 3)
+    word(t, entry_at(t, e as usize) + 3)
 }
 
 // How many schedules there are.
@@ -97,16 +98,16 @@ pub fn next(t: &[u16], e: u16) -> u16
 
 // Checks the entries' records.
 pub(crate) fn judge(t: &[u16]) -> Verdict
-    requires { ⌜ (frameCount (now t) ≤ 60) × (signalCount (now t) ≤ 256) × (memberCount (now t) ≤ 60) × (entryCount (now t) ≤ 256) ⌝ }
-    ensures { λ r. ⌜ r ≡ faults (now (t .entry)) (entryAt (now (t .entry)) 0) (records 0 (entryCount (now (t .entry))) (entryRight (now (t .entry)))) ⌝ }
+    requires { ⌜ (frameCount (now t) ≤ mostFrames) × (signalCount (now t) ≤ mostSignals) × (memberCount (now t) ≤ mostMembers) ⌝ }
+    requires { ⌜ entryCount (now t) ≤ mostEntries ⌝ }
+    ensures { λ r. ⌜ r ≡ entryFaults (now (t .entry)) ⌝ }
 {
     let lists = members::lists(t);
-    let first = entry_at(t, 0);
     let n = count(t) as usize;
     let mut schedules: usize = 0;
     let mut e: usize = 0;
     while e < n {
-        let at = first + 4 * e;
+        let at = entry_at(t, e);
         let words = read(t, at);
         let right = right_words(
             frames::count(t) as usize,
@@ -114,7 +115,7 @@ pub(crate) fn judge(t: &[u16]) -> Verdict
             follows(schedules, words.schedule),
             words,
         );
-        if right < 4 {
+        if right < Layout::ENTRY {
             return fault(at + right);
         }
         schedules = words.schedule + 1;
@@ -154,7 +155,7 @@ fn read(t: &[u16], at: usize) -> Words
 
 // How many words of an entry's record are right before the first that is not; `up` says that its schedule number follows.
 fn right_words(frames: usize, lists: usize, up: bool, words: Words) -> usize
-    ensures { λ r. ⌜ r ≡ leading (entrySeen frames lists up (words .kind) (words .target) (words .delay)) ⌝ }
+    ensures { λ r. ⌜ r ≡ leading (entryColumns frames lists up (words .kind) (words .target) (words .delay)) ⌝ }
 {
     if !up {
         return 0;

@@ -1,17 +1,19 @@
 // The frames of the table: their number, their fields, and the check of their records.
+use crate::Limits;
 use crate::Verdict;
 use crate::fault;
 use crate::marks::is_marked;
+use crate::table::Layout;
 use crate::table::due;
 use crate::table::frame_at;
 use crate::table::word;
 use wire::checksum::Model;
 ghost use mathlib.Core.Path.{_≡_};
 ghost use Prim.Native.Nat.{_*_, _≤_};
-ghost use Rattle.cluster.specs.Check.{faults};
-ghost use Rattle.cluster.specs.Right.{frameRight, records};
-ghost use Rattle.cluster.specs.Seen.{frameSeen, leading};
-ghost use Rattle.cluster.specs.Table.{frameAt, frameCount, identifier as identifierOf, frameLength, flags as flagsOf};
+ghost use Rattle.cluster.specs.Check.{frameFaults};
+ghost use Rattle.cluster.specs.Columns.{frameColumns};
+ghost use Rattle.cluster.specs.Read.{leading};
+ghost use Rattle.cluster.specs.Table.{mostFrames, frameCount, identifier as identifierOf, frameLength, flags as flagsOf};
 ghost use Rattle.cluster.specs.Table.{published as publishedOf, classic as classicOf, frameModel};
 
 // How many frames there are.
@@ -25,21 +27,21 @@ pub fn count(t: &[u16]) -> u16
 pub fn identifier(t: &[u16], f: u16) -> u16
     ensures { λ r. ⌜ r ≡ identifierOf (now (t .entry)) f ⌝ }
 {
-    word(t, frame_at(f))
+    word(t, frame_at(f as usize))
 }
 
 // The length of a frame in bytes.
 pub fn length(t: &[u16], f: u16) -> u16
     ensures { λ r. ⌜ r ≡ frameLength (now (t .entry)) f ⌝ }
 {
-    word(t, frame_at(f) + 1)
+    word(t, frame_at(f as usize) + 1)
 }
 
 // The flags of a frame.
 pub fn flags(t: &[u16], f: u16) -> u16
     ensures { λ r. ⌜ r ≡ flagsOf (now (t .entry)) f ⌝ }
 {
-    word(t, frame_at(f) + 2)
+    word(t, frame_at(f as usize) + 2)
 }
 
 // Whether the master publishes a frame.
@@ -72,7 +74,7 @@ pub(crate) fn publishes(t: &[u16], f: usize) -> bool
     requires { ⌜ f ≤ 65536 ⌝ }
     ensures { λ r. ⌜ r ≡ publishedOf (now (t .entry)) f ⌝ }
 {
-    word(t, 4 + 3 * f + 2) % 2 == 1
+    word(t, frame_at(f) + 2) % 2 == 1
 }
 
 // The bits of a frame, of which the number may be that of a missing word.
@@ -80,22 +82,22 @@ pub(crate) fn bits(t: &[u16], f: usize) -> usize
     requires { ⌜ f ≤ 65536 ⌝ }
     ensures { λ r. ⌜ r ≡ 8 * frameLength (now (t .entry)) f ⌝ }
 {
-    8 * (word(t, 4 + 3 * f + 1) as usize)
+    8 * (word(t, frame_at(f) + 1) as usize)
 }
 
 // Checks the frames' records; the identifiers used so far are marked.
 pub(crate) fn judge(t: &[u16]) -> Verdict
-    requires { ⌜ frameCount (now t) ≤ 60 ⌝ }
-    ensures { λ r. ⌜ r ≡ faults (now (t .entry)) (frameAt 0) (records 0 (frameCount (now (t .entry))) (frameRight (now (t .entry)))) ⌝ }
+    requires { ⌜ frameCount (now t) ≤ mostFrames ⌝ }
+    ensures { λ r. ⌜ r ≡ frameFaults (now (t .entry)) ⌝ }
 {
-    let mut used = [false; 60];
+    let mut used = [false; Limits::IDENTIFIERS];
     let n = count(t) as usize;
     let mut f: usize = 0;
     while f < n {
-        let at = 4 + 3 * f;
+        let at = frame_at(f);
         let id = due(t, at);
         let right = right_words(is_marked(&used, id), id, due(t, at + 1), due(t, at + 2));
-        if right < 3 {
+        if right < Layout::FRAME {
             return fault(at + right);
         }
         used[id] = true;
@@ -106,9 +108,9 @@ pub(crate) fn judge(t: &[u16]) -> Verdict
 
 // How many words of a frame's record are right before the first that is not.
 fn right_words(used: bool, id: usize, bytes: usize, flags: usize) -> usize
-    ensures { λ r. ⌜ r ≡ leading (frameSeen used id bytes flags) ⌝ }
+    ensures { λ r. ⌜ r ≡ leading (frameColumns used id bytes flags) ⌝ }
 {
-    if 59 < id {
+    if Limits::IDENTIFIERS <= id {
         return 0;
     }
     if used {

@@ -20,6 +20,21 @@ pub enum Verdict {
     Refused(Refusal),
 }
 
+// The most that a table has of each, and how many identifiers there are for frames.
+pub struct Limits;
+
+impl Limits {
+    pub const FRAMES: usize = 60;
+
+    pub const SIGNALS: usize = 256;
+
+    pub const MEMBERS: usize = 60;
+
+    pub const ENTRIES: usize = 256;
+
+    pub const IDENTIFIERS: usize = 60;
+}
+
 // Checks a table, word by word, each word once.
 pub fn check(t: &[u16]) -> Verdict
     ensures { λ r. ⌜ r ≡ judged (now (t .entry)) ⌝ }

@@ -1,11 +1,11 @@
-// Marks: a number below 60 that was used, and the bits of a frame that are taken, as one number.
+// Marks: a number that was used, and the bits of a frame that are taken, as one number.
 ghost use mathlib.Core.Path.{_≡_};
 ghost use mathlib.Core.Bool.{false, not, _||_};
 ghost use Prim.Native.Nat.{ℕ, _+_, _-_, _^_, _<_, _≤_};
 ghost use lib.ListN.{getD};
 ghost use Rattle.wire.specs.Bits.{bit};
 ghost use Rattle.signal.specs.Signal.{inside};
-ghost use Rattle.cluster.specs.Seen.{hits};
+ghost use Rattle.cluster.specs.Read.{hits};
 
 // Whether a number is marked.
 pub(crate) fn is_marked(marks: &[bool], i: usize) -> bool

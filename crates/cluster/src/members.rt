@@ -1,19 +1,22 @@
 // The list members of the table: their number, their fields, the lists, and the check of their records.
+use crate::Limits;
 use crate::Verdict;
 use crate::fault;
 use crate::frames;
 use crate::marks::is_marked;
+use crate::table::Layout;
 use crate::table::due;
 use crate::table::follows;
 use crate::table::member_at;
 use crate::table::word;
 ghost use mathlib.Core.Path.{_≡_};
 ghost use Prim.Native.Nat.{_≤_};
-ghost use Rattle.cluster.specs.Check.{faults};
+ghost use Rattle.cluster.specs.Check.{memberFaults};
+ghost use Rattle.cluster.specs.Columns.{memberColumns};
 ghost use Rattle.cluster.specs.Lists.{nextMember};
-ghost use Rattle.cluster.specs.Right.{memberRight, records};
-ghost use Rattle.cluster.specs.Seen.{memberSeen, leading};
-ghost use Rattle.cluster.specs.Table.{frameCount, signalCount, memberCount, memberAt, memberList, memberFrame, listCount};
+ghost use Rattle.cluster.specs.Read.{leading};
+ghost use Rattle.cluster.specs.Table.{mostFrames, mostSignals, mostMembers};
+ghost use Rattle.cluster.specs.Table.{frameCount, signalCount, memberCount, memberList, memberFrame, listCount};
 
 // How many members there are, in all lists together.
 pub fn count(t: &[u16]) -> u16
@@ -26,14 +29,14 @@ pub fn count(t: &[u16]) -> u16
 pub fn list(t: &[u16], m: u16) -> u16
     ensures { λ r. ⌜ r ≡ memberList (now (t .entry)) m ⌝ }
 {
-    word(t, member_at(t, m))
+    word(t, member_at(t, m as usize))
 }
 
 // The frame number of a member.
 pub fn frame(t: &[u16], m: u16) -> u16
     ensures { λ r. ⌜ r ≡ memberFrame (now (t .entry)) m ⌝ }
 {
-    word(t, member_at(t, m) + 1)
+    word(t, member_at(t, m as usize) + 1)
 }
 
 // How many lists there are.
@@ -66,16 +69,15 @@ pub fn next(t: &[u16], l: u16, m: u16) -> u16
 
 // Checks the members' records; the frames in a list so far are marked.
 pub(crate) fn judge(t: &[u16]) -> Verdict
-    requires { ⌜ (frameCount (now t) ≤ 60) × (signalCount (now t) ≤ 256) × (memberCount (now t) ≤ 60) ⌝ }
-    ensures { λ r. ⌜ r ≡ faults (now (t .entry)) (memberAt (now (t .entry)) 0) (records 0 (memberCount (now (t .entry))) (memberRight (now (t .entry)))) ⌝ }
+    requires { ⌜ (frameCount (now t) ≤ mostFrames) × (signalCount (now t) ≤ mostSignals) × (memberCount (now t) ≤ mostMembers) ⌝ }
+    ensures { λ r. ⌜ r ≡ memberFaults (now (t .entry)) ⌝ }
 {
-    let mut listed = [false; 60];
-    let first = member_at(t, 0);
+    let mut listed = [false; Limits::FRAMES];
     let n = count(t) as usize;
     let mut lists: usize = 0;
     let mut m: usize = 0;
     while m < n {
-        let at = first + 2 * m;
+        let at = member_at(t, m);
         let list = due(t, at);
         let f = due(t, at + 1);
         let right = right_words(
@@ -85,7 +87,7 @@ pub(crate) fn judge(t: &[u16]) -> Verdict
             is_marked(&listed, f),
             f,
         );
-        if right < 2 {
+        if right < Layout::MEMBER {
             return fault(at + right);
         }
         listed[f] = true;
@@ -97,7 +99,7 @@ pub(crate) fn judge(t: &[u16]) -> Verdict
 
 // How many words of a member's record are right before the first that is not.
 fn right_words(frames: usize, up: bool, published: bool, listed: bool, f: usize) -> usize
-    ensures { λ r. ⌜ r ≡ leading (memberSeen frames up published listed f) ⌝ }
+    ensures { λ r. ⌜ r ≡ leading (memberColumns frames up published listed f) ⌝ }
 {
     if !up {
         return 0;

@@ -1,10 +1,12 @@
 // The signals of the table: their number, their fields, and the check of their records.
+use crate::Limits;
 use crate::Verdict;
 use crate::fault;
 use crate::frames;
 use crate::marks::are_free;
 use crate::marks::bits_of;
 use crate::marks::with_bits;
+use crate::table::Layout;
 use crate::table::due;
 use crate::table::signal_at;
 use crate::table::word;
@@ -12,12 +14,12 @@ ghost use mathlib.Core.Path.{_≡_};
 ghost use mathlib.Core.Bool.{true, _&&_};
 ghost use Prim.Native.Nat.{ℕ, _+_, _<_, _≤_};
 ghost use lib.Dec.{leb};
-ghost use Rattle.cluster.specs.Check.{faults};
-ghost use Rattle.cluster.specs.Fresh.{signalPlace, arrayLength};
-ghost use Rattle.cluster.specs.Right.{offsetRight, widthRight, startLimit, signalRight, records};
-ghost use Rattle.cluster.specs.Seen.{signalSeen, leading};
-ghost use Rattle.cluster.specs.Read.{SignalRead};
-ghost use Rattle.cluster.specs.Table.{frameCount, frameLength, signalCount, signalAt};
+ghost use Rattle.cluster.specs.Check.{signalFaults};
+ghost use Rattle.cluster.specs.Columns.{offsetRight, widthRight, startLimit};
+ghost use Rattle.cluster.specs.Fresh.{arrayLength};
+ghost use Rattle.cluster.specs.Places.{signalPlace};
+ghost use Rattle.cluster.specs.Read.{SignalRead, leading, signalSeen};
+ghost use Rattle.cluster.specs.Table.{mostFrames, mostSignals, frameCount, frameLength, signalCount};
 ghost use Rattle.cluster.specs.Table.{signalFrame, signalKind, signalOffset, signalWidth, signalStart, isArray};
 
 // How many signals there are.
@@ -31,14 +33,14 @@ pub fn count(t: &[u16]) -> u16
 pub fn frame(t: &[u16], s: u16) -> u16
     ensures { λ r. ⌜ r ≡ signalFrame (now (t .entry)) s ⌝ }
 {
-    word(t, signal_at(t, s))
+    word(t, signal_at(t, s as usize))
 }
 
 // The kind of a signal: 0 scalar, 1 array.
 pub fn kind(t: &[u16], s: u16) -> u16
     ensures { λ r. ⌜ r ≡ signalKind (now (t .entry)) s ⌝ }
 {
-    word(t, signal_at(t, s) + 1)
+    word(t, signal_at(t, s as usize) + 1)
 }
 
 // Whether a signal is a byte array.
@@ -52,21 +54,21 @@ pub fn is_array(t: &[u16], s: u16) -> bool
 pub fn offset(t: &[u16], s: u16) -> u16
     ensures { λ r. ⌜ r ≡ signalOffset (now (t .entry)) s ⌝ }
 {
-    word(t, signal_at(t, s) + 2)
+    word(t, signal_at(t, s as usize) + 2)
 }
 
 // The bits of a signal.
 pub fn width(t: &[u16], s: u16) -> u16
     ensures { λ r. ⌜ r ≡ signalWidth (now (t .entry)) s ⌝ }
 {
-    word(t, signal_at(t, s) + 3)
+    word(t, signal_at(t, s as usize) + 3)
 }
 
 // The start value of a signal; of an array, of each byte.
 pub fn start(t: &[u16], s: u16) -> u16
     ensures { λ r. ⌜ r ≡ signalStart (now (t .entry)) s ⌝ }
 {
-    word(t, signal_at(t, s) + 4)
+    word(t, signal_at(t, s as usize) + 4)
 }
 
 // The first bit of a signal in the frame buffer.
@@ -87,21 +89,20 @@ pub fn array_length(t: &[u16], s: u16) -> usize
 
 // Checks the signals' records; the bits taken so far are marked, frame by frame.
 pub(crate) fn judge(t: &[u16]) -> Verdict
-    requires { ⌜ (frameCount (now t) ≤ 60) × (signalCount (now t) ≤ 256) ⌝ }
+    requires { ⌜ (frameCount (now t) ≤ mostFrames) × (signalCount (now t) ≤ mostSignals) ⌝ }
     requires { ⌜ ((f : ℕ) → f < frameCount (now t) → frameLength (now t) f ≤ 8) ⌝ }
-    ensures { λ r. ⌜ r ≡ faults (now (t .entry)) (signalAt (now (t .entry)) 0) (records 0 (signalCount (now (t .entry))) (signalRight (now (t .entry)))) ⌝ }
+    ensures { λ r. ⌜ r ≡ signalFaults (now (t .entry)) ⌝ }
 {
-    let mut taken = [0u64; 60];
-    let first = signal_at(t, 0);
+    let mut taken = [0u64; Limits::FRAMES];
     let n = count(t) as usize;
     let mut s: usize = 0;
     while s < n {
-        let at = first + 5 * s;
+        let at = signal_at(t, s);
         let words = read(t, at);
         let f = words.frame;
         let marks = bits_of(&taken, f);
         let right = right_words(frames::count(t) as usize, frames::bits(t, f), marks, words);
-        if right < 5 {
+        if right < Layout::SIGNAL {
             return fault(at + right);
         }
         taken[f] = with_bits(marks, words.offset, words.width);
@@ -146,7 +147,7 @@ fn read(t: &[u16], at: usize) -> Words
 fn right_words(frames: usize, bits: usize, taken: u64, words: Words) -> usize
     requires { ⌜ (words .offset ≤ 65536) × (words .width ≤ 65536) ⌝ }
     requires { ⌜ (words .frame < frames → bits ≤ 64) ⌝ }
-    ensures { λ r. ⌜ r ≡ leading (signalSeen frames bits taken (words .frame) (words .kind) (words .offset) (words .width) (words .start)) ⌝ }
+    ensures { λ r. ⌜ r ≡ leading (signalSeen frames bits taken words) ⌝ }
 {
     if frames <= words.frame {
         return 0;

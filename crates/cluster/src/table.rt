@@ -1,11 +1,12 @@
 // The words of the table, where the records stand, and the header.
+use crate::Limits;
 use crate::Verdict;
 use crate::fault;
 ghost use mathlib.Core.Path.{_≡_};
 ghost use Prim.Native.Nat.{_≤_, _<_};
-ghost use Rattle.cluster.specs.Check.{faults, surplus as surplusOf};
-ghost use Rattle.cluster.specs.Right.{headerRight};
-ghost use Rattle.cluster.specs.Seen.{due as dueOf, follows as followsOf, headerSeen, leading};
+ghost use Rattle.cluster.specs.Check.{headerFaults, surplus as surplusOf};
+ghost use Rattle.cluster.specs.Columns.{follows as followsOf, headerColumns};
+ghost use Rattle.cluster.specs.Read.{due as dueOf, leading};
 ghost use Rattle.cluster.specs.Table.{word as wordOf, frameAt, signalAt, memberAt, entryAt};
 
 // The word at a position, and 0 where there is none.
@@ -23,43 +24,62 @@ pub(crate) fn due(t: &[u16], i: usize) -> usize
     if i < t.len() { t[i] as usize } else { 65536 }
 }
 
+// The words of the header and of each record.
+pub(crate) struct Layout;
+
+impl Layout {
+    pub(crate) const HEADER: usize = 4;
+
+    pub(crate) const FRAME: usize = 3;
+
+    pub(crate) const SIGNAL: usize = 5;
+
+    pub(crate) const MEMBER: usize = 2;
+
+    pub(crate) const ENTRY: usize = 4;
+}
+
 // Where a frame's record begins.
-pub(crate) fn frame_at(f: u16) -> usize
+pub(crate) fn frame_at(f: usize) -> usize
+    requires { ⌜ f ≤ 65536 ⌝ }
     ensures { λ r. ⌜ r ≡ frameAt f ⌝ }
 {
-    4 + 3 * (f as usize)
+    Layout::HEADER + Layout::FRAME * f
 }
 
 // Where a signal's record begins.
-pub(crate) fn signal_at(t: &[u16], s: u16) -> usize
+pub(crate) fn signal_at(t: &[u16], s: usize) -> usize
+    requires { ⌜ s ≤ 65536 ⌝ }
     ensures { λ r. ⌜ r ≡ signalAt (now (t .entry)) s ⌝ }
     ensures { λ r. ⌜ r < 1000000 ⌝ }
 {
-    frame_at(word(t, 0)) + 5 * (s as usize)
+    frame_at(word(t, 0) as usize) + Layout::SIGNAL * s
 }
 
 // Where a member's record begins.
-pub(crate) fn member_at(t: &[u16], m: u16) -> usize
+pub(crate) fn member_at(t: &[u16], m: usize) -> usize
+    requires { ⌜ m ≤ 65536 ⌝ }
     ensures { λ r. ⌜ r ≡ memberAt (now (t .entry)) m ⌝ }
     ensures { λ r. ⌜ r < 2000000 ⌝ }
 {
-    signal_at(t, word(t, 1)) + 2 * (m as usize)
+    signal_at(t, word(t, 1) as usize) + Layout::MEMBER * m
 }
 
 // Where an entry's record begins.
-pub(crate) fn entry_at(t: &[u16], e: u16) -> usize
+pub(crate) fn entry_at(t: &[u16], e: usize) -> usize
+    requires { ⌜ e ≤ 65536 ⌝ }
     ensures { λ r. ⌜ r ≡ entryAt (now (t .entry)) e ⌝ }
     ensures { λ r. ⌜ r < 3000000 ⌝ }
 {
-    member_at(t, word(t, 2)) + 4 * (e as usize)
+    member_at(t, word(t, 2) as usize) + Layout::ENTRY * e
 }
 
 // Checks the header.
 pub(crate) fn judge(t: &[u16]) -> Verdict
-    ensures { λ r. ⌜ r ≡ faults (now (t .entry)) 0 (headerRight (now (t .entry))) ⌝ }
+    ensures { λ r. ⌜ r ≡ headerFaults (now (t .entry)) ⌝ }
 {
     let right = right_words(due(t, 0), due(t, 1), due(t, 2), due(t, 3));
-    if right < 4 {
+    if right < Layout::HEADER {
         fault(right)
     } else {
         Verdict::Accepted
@@ -68,25 +88,25 @@ pub(crate) fn judge(t: &[u16]) -> Verdict
 
 // How many words of the header are right before the first that is not.
 fn right_words(frames: usize, signals: usize, members: usize, entries: usize) -> usize
-    ensures { λ r. ⌜ r ≡ leading (headerSeen frames signals members entries) ⌝ }
+    ensures { λ r. ⌜ r ≡ leading (headerColumns frames signals members entries) ⌝ }
 {
-    if 60 < frames {
+    if Limits::FRAMES < frames {
         return 0;
     }
-    if 256 < signals {
+    if Limits::SIGNALS < signals {
         return 1;
     }
-    if 60 < members {
+    if Limits::MEMBERS < members {
         return 2;
     }
-    if entries <= 256 { 4 } else { 3 }
+    if entries <= Limits::ENTRIES { 4 } else { 3 }
 }
 
 // A word behind the last record.
 pub(crate) fn surplus(t: &[u16]) -> Verdict
     ensures { λ r. ⌜ r ≡ surplusOf (now (t .entry)) ⌝ }
 {
-    let end = entry_at(t, word(t, 3));
+    let end = entry_at(t, word(t, 3) as usize);
     if end < t.len() {
         fault(end)
     } else {
@@ -94,7 +114,7 @@ pub(crate) fn surplus(t: &[u16]) -> Verdict
     }
 }
 
-// Whether a list or schedule number may follow those before it, of which `count` are different.
+// Whether a list or schedule number may follow those before it; `count` is one more than the previous one.
 pub(crate) fn follows(count: usize, number: usize) -> bool
     requires { ⌜ number ≤ 65536 ⌝ }
     ensures { λ r. ⌜ r ≡ followsOf count number ⌝ }

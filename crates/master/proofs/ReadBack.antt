@@ -8,11 +8,12 @@ use borrow.Author.Tests.{lt-ltb, eqb-true}
 use lib.ListN.{length, getD, take, drop, replicate, length-take, length-drop, drop-of-length-le}
 use lib.Seq.{getD-take, getD-drop, ext-getD}
 use Rattle.wire.specs.Bits.{Bytes}
-use Rattle.signal.specs.Signal.{bitAt, inside}
+use Rattle.signal.specs.Signal.{bitAt}
 use Rattle.cluster.specs.declared.Verdict.the-variants.{Accepted}
 use Rattle.cluster.specs.Check.{then, RightTable}
-use Rattle.cluster.specs.Table.{frameCount, frameLength, signalCount, signalWidth, isArray}
-use Rattle.cluster.specs.Fresh.{signalPlace, arrayLength}
+use Rattle.cluster.specs.Table.{frameCount, frameLength, signalCount, isArray}
+use Rattle.cluster.specs.Places.{occupies}
+use Rattle.cluster.specs.Fresh.{arrayLength}
 use Rattle.cluster.specs.Values.{touches, valueFits, arrayFits, arrayRead}
 use Rattle.cluster.proofs.Accepted.{then-first, then-second}
 use Rattle.cluster.proofs.FrameLaws.{frame-length-high}
@@ -143,7 +144,7 @@ module _ (t : List ℕ) (ok : RightTable t) (bs : List ℕ) (s : ℕ) where
   value-untouched (array vs) w hb f n = array-untouched t ok s (w .below) bs hb vs f (w .kind-is) (w .value-fits) n
 
   -- and each bit outside the signal
-  value-outside : (v : Value) → Writable t s (isBytes v) (fitsSignal t s v) → (j : ℕ) → inside (signalPlace t s) (signalWidth t s) j ≡ false
+  value-outside : (v : Value) → Writable t s (isBytes v) (fitsSignal t s v) → (j : ℕ) → occupies t s j ≡ false
       → bitAt (withValue t bs s v) j ≡ bitAt bs j
   value-outside (scalar v) w = scalar-outside t ok s (w .below) bs v (w .kind-is)
   value-outside (array vs) w = array-outside t ok s (w .below) bs vs (w .kind-is) (w .value-fits)
@@ -160,7 +161,7 @@ module _ (t : List ℕ) (x : State) (bs : List ℕ) (w : Put) where
       (value-untouched t (knows .table-right) bs (w .signal) (w .value) (knows .signal) hb f n))
 
   -- a write, refused or not, changes no bit outside the signal
-  pub write-outside : (j : ℕ) → inside (signalPlace t (w .signal)) (signalWidth t (w .signal)) j ≡ false → bitAt (writeOf t x bs w .left) j ≡ bitAt bs j
+  pub write-outside : (j : ℕ) → occupies t (w .signal) j ≡ false → bitAt (writeOf t x bs w .left) j ≡ bitAt bs j
   unfolding writeOf
   write-outside j n =
       by-verdict (λ (z : Step Wrote). bitAt (z .left) j ≡ bitAt bs j) (writeVerdict t (length bs) x w) _ _

@@ -57,7 +57,7 @@ judge-requires-5 : tie.Need-judge-requires-5
 judge-requires-5 c κs =
     let t = c .before .before .before .before .before .before .before .before .before .before .before .before .before .args .t .now in
     let counts = header-passed t (sym (c .before .before .before .before .before .before .before .before .before .before .before .judge .ensures) ∙ c .before .before .before .before .before .before .before .before .before .enum-told .given .1) in
-    counts
+    ((counts .0, counts .1, counts .2), counts .3)
 
 returns-5 : tie.Need-returns-5
 returns-5 c =

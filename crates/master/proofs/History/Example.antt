@@ -13,11 +13,11 @@ use Rattle.cluster.specs.Table.{word, frameCount, signalCount, memberCount, ent
 use Rattle.cluster.specs.Table.{signalFrame, signalKind, signalOffset, signalWidth, signalStart, isArray, memberList, memberFrame}
 use Rattle.cluster.specs.Table.{entrySchedule, entryKind, entryTarget, entryDelay, counted, listCount, scheduleCount}
 use Rattle.cluster.specs.Lists.{firstFrom, membersFrom, members, firstEntry, nextEntry}
-use Rattle.cluster.specs.Right.{anyBelow, headerRight, identifierRight, lengthRight, flagsRight, frameRight, takenBefore, overlaps}
-use Rattle.cluster.specs.Right.{signalFrameRight, signalKindRight, offsetRight, widthRight, signalWidthRight, startLimit, startRight, signalRight}
-use Rattle.cluster.specs.Right.{countsUp, memberFrameRight, memberRight, entryKindRight, targetRight, delayRight, entryRight, records, wordsRight}
+use Rattle.cluster.specs.Columns.{headerColumns, frameColumns, offsetRight, widthRight, startLimit, signalColumns, follows, memberColumns, targetRight, entryColumns}
+use Rattle.cluster.specs.Places.{signalPlace, occupies}
+use Rattle.cluster.specs.Right.{anyBelow, headerRight, frameRight, takenBefore, overlaps, signalRight, memberRight, entryRight, records, wordsRight}
 use Rattle.cluster.specs.Check.{faults, surplus, judged}
-use Rattle.cluster.specs.Fresh.{signalPlace, putStart, filled, freshBytes}
+use Rattle.cluster.specs.Fresh.{putStart, filled, freshBytes}
 use Rattle.cluster.specs.Values.{touches, signalPublished, valueFits, withScalar}
 use Rattle.master.specs.declared.start.FreshAnswer.the-variants.{Fresh}
 use Rattle.master.specs.declared.write.WriteAnswer.the-variants.{Written}
@@ -82,29 +82,28 @@ sending =
     ▹ event (byteIn 247) (plain Success) none (entry 0)
 
 accepted : freshOf table buffer .given .answer ≡ Fresh
-unfolding freshOf freshVerdict bufferSize judged faults surplus wordsRight records headerRight frameRight identifierRight
-    lengthRight flagsRight anyBelow signalRight signalFrameRight signalKindRight offsetRight widthRight signalWidthRight
-    startLimit startRight takenBefore overlaps memberRight memberFrameRight countsUp entryRight entryKindRight targetRight
-    delayRight word frameCount signalCount memberCount entryCount size identifier frameLength flags published signalFrame
-    signalKind signalOffset signalWidth signalStart isArray memberList memberFrame entrySchedule entryKind entryTarget entryDelay
-    counted listCount inside bit
+unfolding freshOf freshVerdict bufferSize judged faults surplus wordsRight records headerRight frameRight anyBelow
+    signalRight offsetRight widthRight startLimit takenBefore overlaps memberRight entryRight targetRight word frameCount
+    signalCount memberCount entryCount size identifier frameLength flags published signalFrame signalKind signalOffset
+    signalWidth signalStart isArray memberList memberFrame entrySchedule entryKind entryTarget entryDelay counted listCount
+    inside bit entryColumns follows frameColumns headerColumns memberColumns occupies signalColumns signalPlace
 accepted = refl
 
 record-is : recordOf table buffer calls ≡ writing ⋈ sending
 unfolding scheduled schedule slotBegun slotAfter planAfter planBy planWith slotDue slotOf historyOf heldAfter leftBy answerOf
-    freshOf freshVerdict fresh bufferSize admitted judged faults surplus wordsRight records headerRight frameRight identifierRight
-    lengthRight flagsRight anyBelow signalRight signalFrameRight signalKindRight offsetRight widthRight signalWidthRight
-    startLimit startRight takenBefore overlaps memberRight memberFrameRight countsUp entryRight entryKindRight targetRight
-    delayRight word frameCount signalCount memberCount entryCount size identifier frameLength flags published classic signalFrame
-    signalKind signalOffset signalWidth signalStart isArray memberList memberFrame entrySchedule entryKind entryTarget entryDelay
+    freshOf freshVerdict fresh bufferSize admitted judged faults surplus wordsRight records headerRight frameRight anyBelow
+    signalRight offsetRight widthRight startLimit takenBefore overlaps memberRight entryRight targetRight word frameCount
+    signalCount memberCount entryCount size identifier frameLength flags published classic signalFrame signalKind
+    signalOffset signalWidth signalStart isArray memberList memberFrame entrySchedule entryKind entryTarget entryDelay
     counted listCount scheduleCount firstFrom membersFrom members firstEntry nextEntry signalPlace putStart filled freshBytes
     touches signalPublished valueFits withScalar bitAt number bytesOf inside replaced putBits putScalar bit p0 p1 xor
-    protectedByte withCarry sum covered modelOf inverted checksumByte stateFits entryThere scheduleThere frameThere currentDelay
-    waitFits bitFits pendingFits isOneOf entryOpens canOpen countFits messageFits lentFits isOpen openProtected openChecksum
-    frameData sentData copied opening asking waits entryDue begun selectVerdict selectOf writable markedFrom touchesOpen rewritten
-    marked writeOf tick.firstPending tick.slotOpens tick.abandoned tick.opensOrSilent tick.slotAt tick.slot tick.tickEffect
-    tick.tickVerdict tick.tickOf status.withCounted status.statusAfter messageSent clearedBit pendingSent sent received passed
-    early sentByte byteEffect byteVerdict byteOf formatOf
+    protectedByte withCarry sum covered modelOf inverted checksumByte stateFits entryThere scheduleThere frameThere
+    currentDelay waitFits bitFits pendingFits isOneOf entryOpens canOpen countFits messageFits lentFits isOpen openProtected
+    openChecksum frameData sentData copied opening asking waits entryDue begun selectVerdict selectOf writable markedFrom
+    touchesOpen rewritten marked writeOf tick.firstPending tick.slotOpens tick.abandoned tick.opensOrSilent tick.slotAt
+    tick.slot tick.tickEffect tick.tickVerdict tick.tickOf status.withCounted status.statusAfter messageSent clearedBit
+    pendingSent sent received passed early sentByte byteEffect byteVerdict byteOf formatOf entryColumns follows frameColumns
+    headerColumns memberColumns occupies signalColumns
 record-is = refl
 
 -- frame 1 is sent by the second success of its list

@@ -1,28 +1,29 @@
 -- `cluster::entries::right_words` meets its contract: each way out has the tests that led there.
 use borrow.Author.Tests.{le-leb, lt-leb, not-true, not-false}
 use mathlib.Core.Path.{sym, _∙_}
-use Rattle.cluster.specs.Seen.{entrySeen, leading}
+use Rattle.cluster.specs.Columns.{entryColumns}
+use Rattle.cluster.specs.Read.{leading}
 use borrow.Author.Needs.{needs}
 use Rattle.cluster.proofs.entries.right_words.Statement.{statement}
 use Rattle.cluster.proofs.entries.right_words.Tie as tie
 
 returns : tie.Need-returns
-unfolding entrySeen leading
+unfolding entryColumns leading
 returns c = simp (not-true (c .before .args .up) (c .if1 .taken))
 
 returns-2 : tie.Need-returns-2
-unfolding entrySeen leading
+unfolding entryColumns leading
 returns-2 c = simp (not-false (c .before .before .before .args .up) (c .before .before .if1 .left), lt-leb _ _ (c .if2 .taken))
 
 returns-3 : tie.Need-returns-3
-unfolding entrySeen leading
+unfolding entryColumns leading
 returns-3 c =
     let up = not-false (c .before .before .before .before .before .args .up) (c .before .before .before .before .if1 .left) in
     let kind = le-leb _ _ (c .before .before .if2 .left) in
     simp (up, kind, sym (c .before .target-right .ensures) ∙ not-true (c .before .target-right .result) (c .if3 .taken))
 
 returns-4 : tie.Need-returns-4
-unfolding entrySeen leading
+unfolding entryColumns leading
 returns-4 c =
     let up = not-false (c .before .before .before .before .before .before .before .args .up) (c .before .before .before .before .before .before .if1 .left) in
     let kind = le-leb _ _ (c .before .before .before .before .if2 .left) in
@@ -30,7 +31,7 @@ returns-4 c =
     simp (up, kind, target, lt-leb _ _ (c .if4 .taken))
 
 returns-5 : tie.Need-returns-5
-unfolding entrySeen leading
+unfolding entryColumns leading
 returns-5 c =
     let up = not-false (c .before .before .before .before .before .before .before .before .before .args .up) (c .before .before .before .before .before .before .before .before .if1 .left) in
     let kind = le-leb _ _ (c .before .before .before .before .before .before .if2 .left) in
@@ -39,7 +40,7 @@ returns-5 c =
     simp (up, kind, target, delay, le-leb _ _ (c .if5 .taken))
 
 returns-6 : tie.Need-returns-6
-unfolding entrySeen leading
+unfolding entryColumns leading
 returns-6 c =
     let up = not-false (c .before .before .before .before .before .before .before .before .before .args .up) (c .before .before .before .before .before .before .before .before .if1 .left) in
     let kind = le-leb _ _ (c .before .before .before .before .before .before .if2 .left) in

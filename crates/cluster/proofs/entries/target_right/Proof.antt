@@ -1,7 +1,7 @@
 -- `cluster::entries::target_right` meets its contract, by cases of its tests.
 use mathlib.Core.Path.{sym}
 use Rattle.cluster.proofs.EntryTurn.{other-kind}
-use Rattle.cluster.specs.Right.{targetRight}
+use Rattle.cluster.specs.Columns.{targetRight}
 use Rattle.cluster.proofs.entries.target_right.Statement.{statement}
 use Rattle.cluster.proofs.entries.target_right.Tie as tie
 

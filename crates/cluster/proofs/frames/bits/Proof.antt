@@ -6,9 +6,9 @@ use Rattle.cluster.proofs.frames.bits.Tie as tie
 
 returns : tie.Need-returns
 unfolding frameLength
-returns c = rw (c .word .ensures)
+returns c = rw (c .word .ensures, c .before .frame-at .ensures)
 
 pub bits-spec : {M : Type 1} → statement M
 bits-spec =
-    tie.close (tie.spec (λ c. search needs) (λ c. search needs) (λ c. search needs) (λ c κs. search needs)
-    (λ c. search needs) (λ c. search needs) returns)
+    tie.close (tie.spec (λ c κs. search needs) (λ c. search needs) (λ c κs. search needs) (λ c. search needs)
+    (λ c. search needs) returns)

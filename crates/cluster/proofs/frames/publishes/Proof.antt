@@ -8,7 +8,7 @@ use Rattle.cluster.proofs.frames.publishes.Tie as tie
 
 returns : tie.Need-returns
 unfolding published flags bit
-returns c = rw (pow-zero, div-one) (rw (c .word .ensures))
+returns c = rw (pow-zero, div-one) (rw (c .word .ensures, c .before .frame-at .ensures))
 
 pub publishes-spec : {M : Type 1} → statement M
-publishes-spec = tie.close (tie.spec (λ c. search needs) (λ c. search needs) (λ c. search needs) (λ c κs. search needs) returns)
+publishes-spec = tie.close (tie.spec (λ c κs. search needs) (λ c. search needs) (λ c κs. search needs) returns)

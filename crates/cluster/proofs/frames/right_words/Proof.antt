@@ -1,39 +1,40 @@
 -- `cluster::frames::right_words` meets its contract: each way out has the tests that led there.
-use borrow.Author.Tests.{le-leb, lt-leb}
+use borrow.Author.Tests.{le-leb, lt-leb, lt-ltb, le-ltb}
 use mathlib.Core.Bool.{and-false}
-use Rattle.cluster.specs.Seen.{frameSeen, leading}
+use Rattle.cluster.specs.Columns.{frameColumns}
+use Rattle.cluster.specs.Read.{leading}
 use Rattle.cluster.proofs.frames.right_words.Statement.{statement}
 use Rattle.cluster.proofs.frames.right_words.Tie as tie
 
 returns : tie.Need-returns
-unfolding frameSeen leading
-returns c = simp (lt-leb _ _ (c .if1 .taken))
+unfolding frameColumns leading
+returns c = simp (le-ltb _ _ (c .if1 .taken))
 
 returns-2 : tie.Need-returns-2
-unfolding frameSeen leading
+unfolding frameColumns leading
 returns-2 c = simp (c .if2 .taken, and-false)
 
 returns-3 : tie.Need-returns-3
-unfolding frameSeen leading
-returns-3 c = simp (le-leb _ _ (c .before .before .if1 .left), c .before .if2 .left, lt-leb _ _ (c .if3 .taken))
+unfolding frameColumns leading
+returns-3 c = simp (lt-ltb _ _ (c .before .before .if1 .left), c .before .if2 .left, lt-leb _ _ (c .if3 .taken))
 
 returns-4 : tie.Need-returns-4
-unfolding frameSeen leading
-returns-4 c = simp (le-leb _ _ (c .before .before .before .if1 .left), c .before .before .if2 .left, lt-leb _ _ (c .if4 .taken), and-false)
+unfolding frameColumns leading
+returns-4 c = simp (lt-ltb _ _ (c .before .before .before .if1 .left), c .before .before .if2 .left, lt-leb _ _ (c .if4 .taken), and-false)
 
 returns-5 : tie.Need-returns-5
-unfolding frameSeen leading
+unfolding frameColumns leading
 returns-5 c =
-    let id = le-leb _ _ (c .before .before .before .before .if1 .left) in
+    let id = lt-ltb _ _ (c .before .before .before .before .if1 .left) in
     let unused = c .before .before .before .if2 .left in
     let low = le-leb _ _ (c .before .before .if3 .left) in
     let high = le-leb _ _ (c .before .if4 .left) in
     simp (id, unused, low, high, le-leb _ _ (c .if5 .taken))
 
 returns-6 : tie.Need-returns-6
-unfolding frameSeen leading
+unfolding frameColumns leading
 returns-6 c =
-    let id = le-leb _ _ (c .before .before .before .before .if1 .left) in
+    let id = lt-ltb _ _ (c .before .before .before .before .if1 .left) in
     let unused = c .before .before .before .if2 .left in
     let low = le-leb _ _ (c .before .before .if3 .left) in
     let high = le-leb _ _ (c .before .if4 .left) in

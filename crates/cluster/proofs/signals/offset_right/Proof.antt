@@ -1,5 +1,5 @@
 -- `cluster::signals::offset_right` meets its contract, by cases of its tests.
-use Rattle.cluster.specs.Right.{offsetRight}
+use Rattle.cluster.specs.Columns.{offsetRight}
 use borrow.Author.Tests.{lt-ltb, le-ltb}
 use Rattle.cluster.proofs.signals.offset_right.Statement.{statement}
 use Rattle.cluster.proofs.signals.offset_right.Tie as tie

@@ -1,6 +1,6 @@
 -- `cluster::signals::place` meets its contract: the fields give it.
 use borrow.Author.Needs.{needs}
-use Rattle.cluster.specs.Fresh.{signalPlace}
+use Rattle.cluster.specs.Places.{signalPlace}
 use Rattle.cluster.proofs.signals.place.Statement.{statement}
 use Rattle.cluster.proofs.signals.place.Tie as tie
 

@@ -6,27 +6,28 @@ use borrow.Author.Needs.{needs}
 use borrow.Author.Tests.{not-true, not-false, lt-ltb, le-ltb, le-leb, lt-leb}
 use native.Mathlib.Omega.{arith}
 use mathlib.Core.Path.{sym, _∙_}
-use Rattle.cluster.specs.Seen.{signalSeen, leading}
+use Rattle.cluster.specs.Columns.{signalColumns}
+use Rattle.cluster.specs.Read.{leading}
 use Rattle.cluster.proofs.signals.right_words.Statement.{statement}
 use Rattle.cluster.proofs.signals.right_words.Tie as tie
 
 returns : tie.Need-returns
-unfolding signalSeen leading
+unfolding signalColumns leading
 returns c = simp (le-ltb _ _ (c .if1 .taken))
 
 returns-2 : tie.Need-returns-2
-unfolding signalSeen leading
+unfolding signalColumns leading
 returns-2 c = simp (lt-ltb _ _ (c .before .before .if1 .left), lt-leb _ _ (c .if2 .taken))
 
 returns-3 : tie.Need-returns-3
-unfolding signalSeen leading
+unfolding signalColumns leading
 returns-3 c =
     let frame = lt-ltb _ _ (c .before .before .before .before .before .if1 .left) in
     let kind = le-leb _ _ (c .before .before .before .if2 .left) in
     simp (frame, kind, sym (c .before .offset-right .ensures) ∙ not-true (c .before .offset-right .result) (c .if3 .taken))
 
 returns-4 : tie.Need-returns-4
-unfolding signalSeen leading
+unfolding signalColumns leading
 returns-4 c =
     let frame = lt-ltb _ _ (c .before .before .before .before .before .before .before .if1 .left) in
     let kind = le-leb _ _ (c .before .before .before .before .before .if2 .left) in
@@ -40,7 +41,7 @@ are-free-requires c κs =
     (right .1, omega (arith, right .2, c .before .before .before .before .before .before .before .before .before .pre .1 (c .before .before .before .before .before .before .before .if1 .left)))
 
 returns-5 : tie.Need-returns-5
-unfolding signalSeen leading
+unfolding signalColumns leading
 returns-5 c =
     let frame = lt-ltb _ _ (c .before .before .before .before .before .before .before .before .before .if1 .left) in
     let kind = le-leb _ _ (c .before .before .before .before .before .before .before .if2 .left) in
@@ -55,7 +56,7 @@ start-limit-requires c κs =
     right .0
 
 returns-6 : tie.Need-returns-6
-unfolding signalSeen leading
+unfolding signalColumns leading
 returns-6 c =
     let frame = lt-ltb _ _ (c .before .before .before .before .before .before .before .before .before .before .before .before .if1 .left) in
     let kind = le-leb _ _ (c .before .before .before .before .before .before .before .before .before .before .if2 .left) in
@@ -66,7 +67,7 @@ returns-6 c =
     simp (frame, kind, offset, width, free, limit, lt-ltb _ _ (c .if6 .taken))
 
 returns-7 : tie.Need-returns-7
-unfolding signalSeen leading
+unfolding signalColumns leading
 returns-7 c =
     let frame = lt-ltb _ _ (c .before .before .before .before .before .before .before .before .before .before .before .before .if1 .left) in
     let kind = le-leb _ _ (c .before .before .before .before .before .before .before .before .before .before .if2 .left) in

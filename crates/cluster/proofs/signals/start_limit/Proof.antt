@@ -1,7 +1,7 @@
 -- `cluster::signals::start_limit` meets its contract: a scalar has at most 16 bits.
 use Rattle.cluster.proofs.Widths.{scalar-width, scalar-limit}
 use mathlib.Core.Path.{refl}
-use Rattle.cluster.specs.Right.{startLimit}
+use Rattle.cluster.specs.Columns.{startLimit}
 use native.Mathlib.Omega.{arith}
 use borrow.Author.Needs.{needs}
 use Rattle.cluster.proofs.signals.start_limit.Statement.{statement}

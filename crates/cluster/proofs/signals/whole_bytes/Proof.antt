@@ -1,5 +1,5 @@
 -- `cluster::signals::whole_bytes` meets its contract, by cases of its tests.
-use Rattle.cluster.specs.Right.{widthRight}
+use Rattle.cluster.specs.Columns.{widthRight}
 use borrow.Author.Tests.{lt-leb, le-leb}
 use Rattle.cluster.proofs.signals.whole_bytes.Statement.{statement}
 use Rattle.cluster.proofs.signals.whole_bytes.Tie as tie

@@ -1,6 +1,6 @@
 -- `cluster::signals::width_right` meets its contract, by cases of its tests.
 use lib.Dec.{leb}
-use Rattle.cluster.specs.Right.{widthRight}
+use Rattle.cluster.specs.Columns.{widthRight}
 use borrow.Author.Tests.{lt-leb, le-leb}
 use mathlib.Core.Bool.{and-true, and-false}
 use mathlib.Core.Path.{_∙_, sym}

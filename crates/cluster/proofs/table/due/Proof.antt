@@ -1,5 +1,5 @@
 -- `cluster::table::due` meets its contract, by cases of whether the word is there.
-use Rattle.cluster.specs.Seen.{due}
+use Rattle.cluster.specs.Read.{due}
 use borrow.Author.Tests.{lt-ltb, le-ltb}
 use Rattle.cluster.specs.Table.{word}
 use native.Mathlib.Omega.{arith}

@@ -1,7 +1,8 @@
--- `cluster::table::judge` meets its contract: the words seen agree with the definition.
+-- `cluster::table::judge` meets its contract: the words read are the fields.
 use native.Mathlib.Omega.{arith}
 use mathlib.Core.Path.{_≡_, sym, _∙_}
-use Rattle.cluster.specs.Seen.{leading, headerSeen}
+use Rattle.cluster.specs.Columns.{headerColumns}
+use Rattle.cluster.specs.Read.{leading}
 use Rattle.cluster.specs.Right.{headerRight}
 use Rattle.cluster.proofs.HeaderTurn.{headerRead, header-agrees}
 use Rattle.cluster.proofs.Scan.{halt-words, pass-words}
@@ -10,7 +11,7 @@ use Rattle.cluster.proofs.table.judge.Statement.{statement}
 use Rattle.cluster.proofs.table.judge.Tie as tie
 
 returns : tie.Need-returns
-unfolding headerSeen
+unfolding headerColumns
 returns c =
     let t = c .before .before .before .before .before .before .before .before .args .t .now in
     let seen : c .before .before .right-words .result ≡ leading (headerRead t) =
@@ -19,7 +20,7 @@ returns c =
     ∙ sym (halt-words t 0 (headerRead t) (headerRight t) (c .before .before .right-words .result) (header-agrees t) (omega arith) (omega arith))
 
 returns-2 : tie.Need-returns-2
-unfolding headerSeen
+unfolding headerColumns
 returns-2 c =
     let t = c .before .before .before .before .before .before .before .args .t .now in
     let seen : c .before .right-words .result ≡ leading (headerRead t) =

@@ -1,23 +1,24 @@
 -- `cluster::table::right_words` meets its contract: each way out has the tests that led there.
 use borrow.Author.Tests.{le-leb, lt-leb}
-use Rattle.cluster.specs.Seen.{headerSeen, leading}
+use Rattle.cluster.specs.Columns.{headerColumns}
+use Rattle.cluster.specs.Read.{leading}
 use Rattle.cluster.proofs.table.right_words.Statement.{statement}
 use Rattle.cluster.proofs.table.right_words.Tie as tie
 
 returns : tie.Need-returns
-unfolding headerSeen leading
+unfolding headerColumns leading
 returns c = simp (lt-leb _ _ (c .if1 .taken))
 
 returns-2 : tie.Need-returns-2
-unfolding headerSeen leading
+unfolding headerColumns leading
 returns-2 c = simp (le-leb _ _ (c .before .if1 .left), lt-leb _ _ (c .if2 .taken))
 
 returns-3 : tie.Need-returns-3
-unfolding headerSeen leading
+unfolding headerColumns leading
 returns-3 c = simp (le-leb _ _ (c .before .before .if1 .left), le-leb _ _ (c .before .if2 .left), lt-leb _ _ (c .if3 .taken))
 
 returns-4 : tie.Need-returns-4
-unfolding headerSeen leading
+unfolding headerColumns leading
 returns-4 c =
     let frames = le-leb _ _ (c .before .before .before .if1 .left) in
     let signals = le-leb _ _ (c .before .before .if2 .left) in
@@ -25,7 +26,7 @@ returns-4 c =
     simp (frames, signals, members, le-leb _ _ (c .if4 .taken))
 
 returns-5 : tie.Need-returns-5
-unfolding headerSeen leading
+unfolding headerColumns leading
 returns-5 c =
     let frames = le-leb _ _ (c .before .before .before .if1 .left) in
     let signals = le-leb _ _ (c .before .before .if2 .left) in

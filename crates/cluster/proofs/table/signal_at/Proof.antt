@@ -10,4 +10,6 @@ unfolding frameCount
 returns c = (omega arith, omega arith)
 
 pub signal-at-spec : {M : Type 1} → statement M
-signal-at-spec = tie.close (tie.spec (λ c κs. search needs) (λ c κs. search needs) (λ c. search needs) (λ c. search needs) returns)
+signal-at-spec =
+    tie.close (tie.spec (λ c κs. search needs) (λ c. search needs) (λ c κs. search needs) (λ c. search needs) (λ c. search needs)
+    returns)

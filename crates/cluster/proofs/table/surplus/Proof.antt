@@ -25,4 +25,4 @@ returns-2 c =
 
 pub surplus-spec : {M : Type 1} → statement M
 surplus-spec =
-    tie.close (tie.spec (λ c κs. search needs) (λ c κs. search needs) (λ c κs. search needs) returns returns-2)
+    tie.close (tie.spec (λ c κs. search needs) (λ c. search needs) (λ c κs. search needs) (λ c κs. search needs) returns returns-2)
