@@ -21,6 +21,7 @@ use crate::desk::size;
 use crate::lists;
 use crate::lists::List;
 use crate::replies::Reply;
+use cluster::Limits;
 use master::state::State;
 
 // Lays out a table, right or not, with frame bytes for its frames and a fresh state, and answers the table check.
@@ -49,7 +50,7 @@ fn frame_bytes(t: &[u16]) -> u32 {
         return 0;
     }
     let frames = t[0];
-    if State::FRAMES < frames {
+    if Limits::FRAMES < frames as usize {
         return 0;
     }
     8 * frames as u32

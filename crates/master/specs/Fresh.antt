@@ -3,6 +3,7 @@ use Prim.Native.Nat.{ℕ}
 use mathlib.Core.Bool.{false}
 use mathlib.Core.List.{List, [], _∷_}
 use lib.ListN.{replicate}
+use Rattle.cluster.specs.Table.{mostFrames, mostSignals}
 use Rattle.transport.specs.Cutting.{longest}
 use Rattle.master.specs.declared.state.Plan.{Plan}
 use Rattle.master.specs.declared.state.Current.the-variants as current
@@ -27,8 +28,8 @@ noStatus = record { error = false; success = false; overrun = false; last = 0 }
 
 -- "a state with nothing pending, no schedule, no transfer, no message, status 0"
 unfoldable pub fresh : State
-fresh = record { pending = replicate 60 false; plan = noPlan; transfer = noTransfer; message = message.None; status = noStatus }
+fresh = record { pending = replicate mostFrames false; plan = noPlan; transfer = noTransfer; message = message.None; status = noStatus }
 
 -- "frames F (0..60), signals S (0..256), .. schedule entries E (0..256)", and the longest message
 abbrev pub limits : List ℕ
-limits = 60 ∷ 256 ∷ longest ∷ []
+limits = mostFrames ∷ mostSignals ∷ longest ∷ []

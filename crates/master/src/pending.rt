@@ -1,6 +1,7 @@
 // The pending bits: whether they fit, what a write sets and a success clears, and the pending members of a list.
 use crate::state::Opened;
 use crate::state::State;
+use cluster::Limits;
 use cluster::frames;
 use cluster::members;
 use cluster::values;
@@ -10,7 +11,7 @@ ghost use Prim.Native.Nat.{_<_, _≤_};
 ghost use Rattle.cluster.specs.Check.{RightTable};
 ghost use Rattle.master.specs.Fits.{frameThere, bitFits, pendingFits};
 ghost use Rattle.master.specs.Closing.{clearedBit, pendingSent};
-ghost use Rattle.cluster.specs.Table.{signalCount, memberCount, memberList, memberFrame};
+ghost use Rattle.cluster.specs.Table.{mostFrames, signalCount, memberCount, memberList, memberFrame};
 ghost use Rattle.master.specs.Write.{markedFrom};
 ghost use lib.Dec.{eqb};
 ghost use lib.ListN.{getD};
@@ -20,12 +21,12 @@ ghost use Rattle.master.specs.Tick.{firstPending};
 ghost use Rattle.transport.specs.Reassembly.{written};
 
 // Whether every pending bit is that of a published frame.
-pub(crate) fn pending_fits(t: &[u16], pending: [bool; 60]) -> bool
+pub(crate) fn pending_fits(t: &[u16], pending: [bool; Limits::FRAMES]) -> bool
     ensures { λ r. ⌜ r ≡ pendingFits (now (t .entry)) 0 pending ⌝ }
 {
-    let mut f: u16 = 0;
-    while f < State::FRAMES {
-        if !bit_fits(t, f, pending[f as usize]) {
+    let mut f: usize = 0;
+    while f < Limits::FRAMES {
+        if !bit_fits(t, f as u16, pending[f]) {
             return false;
         }
         f += 1;
@@ -47,7 +48,11 @@ fn bit_fits(t: &[u16], f: u16, bit: bool) -> bool
 }
 
 // The pending bits with those of the frames that a signal touches.
-pub(crate) fn touched_too(t: &[u16], s: u16, pending: [bool; 60]) -> [bool; 60]
+pub(crate) fn touched_too(
+    t: &[u16],
+    s: u16,
+    pending: [bool; Limits::FRAMES],
+) -> [bool; Limits::FRAMES]
     requires { ⌜ RightTable (now t) × (s < signalCount (now t)) ⌝ }
     ensures { λ r. ⌜ r ≡ markedFrom (now (t .entry)) s 0 pending ⌝ }
 {
@@ -65,7 +70,12 @@ pub(crate) fn touched_too(t: &[u16], s: u16, pending: [bool; 60]) -> [bool; 60]
 
 impl Opened {
     // The pending bits after a success: a frame that was not written since is no longer pending.
-    pub(crate) fn sent_pending(self, t: &[u16], written: bool, pending: [bool; 60]) -> [bool; 60]
+    pub(crate) fn sent_pending(
+        self,
+        t: &[u16],
+        written: bool,
+        pending: [bool; Limits::FRAMES],
+    ) -> [bool; Limits::FRAMES]
         requires { ⌜ RightTable (now t) × (frameThere (now t) self ≡ true) ⌝ }
         ensures { λ r. ⌜ r ≡ pendingSent self written pending ⌝ }
     {
@@ -79,8 +89,8 @@ impl Opened {
 }
 
 // The pending bits without that of a frame, unless it was written since.
-fn cleared(f: u16, written: bool, pending: [bool; 60]) -> [bool; 60]
-    requires { ⌜ f < 60 ⌝ }
+fn cleared(f: u16, written: bool, pending: [bool; Limits::FRAMES]) -> [bool; Limits::FRAMES]
+    requires { ⌜ f < mostFrames ⌝ }
     ensures { λ r. ⌜ r ≡ clearedBit f written pending ⌝ }
 {
     if written {
@@ -92,7 +102,7 @@ fn cleared(f: u16, written: bool, pending: [bool; 60]) -> [bool; 60]
 }
 
 // The first pending member of a list.
-pub(crate) fn first_pending(t: &[u16], pending: [bool; 60], l: u16) -> Opened
+pub(crate) fn first_pending(t: &[u16], pending: [bool; Limits::FRAMES], l: u16) -> Opened
     requires { ⌜ RightTable (now t) ⌝ }
     ensures { λ r. ⌜ r ≡ firstPending pending (membersOf (now (t .entry)) l) ⌝ }
 {
@@ -108,7 +118,7 @@ pub(crate) fn first_pending(t: &[u16], pending: [bool; 60], l: u16) -> Opened
 }
 
 // How many of a list's frames among the first members are pending.
-pub(crate) fn count_pending(t: &[u16], pending: [bool; 60], l: u16, end: u16) -> u16
+pub(crate) fn count_pending(t: &[u16], pending: [bool; Limits::FRAMES], l: u16, end: u16) -> u16
     requires { ⌜ RightTable (now t) × (end ≤ memberCount (now t)) ⌝ }
     ensures { λ r. ⌜ r ≡ pendingCount pending (membersFrom (now (t .entry)) l 0 end) ⌝ }
 {
@@ -122,7 +132,7 @@ pub(crate) fn count_pending(t: &[u16], pending: [bool; 60], l: u16, end: u16) ->
 }
 
 // Whether a member is of a list and its frame is pending.
-pub(crate) fn is_pending_member(t: &[u16], pending: [bool; 60], l: u16, m: u16) -> bool
+pub(crate) fn is_pending_member(t: &[u16], pending: [bool; Limits::FRAMES], l: u16, m: u16) -> bool
     requires { ⌜ RightTable (now t) × (m < memberCount (now t)) ⌝ }
     ensures { λ r. ⌜ r ≡ (eqb (memberList (now (t .entry)) m) l && getD pending (memberFrame (now (t .entry)) m) false) ⌝ }
 {

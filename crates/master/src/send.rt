@@ -6,6 +6,7 @@ use crate::state::Sending;
 use crate::state::State;
 use cluster::Verdict;
 use refusal::Refusal;
+use transport::reassembly::Assembly;
 ghost use mathlib.Core.Path.{_≡_};
 ghost use Rattle.master.specs.Message.{sendVerdict, sendOf, messageOf};
 
@@ -72,7 +73,7 @@ impl State {
         if size < 1 {
             return refused(Refusal::MESSAGE_LENGTH);
         }
-        if (State::LONGEST as u32) < size {
+        if (Assembly::LONGEST as u32) < size {
             return refused(Refusal::MESSAGE_LENGTH);
         }
         let message = self.message;

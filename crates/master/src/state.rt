@@ -1,5 +1,7 @@
 // The master's state and its parts, the fresh state, and the state with one part replaced.
+use cluster::Limits;
 use cluster::fresh;
+use transport::reassembly::Assembly;
 ghost use mathlib.Core.Path.{_≡_};
 ghost use Rattle.master.specs.Fresh.{fresh as freshState, limits as limitsOf};
 ghost use Rattle.master.specs.State.{withPending, withPlan, withTransfer, withMessage, withStatus};
@@ -69,7 +71,7 @@ pub struct Status {
 
 // The whole state.
 pub struct State {
-    pub pending: [bool; 60],
+    pub pending: [bool; Limits::FRAMES],
     pub plan: Plan,
     pub transfer: Transfer,
     pub message: Message,
@@ -77,19 +79,12 @@ pub struct State {
 }
 
 impl State {
-    // The most frames a table has, one pending bit each.
-    pub const FRAMES: u16 = 60;
-    // The most signals and the most schedule entries a table has.
-    pub const RECORDS: u16 = 256;
-    // The length of the longest message.
-    pub const LONGEST: u16 = 4095;
-
     // Nothing pending, no schedule, no transfer, no message, status 0.
     pub fn fresh() -> State
         ensures { λ r. ⌜ r ≡ freshState ⌝ }
     {
         State {
-            pending: [false; 60],
+            pending: [false; Limits::FRAMES],
             plan: Plan::none(),
             transfer: Transfer::none(),
             message: Message::None,
@@ -101,11 +96,15 @@ impl State {
     pub fn limits() -> [u16; 3]
         ensures { λ r. ⌜ r ≡ limitsOf ⌝ }
     {
-        [State::FRAMES, State::RECORDS, State::LONGEST]
+        [
+            Limits::FRAMES as u16,
+            Limits::SIGNALS as u16,
+            Assembly::LONGEST,
+        ]
     }
 
     // The state with other pending bits.
-    pub(crate) fn with_pending(self, pending: [bool; 60]) -> State
+    pub(crate) fn with_pending(self, pending: [bool; Limits::FRAMES]) -> State
         ensures { λ r. ⌜ r ≡ withPending self pending ⌝ }
     {
         let plan = self.plan;

@@ -6,6 +6,7 @@ use crate::state::Message;
 use crate::state::Opened;
 use crate::state::Plan;
 use crate::state::State;
+use cluster::Limits;
 use cluster::Verdict;
 use cluster::entries;
 use refusal::Refusal;
@@ -127,7 +128,7 @@ impl State {
 }
 
 // What a slot opens.
-fn slot_opens(t: &[u16], pending: [bool; 60], message: Message, e: u16) -> Opened
+fn slot_opens(t: &[u16], pending: [bool; Limits::FRAMES], message: Message, e: u16) -> Opened
     requires { ⌜ RightTable (now t) ⌝ }
     ensures { λ r. ⌜ r ≡ slotOpens (now (t .entry)) pending message e ⌝ }
 {
