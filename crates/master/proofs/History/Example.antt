@@ -15,7 +15,7 @@ use Rattle.cluster.specs.Table.{entrySchedule, entryKind, entryTarget, entryDel
 use Rattle.cluster.specs.Lists.{firstFrom, membersFrom, members, firstEntry, nextEntry}
 use Rattle.cluster.specs.Columns.{headerColumns, frameColumns, offsetRight, widthRight, startLimit, signalColumns, follows, memberColumns, targetRight, entryColumns}
 use Rattle.cluster.specs.Places.{signalPlace, occupies}
-use Rattle.cluster.specs.Right.{anyBelow, headerRight, frameRight, takenBefore, overlaps, signalRight, memberRight, entryRight, records, wordsRight}
+use Rattle.cluster.specs.Right.{anyBelow, headerRight, frameRight, occupiedBefore, overlaps, signalRight, memberRight, entryRight, records, wordsRight}
 use Rattle.cluster.specs.Check.{faults, surplus, judged}
 use Rattle.cluster.specs.Fresh.{putStart, filled, freshBytes}
 use Rattle.cluster.specs.Values.{touches, signalPublished, valueFits, withScalar}
@@ -82,11 +82,11 @@ sending =
     ▹ event (byteIn 247) (plain Success) none
 
 accepted : freshOf table buffer .given .answer ≡ Fresh
-unfolding freshOf freshVerdict bufferSize judged faults surplus wordsRight records headerRight headerColumns frameRight frameColumns anyBelow signalRight signalColumns offsetRight widthRight startLimit signalPlace occupies takenBefore overlaps memberRight memberColumns follows entryRight entryColumns targetRight word frameCount signalCount memberCount entryCount size identifier frameLength flags published signalFrame signalKind signalOffset signalWidth signalStart isArray memberList memberFrame entrySchedule entryKind entryTarget entryDelay counted listCount inside bit
+unfolding freshOf freshVerdict bufferSize judged faults surplus wordsRight records headerRight headerColumns frameRight frameColumns anyBelow signalRight signalColumns offsetRight widthRight startLimit signalPlace occupies occupiedBefore overlaps memberRight memberColumns follows entryRight entryColumns targetRight word frameCount signalCount memberCount entryCount size identifier frameLength flags published signalFrame signalKind signalOffset signalWidth signalStart isArray memberList memberFrame entrySchedule entryKind entryTarget entryDelay counted listCount inside bit
 accepted = refl
 
 record-is : recordOf table buffer calls ≡ writing ⋈ sending
-unfolding scheduled schedule planAfter planBy planWith slotDue slotOf historyOf heldAfter leftBy answerOf freshOf freshVerdict fresh bufferSize admitted judged faults surplus wordsRight records headerRight headerColumns frameRight frameColumns anyBelow signalRight signalColumns offsetRight widthRight startLimit signalPlace occupies takenBefore overlaps memberRight memberColumns follows entryRight entryColumns targetRight word frameCount signalCount memberCount entryCount size identifier frameLength flags published classic signalFrame signalKind signalOffset signalWidth signalStart isArray memberList memberFrame entrySchedule entryKind entryTarget entryDelay counted listCount scheduleCount firstFrom membersFrom members firstEntry nextEntry putStart filled freshBytes touches signalPublished valueFits withScalar bitAt number bytesOf inside replaced putBits putScalar bit p0 p1 xor protectedByte withCarry sum covered modelOf inverted checksumByte stateFits entryThere scheduleThere frameThere currentDelay waitFits bitFits pendingFits isOneOf entryOpens canOpen countFits messageFits lentFits isOpen openLength openIdentifier openModel sends openProtected openChecksum frameData sentData copied opening asking waits entryDue begun selectVerdict withPlan selectOf writable markedFrom touchesOpen rewritten marked wrote writeOf tick.firstPending tick.slotOpens tick.abandoned tick.opens tick.slotAt tick.slot tick.ticked tick.tickVerdict tick.tickOf status.counted status.statusAfter messageSent clearedBit pendingSent succeeded passed early sentByte taken byteVerdict byteOf
+unfolding scheduled schedule planAfter planBy planWith slotDue slotOf historyOf heldAfter leftBy answerOf freshOf freshVerdict fresh bufferSize admitted judged faults surplus wordsRight records headerRight headerColumns frameRight frameColumns anyBelow signalRight signalColumns offsetRight widthRight startLimit signalPlace occupies occupiedBefore overlaps memberRight memberColumns follows entryRight entryColumns targetRight word frameCount signalCount memberCount entryCount size identifier frameLength flags published classic signalFrame signalKind signalOffset signalWidth signalStart isArray memberList memberFrame entrySchedule entryKind entryTarget entryDelay counted listCount scheduleCount firstFrom membersFrom members firstEntry nextEntry putStart filled freshBytes touches signalPublished valueFits withScalar bitAt number bytesOf inside replaced putBits putScalar bit p0 p1 xor protectedByte withCarry sum covered modelOf inverted checksumByte stateFits entryThere scheduleThere frameThere currentDelay waitFits bitFits pendingFits isOneOf entryOpens canOpen countFits messageFits lentFits isOpen openLength openIdentifier openModel sends openProtected openChecksum frameData sentData copied opening asking waits entryDue begun selectVerdict withPlan selectOf writable markedFrom touchesOpen rewritten marked wrote writeOf tick.firstPending tick.slotOpens tick.abandoned tick.opens tick.slotAt tick.slot tick.ticked tick.tickVerdict tick.tickOf status.counted status.statusAfter messageSent clearedBit pendingSent succeeded passed early sentByte taken byteVerdict byteOf
 record-is = refl
 
 -- frame 1 is sent by the second success of its list
