@@ -10,7 +10,8 @@ use Rattle.cluster.specs.Lists.{firstFrom}
 use Rattle.cluster.specs.Table as table
 use Rattle.cluster.specs.Columns.{headerColumns, frameColumns}
 use Rattle.cluster.specs.Right.{anyBelow, headerRight, frameRight, records, wordsRight}
-use Rattle.cluster.specs.Check.{faults, surplus, judged, RightTable}
+use Rattle.cluster.specs.Check.{faults, surplus, judged, RightTable, TakenTable}
+use Rattle.cluster.proofs.TakenLaws.{right-taken}
 use Rattle.buslog.specs.Pairs.{digitOf, isPair, pairByte, arePairs, pairBytes, lineBytes, digitCharacter, pairOf}
 use Rattle.buslog.specs.Verdict.{frameWith, knownVerdict, identifierVerdict, bytesVerdict, lineVerdict}
 use Rattle.buslog.specs.Row.{digitsOf, decimalOf, shownIdentifier, word, rowOf, header}
@@ -38,7 +39,11 @@ unfolding builtIn reportOf logLines wholeLines unfinished lastLine rowsOf rowOf 
     table.frameCount table.identifier table.frameLength table.flags table.classic header
 example = refl
 
--- the built-in table is accepted, so no part of a log is refused under it
+-- the built-in table is accepted
 pub built-in-right : RightTable builtIn
 unfolding builtIn judged faults surplus wordsRight records headerRight headerColumns frameRight frameColumns anyBelow table.word table.frameCount table.signalCount table.memberCount table.entryCount table.size table.identifier table.frameLength table.flags
 built-in-right = refl
+
+-- and taken, so no part of a log is refused under it
+pub built-in-taken : TakenTable builtIn
+built-in-taken = right-taken builtIn built-in-right

@@ -19,7 +19,7 @@ use Rattle.wire.specs.Checksum.{checksumByte}
 use Rattle.wire.proofs.Tests.{whether}
 use Rattle.cluster.specs.Table.{frameCount, frameLength, frameModel}
 use Rattle.cluster.specs.declared.Verdict.the-variants as table
-use Rattle.cluster.specs.Check.{judged}
+use Rattle.cluster.specs.Check.{takenOf}
 use Rattle.buslog.specs.declared.judge.Verdict.{Verdict}
 use Rattle.buslog.specs.declared.judge.Judged.the-variants as answer
 use Rattle.buslog.specs.declared.judge.Verdict.the-variants.{Text, Parity, Unknown, Length, Checksum, Ok}
@@ -114,10 +114,10 @@ module _ (t line : List ℕ) where
   unfolding lineVerdict
   by-bytes bytes e = rw e
 
-  pub judge-refused : (r : Refusal) → judged t ≡ table.Refused r → answer.Refused r ≡ judgeOf t line
+  pub judge-refused : (r : Refusal) → takenOf t ≡ table.Refused r → answer.Refused r ≡ judgeOf t line
   unfolding judgeOf answered
   judge-refused r e = rw e
 
-  pub judge-accepted : (v : Verdict) → judged t ≡ table.Accepted → v ≡ lineVerdict t line → answer.Line v ≡ judgeOf t line
+  pub judge-accepted : (v : Verdict) → takenOf t ≡ table.Accepted → v ≡ lineVerdict t line → answer.Line v ≡ judgeOf t line
   unfolding judgeOf answered
   judge-accepted v e q = rw (e, q)

@@ -10,7 +10,7 @@ use lib.Seq.{take-length}
 use Rattle.wire.proofs.Tests.{whether}
 use Rattle.cluster.specs.declared.Verdict.{Verdict}
 use Rattle.cluster.specs.declared.Verdict.the-variants as table
-use Rattle.cluster.specs.Check.{judged, RightTable}
+use Rattle.cluster.specs.Check.{takenOf, TakenTable}
 use Rattle.buslog.specs.declared.report.Written.{Written}
 use Rattle.buslog.specs.declared.judge.Verdict as buslog
 use Rattle.buslog.specs.declared.judge.Verdict.the-variants.{Text, Parity, Unknown, Length, Checksum, Ok}
@@ -31,8 +31,8 @@ module _ (t : List ℕ) (n room : ℕ) (text : List ℕ) where
   pub put-within : (before : List ℕ) (r : Written) (after : List ℕ) → Leaves (reported t n room text) before r after → r .put ≤ length after
   unfolding reported fronted
   put-within before r after l =
-      let rows = reportedBy (judged t) t n room text .rows in
-      omega (arith, ap (λ (w : Written). w .put) (l .handed), put-by (judged t), ap length (l .left), length-append rows (drop (length rows) before))
+      let rows = reportedBy (takenOf t) t n room text .rows in
+      omega (arith, ap (λ (w : Written). w .put) (l .handed), put-by (takenOf t), ap length (l .left), length-append rows (drop (length rows) before))
 
 -- ---- a buffer with room for every line
 
@@ -89,6 +89,6 @@ module _ (t : List ℕ) where
       (take-length (wholeLines [] text))
 
   -- under an accepted table a part with so much room is reported whole
-  pub part-reported : (n room : ℕ) (text : List ℕ) → RightTable t → longestRow * length text ≤ room → reported t n room text ≡ reporting t n (wholeLines [] text)
+  pub part-reported : (n room : ℕ) (text : List ℕ) → TakenTable t → longestRow * length text ≤ room → reported t n room text ≡ reporting t n (wholeLines [] text)
   unfolding reported reportedBy
   part-reported n room text right h = rw (right, all-reported n room text h)

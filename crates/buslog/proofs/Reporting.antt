@@ -10,7 +10,7 @@ use lib.Seq.{append-snoc, take-append-seam, length-take-le}
 use Rattle.bytes.specs.Bytes.{indexOf, slice}
 use Rattle.refusal.specs.declared.Refusal.{Refusal}
 use Rattle.cluster.specs.declared.Verdict.the-variants as table
-use Rattle.cluster.specs.Check.{judged}
+use Rattle.cluster.specs.Check.{takenOf}
 use Rattle.buslog.specs.declared.judge.Verdict.{Verdict}
 use Rattle.buslog.specs.declared.report.Answer.the-variants.{Refused}
 use Rattle.buslog.specs.declared.report.Written.{Written}
@@ -131,12 +131,12 @@ module _ (t : List ℕ) (n : ℕ) (text empty : List ℕ) where
 -- ---- the call
 
 module _ (t : List ℕ) (n : ℕ) (text before : List ℕ) where
-  pub refuses : (r : Refusal) → judged t ≡ table.Refused r
+  pub refuses : (r : Refusal) → takenOf t ≡ table.Refused r
       → Leaves (reported t n (length before) text) before (record { answer = Refused r; lines = 0; used = 0; put = 0 }) before
   unfolding reported reportedBy fronted
   refuses r e = rw e record { handed = refl; left = refl }
 
-  pub accepts : {r : Written} {after : List ℕ} → judged t ≡ table.Accepted → Leaves (reporting t n (reportedLines t n (length before) text)) before r after
+  pub accepts : {r : Written} {after : List ℕ} → takenOf t ≡ table.Accepted → Leaves (reporting t n (reportedLines t n (length before) text)) before r after
       → Leaves (reported t n (length before) text) before r after
   unfolding reported reportedBy
   accepts e l = rw e l

@@ -7,7 +7,7 @@ use lib.Dec.{leb}
 use lib.ListN.{length, take, drop}
 use Rattle.cluster.specs.declared.Verdict as checked
 use Rattle.cluster.specs.declared.Verdict.the-variants as table
-use Rattle.cluster.specs.Check.{judged}
+use Rattle.cluster.specs.Check.{takenOf}
 use Rattle.buslog.specs.declared.report.Answer.the-variants.{Reported, Refused}
 use Rattle.buslog.specs.declared.report.Written.{Written}
 use Rattle.buslog.specs.Verdict.{lineVerdict}
@@ -75,7 +75,7 @@ reportedBy (table.Refused r) t n room text =
     record { report = record { answer = Refused r; lines = 0; used = 0; put = 0 }; rows = [] }
 
 unfoldable pub reported : List ℕ → ℕ → ℕ → List ℕ → Outcome
-reported t n room text = reportedBy (judged t) t n room text
+reported t n room text = reportedBy (takenOf t) t n room text
 
 -- what the call hands back, and what it leaves in the buffer
 pub record Leaves (o : Outcome) (before : List ℕ) (r : Written) (after : List ℕ) : Type 0 where

@@ -10,7 +10,7 @@ use Rattle.wire.specs.declared.checksum.Model.{Model}
 use Rattle.wire.specs.declared.checksum.Model.the-variants.{Classic}
 use Rattle.cluster.specs.declared.Verdict.the-variants as table
 use Rattle.cluster.specs.declared.Verdict as checked
-use Rattle.cluster.specs.Check.{judged}
+use Rattle.cluster.specs.Check.{takenOf}
 use Rattle.cluster.specs.Lists.{firstFrom}
 use Rattle.cluster.specs.Table.{frameCount, identifier, frameLength, frameModel}
 use Rattle.buslog.specs.declared.judge.Verdict.{Verdict}
@@ -54,4 +54,4 @@ answered table.Accepted v = answer.Line v
 answered (table.Refused r) v = answer.Refused r
 
 unfoldable pub judgeOf : List ℕ → List ℕ → Judged
-judgeOf t line = answered (judged t) (lineVerdict t line)
+judgeOf t line = answered (takenOf t) (lineVerdict t line)

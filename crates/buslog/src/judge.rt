@@ -32,7 +32,7 @@ pub enum Judged {
 pub fn judge(t: &[u16], line: &[u8]) -> Judged
     ensures { λ r. ⌜ r ≡ judgeOf (now (t .entry)) (now (line .entry)) ⌝ }
 {
-    match cluster::check(t) {
+    match cluster::taken(t) {
         cluster::Verdict::Refused(refusal) => Judged::Refused(refusal),
         cluster::Verdict::Accepted => Judged::Line(of_line(t, line)),
     }

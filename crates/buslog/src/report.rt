@@ -28,7 +28,7 @@ pub struct Written {
 pub fn write(t: &[u16], number: u64, text: &[u8], out: &mut [u8]) -> Written
     ensures { λ r. ⌜ Leaves (reported (now (t .entry)) number (length (now (out .entry))) (now (text .entry))) (now (out .entry)) r (now (out .exit)) ⌝ }
 {
-    match cluster::check(t) {
+    match cluster::taken(t) {
         Verdict::Refused(refusal) => Written {
             answer: Answer::Refused(refusal),
             lines: 0,

@@ -9,7 +9,7 @@ use Rattle.signal.proofs.Inside.{order}
 use Rattle.signal.proofs.Laws.{Apart}
 use Rattle.cluster.specs.Check.{RightTable}
 use Rattle.cluster.specs.Places.{signalPlace, occupies}
-use Rattle.cluster.specs.Right.{takenBefore, overlaps}
+use Rattle.cluster.specs.Right.{occupiedBefore, overlaps}
 use Rattle.cluster.specs.Table.{frameCount, signalCount, signalWidth}
 use Rattle.cluster.proofs.Any.{none-below, any-at}
 use Rattle.cluster.proofs.Occupied.{occupies-from, occupied-from}
@@ -18,11 +18,11 @@ use Rattle.cluster.proofs.SignalLaws.{signal-width-low, no-overlap}
 
 module _ (t : List ℕ) (ok : RightTable t) where
   -- an earlier signal has none of the bits
-  earlier : (r s j : ℕ) → r < s → s < signalCount t → occupies t r j ≡ true → occupies t s j ≡ true → ⊥
-  unfolding overlaps takenBefore
-  earlier r s j b h p q =
+  none-earlier : (r s j : ℕ) → r < s → s < signalCount t → occupies t r j ≡ true → occupies t s j ≡ true → ⊥
+  unfolding overlaps occupiedBefore
+  none-earlier r s j b h p q =
       let below : j < 64 * frameCount t = omega (arith, occupied-from t s j q, place-end t ok s h) in
-      let none = none-below (64 * frameCount t) (λ i. occupies t s i && takenBefore t s i) (no-overlap t ok s h) j below in
+      let none = none-below (64 * frameCount t) (λ i. occupies t s i && occupiedBefore t s i) (no-overlap t ok s h) j below in
       true≢false (sym (any-at s (λ i. occupies t i j) r b p) ∙ (rw q at none))
 
   -- no bit belongs to two signals
@@ -30,8 +30,8 @@ module _ (t : List ℕ) (ok : RightTable t) where
       → occupies t r j ≡ true → occupies t s j ≡ true → ⊥
   signals-disjoint r s j hr hs n p q =
       order r s
-      (λ b. earlier r s j b hs p q)
-      (λ b. earlier s r j (omega arith) hr q p)
+      (λ b. none-earlier r s j b hs p q)
+      (λ b. none-earlier s r j (omega arith) hr q p)
 
   -- of two signals one ends before the other begins: where they meet, the first bit of one is a bit of the other
   pub places-apart : (r s : ℕ) → r < signalCount t → s < signalCount t → (r ≡ s → ⊥)

@@ -81,9 +81,9 @@ module _ (t : List ℕ) (ok : RightTable t) where
   -- a delay is at least one tick
   pub delay-low : (e : ℕ) → e < entryCount t → 1 ≤ entryDelay t e
   unfolding entryRight entryColumns
-  delay-low e h = within-low 1 65535 (entryDelay t e) (entry-right t ok e h .1 .1 .1 .0)
+  delay-low e h = within-low _ 65535 (entryDelay t e) (entry-right t ok e h .1 .1 .1 .0)
 
   -- a delay is at most 65535 ticks
   pub delay-high : (e : ℕ) → e < entryCount t → entryDelay t e ≤ 65535
   unfolding entryRight entryColumns
-  delay-high e h = within-high 1 65535 (entryDelay t e) (entry-right t ok e h .1 .1 .1 .0)
+  delay-high e h = within-high _ 65535 (entryDelay t e) (entry-right t ok e h .1 .1 .1 .0)

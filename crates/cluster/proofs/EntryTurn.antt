@@ -38,6 +38,11 @@ Passed t e schedules = (e ≤ entryCount t)
     × (schedules ≤ e)
     × (entryFaults t ≡ faults t (entryAt t e) (records e (entryCount t - e) (entryRight t)))
 
+-- what is known where entry e is judged
+abbrev pub Turn : List ℕ → ℕ → ℕ → Type 0
+Turn t e schedules =
+    Passed t e schedules × (e < entryCount t) × (frameCount t ≤ mostFrames) × (entryCount t ≤ mostEntries) × (listCount t ≤ 65536)
+
 pub none-passed : (t : List ℕ) → Passed t 0 0
 none-passed t = (omega arith, sym (counted-none (entrySchedule t) 0 refl), omega arith, rw sub-zero)
 
@@ -62,21 +67,20 @@ module _ (t : List ℕ) (e schedules : ℕ) where
   abbrev pub entryRead : List Bool
   entryRead = entryColumns (frameCount t) (listCount t) (follows schedules scheduleRead) kindRead targetRead delayRead
 
-  module _ (p : Passed t e schedules) (h : e < entryCount t) (few : frameCount t ≤ mostFrames) (short : entryCount t ≤ mostEntries)
-      (fits : listCount t ≤ 65536) where
+  module _ (turn : Turn t e schedules) where
     agrees : Agrees t (entryAt t e) 0 entryRead (entryRight t e)
     unfolding entryColumns entryRight entrySchedule entryKind entryTarget entryDelay
     agrees = (
       (λ r. omega (arith, follows-high schedules scheduleRead r)),
       (λ s. (
-        rw (s, p .1),
+        rw (s, turn .0 .1),
         λ _. (
           (λ r. omega (arith, leb-true kindRead 3 r)),
           (λ k. (
             rw k,
             λ _. (
-              (λ r. target-below (frameCount t) (listCount t) kindRead targetRead few fits r),
-              (λ w. (rw (k, w), λ _. ((λ r. omega (arith, within-high 1 65535 delayRead r)), (λ d. (rw d, λ _. refl))))),
+              (λ r. target-below (frameCount t) (listCount t) kindRead targetRead (turn .2) (turn .4) r),
+              (λ w. (rw (k, w), λ _. ((λ r. omega (arith, within-high _ 65535 delayRead r)), (λ d. (rw d, λ _. refl))))),
             ),
           )),
         ),
@@ -87,7 +91,7 @@ module _ (t : List ℕ) (e schedules : ℕ) where
     pub stops : leading entryRead < entryWords → (place : ℕ) → entryAt t e + leading entryRead ≡ place → fault place ≡ entryFaults t
     unfolding entryColumns
     stops l place is =
-        sym (p .3 ∙ halt-record t (entryRight t) e (entryCount t) (entryAt t e) entryRead place h agrees l is)
+        sym (turn .0 .3 ∙ halt-record t (entryRight t) e (entryCount t) (entryAt t e) entryRead place (turn .1) agrees l is)
 
     -- all words are right: the schedule read is the last so far
     module _ (right : entryWords ≤ leading entryRead) where
@@ -105,5 +109,5 @@ module _ (t : List ℕ) (e schedules : ℕ) where
         omega arith,
         rw schedule-is (sym (counted-next (entrySchedule t) e)),
         omega (arith, schedule-high),
-        p .3 ∙ next-record t (entryRight t) e (entryCount t) (entryAt t e) entryRead (entryAt t (e + 1)) h agrees right (omega arith),
+        turn .0 .3 ∙ next-record t (entryRight t) e (entryCount t) (entryAt t e) entryRead (entryAt t (e + 1)) (turn .1) agrees right (omega arith),
       )

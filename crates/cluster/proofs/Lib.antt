@@ -8,6 +8,7 @@ pub mod DisjointSignals
 pub mod Earlier
 pub mod EntryLaws
 pub mod EntryTurn
+pub mod FieldMask
 pub mod Filling
 pub mod FirstFault
 pub mod FrameLaws
@@ -19,6 +20,7 @@ pub mod ListLaws
 pub mod ListWalk
 pub mod Local
 pub mod MemberLaws
+pub mod MemberOf
 pub mod MemberTurn
 pub mod NextEntry
 pub mod Occupied
@@ -30,7 +32,7 @@ pub mod Sections
 pub mod SignalLaws
 pub mod SignalTurn
 pub mod Starts
-pub mod Taken
+pub mod TakenLaws
 pub mod UsedMarks
 pub mod ValueLaws
 pub mod ValueSteps

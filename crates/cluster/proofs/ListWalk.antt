@@ -1,16 +1,16 @@
 -- The frames of a list from a member on, and how a walk from one member of the list to the next meets them all.
 use Prim.Native.Nat.{ℕ, zero, suc, _+_, _-_, _≤_, _<_}
 use mathlib.Core.Path.{_≡_, refl, sym, _∙_}
-use mathlib.Core.Bool.{Bool}
+use mathlib.Core.Bool.{Bool, true, false}
 use mathlib.Core.List.{List, [], _∷_}
 use native.Mathlib.Decide.{ℕ-discrete}
 use native.Mathlib.Nat.{sub-zero}
 use native.Mathlib.Omega.{arith}
-use borrow.Author.Tests.{eqb-true, eq-eqb, ne-eqb}
+use borrow.Author.Tests.{eq-eqb, ne-eqb}
 use lib.Dec.{eqb}
-use Rattle.cluster.specs.Lists.{firstFrom, membersFrom, members, nextMember}
+use Rattle.cluster.specs.Lists.{firstFrom, membersFrom, members, nextMember, isOneOf}
 use Rattle.cluster.specs.Table.{memberCount, memberList, memberFrame}
-use Rattle.cluster.proofs.Searching.{turn-right, turn-wrong, first-from, first-holds}
+use Rattle.cluster.proofs.Searching.{turn-right, turn-wrong, first-from}
 
 -- the frames of list l from member m on
 unfoldable pub leftFrom : List ℕ → ℕ → ℕ → List ℕ
@@ -60,12 +60,6 @@ module _ (t : List ℕ) (l : ℕ) where
   unfolding nextMember
   next-member-from m = first-from ofList m (memberCount t - m)
 
-  -- the next member of the list is of that list
-  pub next-member-list : (m : ℕ) → nextMember t l m < memberCount t → memberList t (nextMember t l m) ≡ l
-  unfolding nextMember
-  next-member-list m h =
-      eqb-true (memberList t (nextMember t l m)) l (first-holds ofList m (memberCount t - m) (omega arith))
-
   -- at the start all frames of the list are left
   pub left-all : leftFrom t l 0 ≡ members t l
   unfolding leftFrom members
@@ -83,3 +77,17 @@ module _ (t : List ℕ) (l : ℕ) where
   pub left-none : (m : ℕ) → memberCount t ≤ nextMember t l m → leftFrom t l m ≡ []
   unfolding leftFrom nextMember
   left-none m h = none m (memberCount t - m) (omega (arith, next-member-from m))
+
+  -- a frame is one of those left where it is that of the next member, or one of those left behind that
+  pub one-of-here : (f m : ℕ) → nextMember t l m < memberCount t → memberFrame t (nextMember t l m) ≡ f → isOneOf f (leftFrom t l m) ≡ true
+  unfolding isOneOf
+  one-of-here f m h e = rw (left-next m h, eq-eqb (memberFrame t (nextMember t l m)) f e)
+
+  pub one-of-later : (f m : ℕ) → nextMember t l m < memberCount t → (memberFrame t (nextMember t l m) ≡ f → ⊥)
+      → isOneOf f (leftFrom t l m) ≡ isOneOf f (leftFrom t l (suc (nextMember t l m)))
+  unfolding isOneOf
+  one-of-later f m h d = rw (left-next m h, ne-eqb (memberFrame t (nextMember t l m)) f d)
+
+  pub one-of-none : (f m : ℕ) → memberCount t ≤ nextMember t l m → isOneOf f (leftFrom t l m) ≡ false
+  unfolding isOneOf
+  one-of-none f m h = rw (left-none m h)

@@ -2,16 +2,16 @@
 -- columns behind a frame number this holds where the frame number is right, which is judged before them.
 use Prim.Native.Nat.{ℕ, zero, suc, _+_, _*_, _≤_, _<_}
 use mathlib.Core.Path.{_≡_, refl, _∙_, ap}
-use mathlib.Core.Bool.{not, _&&_}
+use mathlib.Core.Bool.{_&&_}
 use mathlib.Core.List.{List}
 use native.Mathlib.Omega.{arith}
 use borrow.Author.Tests.{ltb-true}
-use lib.Dec.{ltb, leb, eqb}
+use lib.Dec.{ltb, eqb}
 use Rattle.wire.proofs.Tests.{whether}
 use Rattle.cluster.specs.Columns.{identifierRight, lengthRight, flagsRight, signalFrameRight, signalKindRight, offsetRight}
 use Rattle.cluster.specs.Columns.{signalWidthRight, startRight, memberFrameRight, entryKindRight, targetRight, delayRight}
 use Rattle.cluster.specs.Places.{signalPlace, occupies}
-use Rattle.cluster.specs.Right.{earlier, takenBefore, overlaps, frameBits, countsUp}
+use Rattle.cluster.specs.Right.{earlier, occupiedBefore, overlaps, frameBits, countsUp}
 use Rattle.cluster.specs.Table.{word, frameCount, signalCount, memberCount, counted, listCount}
 use Rattle.cluster.specs.Table.{frameAt, identifier, frameLength, flags, published}
 use Rattle.cluster.specs.Table.{signalAt, signalFrame, signalKind, signalOffset, signalWidth, signalStart, isArray}
@@ -121,16 +121,16 @@ module _ (t u : List ℕ) (n : ℕ) (same : Same t u n) where
     unfolding occupies signalPlace
     occupies-same s j h = rw (signal-frame-same s (omega arith), offset-same s (omega arith), width-same s h)
 
-    taken-same : (s j : ℕ) → signalAt t s ≤ n → takenBefore t s j ≡ takenBefore u s j
-    unfolding takenBefore
-    taken-same s j h = any-ext s (λ r. occupies t r j) (λ r. occupies u r j) (λ r b. occupies-same r j (omega arith))
+    occupied-same : (s j : ℕ) → signalAt t s ≤ n → occupiedBefore t s j ≡ occupiedBefore u s j
+    unfolding occupiedBefore
+    occupied-same s j h = any-ext s (λ r. occupies t r j) (λ r. occupies u r j) (λ r b. occupies-same r j (omega arith))
 
     overlaps-same : (s : ℕ) → signalAt t s + 3 < n → overlaps t s ≡ overlaps u s
     unfolding overlaps
     overlaps-same s h =
         rw frames-same
-        (any-ext (64 * frameCount u) (λ j. occupies t s j && takenBefore t s j) (λ j. occupies u s j && takenBefore u s j)
-        (λ j b. rw (occupies-same s j h, taken-same s j (omega arith))))
+        (any-ext (64 * frameCount u) (λ j. occupies t s j && occupiedBefore t s j) (λ j. occupies u s j && occupiedBefore u s j)
+        (λ j b. rw (occupies-same s j h, occupied-same s j (omega arith))))
 
     pub signal-width-local : (s : ℕ) → signalAt t s + 3 < n → signalFrame t s < frameCount t
         → signalWidthRight (isArray t s) (frameBits t s) (overlaps t s) (signalOffset t s) (signalWidth t s)

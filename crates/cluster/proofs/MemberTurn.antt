@@ -25,6 +25,10 @@ Passed t m lists listed = (m ≤ memberCount t)
     × (lists ≤ m)
     × (memberFaults t ≡ faults t (memberAt t m) (records m (memberCount t - m) (memberRight t)))
 
+-- what is known where member m is judged
+abbrev pub Turn : List ℕ → ℕ → ℕ → List Bool → Type 0
+Turn t m lists listed = Passed t m lists listed × (m < memberCount t) × (frameCount t ≤ mostFrames) × (memberCount t ≤ mostMembers)
+
 pub none-passed : (t : List ℕ) → Passed t 0 0 (replicate mostFrames false)
 none-passed t = (omega arith, unmarked mostFrames (memberFrame t), sym (counted-none (memberList t) 0 refl), omega arith, rw sub-zero)
 
@@ -42,16 +46,16 @@ module _ (t : List ℕ) (m lists : ℕ) (listed : List Bool) where
   abbrev pub memberRead : List Bool
   memberRead = memberColumns (frameCount t) (follows lists listRead) (published t frameRead) (getD listed frameRead false) frameRead
 
-  module _ (p : Passed t m lists listed) (h : m < memberCount t) (few : frameCount t ≤ mostFrames) (short : memberCount t ≤ mostMembers) where
+  module _ (turn : Turn t m lists listed) where
     agrees : Agrees t (memberAt t m) 0 memberRead (memberRight t m)
     unfolding memberColumns memberRight memberList memberFrame
     agrees = (
       (λ e. omega (arith, follows-high lists listRead e)),
       (λ l. (
-        rw (l, p .2),
+        rw (l, turn .0 .2),
         λ _. (
           (λ e. omega (arith, member-says (frameCount t) (published t frameRead) (getD listed frameRead false) frameRead e)),
-          (λ f. (rw (f, p .1 .1 (word t (memberAt t m + 1))), λ _. refl)),
+          (λ f. (rw (f, turn .0 .1 .1 (word t (memberAt t m + 1))), λ _. refl)),
         ),
       )),
     )
@@ -60,7 +64,7 @@ module _ (t : List ℕ) (m lists : ℕ) (listed : List Bool) where
     pub stops : leading memberRead < memberWords → (place : ℕ) → memberAt t m + leading memberRead ≡ place → fault place ≡ memberFaults t
     unfolding memberColumns
     stops l place e =
-        sym (p .4 ∙ halt-record t (memberRight t) m (memberCount t) (memberAt t m) memberRead place h agrees l e)
+        sym (turn .0 .4 ∙ halt-record t (memberRight t) m (memberCount t) (memberAt t m) memberRead place (turn .1) agrees l e)
 
     -- both words are right: the frame read is the one that gets the mark, and the list read is the last so far
     module _ (right : memberWords ≤ leading memberRead) where
@@ -83,8 +87,8 @@ module _ (t : List ℕ) (m lists : ℕ) (listed : List Bool) where
       unfolding memberColumns
       passes list frame el ef = (
         omega arith,
-        rw (ef, are .1) (marked mostFrames (memberFrame t) m listed (p .1) (omega (arith, are, frame-below))),
+        rw (ef, are .1) (marked mostFrames (memberFrame t) m listed (turn .0 .1) (omega (arith, are, frame-below))),
         rw (el, are .0) (sym (counted-next (memberList t) m)),
         omega (arith, list-high),
-        p .4 ∙ next-record t (memberRight t) m (memberCount t) (memberAt t m) memberRead (memberAt t (m + 1)) h agrees right (omega arith),
+        turn .0 .4 ∙ next-record t (memberRight t) m (memberCount t) (memberAt t m) memberRead (memberAt t (m + 1)) (turn .1) agrees right (omega arith),
       )

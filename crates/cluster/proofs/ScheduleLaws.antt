@@ -44,9 +44,9 @@ module _ (t : List ℕ) (ok : RightTable t) where
       eqb-true (entrySchedule t (firstEntry t n)) n
       (first-holds (ofSchedule t n) 0 (entryCount t) (omega (arith, first-entry-below n h)))
 
-  follows : (e : ℕ) → e < entryCount t
+  next-of : (e : ℕ) → e < entryCount t
       → (nextEntry t e < entryCount t) × (entrySchedule t (nextEntry t e) ≡ entrySchedule t e)
-  follows e h =
+  next-of e h =
       order (suc e) (entryCount t)
       (λ b. elim (ℕ-discrete (entrySchedule t (suc e)) (entrySchedule t e)) [
         | yes p ↦ rw (next-behind t e b p) (b, p)
@@ -62,8 +62,8 @@ module _ (t : List ℕ) (ok : RightTable t) where
 
   -- the next entry is an entry of the table
   pub next-entry-below : (e : ℕ) → e < entryCount t → nextEntry t e < entryCount t
-  next-entry-below e h = follows e h .0
+  next-entry-below e h = next-of e h .0
 
   -- the next entry is of the same schedule
   pub next-entry-schedule : (e : ℕ) → e < entryCount t → entrySchedule t (nextEntry t e) ≡ entrySchedule t e
-  next-entry-schedule e h = follows e h .1
+  next-entry-schedule e h = next-of e h .1

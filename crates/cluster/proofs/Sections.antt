@@ -47,7 +47,21 @@ module _ (t : List ℕ) where
           faults-append t 0 (frameAt 0) h f (omega arith),
         )
 
-  pub judged-sections : judged t ≡ then (headerFaults t) (then (frameFaults t) (then (signalFaults t) (then (memberFaults t) (then (entryFaults t) (surplus t)))))
+  -- what is judged from each section on
+
+  abbrev pub fromEntries : Verdict
+  fromEntries = then (entryFaults t) (surplus t)
+
+  abbrev pub fromMembers : Verdict
+  fromMembers = then (memberFaults t) fromEntries
+
+  abbrev pub fromSignals : Verdict
+  fromSignals = then (signalFaults t) fromMembers
+
+  abbrev pub fromFrames : Verdict
+  fromFrames = then (frameFaults t) fromSignals
+
+  pub judged-sections : judged t ≡ then (headerFaults t) fromFrames
   unfolding judged wordsRight headerRight frameRight signalRight memberRight headerColumns frameColumns signalColumns memberColumns
   judged-sections =
       rw (in-order

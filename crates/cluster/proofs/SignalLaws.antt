@@ -14,7 +14,7 @@ use Rattle.cluster.specs.Table.{frameCount, frameLength, signalCount}
 use Rattle.cluster.specs.Table.{signalFrame, signalKind, signalOffset, signalWidth, signalStart, isArray}
 use Rattle.cluster.proofs.Accepted.{signal-right}
 use Rattle.cluster.proofs.FrameLaws.{frame-length-high}
-use Rattle.cluster.proofs.Widths.{offset-below, scalar-width, array-width, width-range, width-says}
+use Rattle.cluster.proofs.Widths.{offset-below, scalar-width, array-width, width-says}
 
 module _ (t : List ℕ) (ok : RightTable t) (s : ℕ) (h : s < signalCount t) where
   -- the columns of a signal from its offset on

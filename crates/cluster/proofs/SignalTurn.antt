@@ -1,7 +1,7 @@
 -- The check of the signals: the words read are the fields, and the marks say which bits belong to an earlier signal.
 use Prim.Native.Nat.{ℕ, _+_, _-_, _*_, _≤_, _<_}
 use mathlib.Core.Path.{_≡_, refl, sym, _∙_}
-use mathlib.Core.Bool.{Bool, true, false, not, _&&_, _||_, and-false}
+use mathlib.Core.Bool.{Bool, true, false, _||_, and-false}
 use mathlib.Core.List.{List}
 use native.Mathlib.Nat.{sub-zero}
 use native.Mathlib.Omega.{arith}
@@ -18,24 +18,29 @@ use Rattle.cluster.specs.Right.{overlaps, signalRight, records}
 use Rattle.cluster.specs.Table.{mostFrames, frameCount, frameLength, signalCount, signalWords, signalAt}
 use Rattle.cluster.specs.Table.{signalFrame, signalKind, signalOffset, signalWidth, signalStart}
 use Rattle.cluster.specs.declared.Verdict.the-variants.{Accepted}
-use Rattle.cluster.proofs.BitMarks.{BitMarks, untaken, bits-marked, overlap-is}
+use Rattle.cluster.proofs.BitMarks.{BitMarks, none-marked, bits-marked, overlap-is}
 use Rattle.cluster.proofs.Scan.{Agrees, leading-all, all-there, halt-record, next-record, no-record}
 use Rattle.cluster.proofs.Widths.{offset-below, width-says, start-limit-high}
 
 -- the signals before signal s are passed, and their bits marked
 abbrev pub Passed : List ℕ → ℕ → List ℕ → Type 0
-Passed t s taken = (s ≤ signalCount t)
-    × BitMarks t s taken
+Passed t s marks = (s ≤ signalCount t)
+    × BitMarks t s marks
     × (signalFaults t ≡ faults t (signalAt t s) (records s (signalCount t - s) (signalRight t)))
 
+-- what is known where signal s is judged
+abbrev pub Turn : List ℕ → ℕ → List ℕ → Type 0
+Turn t s marks =
+    Passed t s marks × (s < signalCount t) × (frameCount t ≤ mostFrames) × ((f : ℕ) → f < frameCount t → frameLength t f ≤ 8)
+
 pub none-passed : (t : List ℕ) → Passed t 0 (replicate mostFrames 0)
-none-passed t = (omega arith, untaken t, rw sub-zero)
+none-passed t = (omega arith, none-marked t, rw sub-zero)
 
-pub all-passed : (t : List ℕ) (s : ℕ) (taken : List ℕ) → Passed t s taken → signalCount t ≤ s → Accepted ≡ signalFaults t
-all-passed t s taken p h = sym (p .2 ∙ no-record t (signalAt t s) (signalRight t) s (signalCount t) h)
+pub all-passed : (t : List ℕ) (s : ℕ) (marks : List ℕ) → Passed t s marks → signalCount t ≤ s → Accepted ≡ signalFaults t
+all-passed t s marks p h = sym (p .2 ∙ no-record t (signalAt t s) (signalRight t) s (signalCount t) h)
 
-module _ (t : List ℕ) (s : ℕ) (taken : List ℕ) where
-  -- the record's words as they are read, with the bits taken in its frame
+module _ (t : List ℕ) (s : ℕ) (marks : List ℕ) where
+  -- the record's words as they are read, with the bits marks in its frame
 
   abbrev frameRead : ℕ
   frameRead = due t (signalAt t s)
@@ -56,23 +61,29 @@ module _ (t : List ℕ) (s : ℕ) (taken : List ℕ) where
   bitsRead = 8 * frameLength t frameRead
 
   abbrev hitRead : Bool
-  hitRead = hits (getD taken frameRead 0) offsetRead widthRead
+  hitRead = hits (getD marks frameRead 0) offsetRead widthRead
 
   abbrev pub signalRead : List Bool
   signalRead = signalColumns (frameCount t) bitsRead hitRead frameRead kindRead offsetRead widthRead startRead
 
-  module _ (p : Passed t s taken) (h : s < signalCount t) (few : frameCount t ≤ mostFrames)
-      (short : (f : ℕ) → f < frameCount t → frameLength t f ≤ 8) where
+  -- a field that is right lies in a frame of the table, and its bits are free
+  pub record Placed : Type 0 where
+    pub below : frameRead < mostFrames
+    pub wide : 1 ≤ widthRead
+    pub fits : offsetRead + widthRead ≤ 64
+    pub free : hitRead ≡ false
+
+  module _ (turn : Turn t s marks) where
     -- inside the frame the marks tell an overlap
     width-agrees : (array : Bool) → signalFrame t s < frameCount t
         → signalWidthRight array (8 * frameLength t (signalFrame t s)) (overlaps t s) (signalOffset t s) (signalWidth t s)
-        ≡ signalWidthRight array (8 * frameLength t (signalFrame t s)) (hits (getD taken (signalFrame t s) 0) (signalOffset t s) (signalWidth t s))
+        ≡ signalWidthRight array (8 * frameLength t (signalFrame t s)) (hits (getD marks (signalFrame t s) 0) (signalOffset t s) (signalWidth t s))
         (signalOffset t s) (signalWidth t s)
     width-agrees array f =
         let end = signalOffset t s + signalWidth t s in
         let bits = 8 * frameLength t (signalFrame t s) in
         whether (leb end bits)
-        (λ e. rw (overlap-is t s taken (p .1) (omega (arith, leb-true end bits e, short (signalFrame t s) f)) f))
+        (λ e. rw (overlap-is t s marks (turn .0 .1) (omega (arith, leb-true end bits e, turn .3 (signalFrame t s) f)) f))
         (λ e. simp (e, and-false))
 
     agrees : Agrees t (signalAt t s) 0 signalRead (signalRight t s)
@@ -86,11 +97,11 @@ module _ (t : List ℕ) (s : ℕ) (taken : List ℕ) where
           (λ k. (
             rw k,
             λ _. (
-              (λ e. omega (arith, offset-below (eqb kindRead 1) bitsRead offsetRead e, short frameRead below)),
+              (λ e. omega (arith, offset-below (eqb kindRead 1) bitsRead offsetRead e, turn .3 frameRead below)),
               (λ o. (
                 rw (f, k, o),
                 λ _. (
-                  (λ e. omega (arith, width-says (eqb kindRead 1) bitsRead hitRead offsetRead widthRead e, short frameRead below)),
+                  (λ e. omega (arith, width-says (eqb kindRead 1) bitsRead hitRead offsetRead widthRead e, turn .3 frameRead below)),
                   (λ w. (
                     rw (f, k, o, w) (width-agrees (eqb (signalKind t s) 1) (omega arith)),
                     λ e3.
@@ -111,16 +122,10 @@ module _ (t : List ℕ) (s : ℕ) (taken : List ℕ) where
     pub stops : leading signalRead < signalWords → (place : ℕ) → signalAt t s + leading signalRead ≡ place → fault place ≡ signalFaults t
     unfolding signalColumns
     stops l place e =
-        sym (p .2 ∙ halt-record t (signalRight t) s (signalCount t) (signalAt t s) signalRead place h agrees l e)
+        sym (turn .0 .2 ∙ halt-record t (signalRight t) s (signalCount t) (signalAt t s) signalRead place (turn .1) agrees l e)
 
-    -- all words are right: the field read lies in a frame of the table, and its bits are free
+    -- all words are right: the field read is the one that gets the marks
     module _ (right : signalWords ≤ leading signalRead) where
-      pub record Placed : Type 0 where
-        pub below : frameRead < mostFrames
-        pub wide : 1 ≤ widthRead
-        pub fits : offsetRead + widthRead ≤ 64
-        pub free : hitRead ≡ false
-
       frame-below : frameRead < frameCount t
       unfolding signalColumns
       frame-below = ltb-true frameRead (frameCount t) (leading-all signalRead right .0)
@@ -129,7 +134,7 @@ module _ (t : List ℕ) (s : ℕ) (taken : List ℕ) where
       unfolding signalColumns
       placed =
           let says = width-says (eqb kindRead 1) bitsRead hitRead offsetRead widthRead (leading-all signalRead right .1 .1 .1 .0) in
-          let bytes = short frameRead frame-below in
+          let bytes = turn .3 frameRead frame-below in
           record { below = omega (arith, frame-below); wide = says .1; fits = omega arith; free = says .3 }
 
       are : (frameRead ≡ signalFrame t s) × (offsetRead ≡ signalOffset t s) × (widthRead ≡ signalWidth t s)
@@ -138,12 +143,12 @@ module _ (t : List ℕ) (s : ℕ) (taken : List ℕ) where
           let there = all-there t (signalAt t s) 0 signalRead (signalRight t s) agrees (leading-all signalRead right) in
           (there .0, there .1 .1 .0, there .1 .1 .1 .0)
 
-      pub passes : (r : ℕ) → ((j : ℕ) → bit r j ≡ (bit (getD taken frameRead 0) j || inside offsetRead widthRead j)) → Passed t (s + 1) (set taken frameRead r)
+      pub passes : (r : ℕ) → ((j : ℕ) → bit r j ≡ (bit (getD marks frameRead 0) j || inside offsetRead widthRead j)) → Passed t (s + 1) (set marks frameRead r)
       unfolding signalColumns
       passes r put = (
         omega arith,
         rw (are .0)
-            (bits-marked t s taken (p .1) (omega (arith, are, placed .fits)) (omega (arith, are, placed .below)) r
+            (bits-marked t s marks (turn .0 .1) (omega (arith, are, placed .fits)) (omega (arith, are, placed .below)) r
             (λ j. rw (are .0, are .1, are .2) at (put j))),
-        p .2 ∙ next-record t (signalRight t) s (signalCount t) (signalAt t s) signalRead (signalAt t (s + 1)) h agrees right (omega arith),
+        turn .0 .2 ∙ next-record t (signalRight t) s (signalCount t) (signalAt t s) signalRead (signalAt t (s + 1)) (turn .1) agrees right (omega arith),
       )

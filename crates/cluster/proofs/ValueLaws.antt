@@ -11,7 +11,7 @@ use Rattle.wire.specs.Bits.{bit, Bytes}
 use Rattle.signal.specs.Signal.{bitAt, putBits, scalarWidth, putScalar, putArray}
 use Rattle.signal.proofs.Inside.{order}
 use Rattle.signal.proofs.Laws.{Apart, bit-stays, byte-stays, put-alike, get-put-value, get-put-array, get-other, get-other-array}
-use Rattle.signal.proofs.PutBits.{put-length, put-bytes}
+use Rattle.signal.proofs.PutBits.{put-length}
 use Rattle.cluster.specs.Check.{RightTable}
 use Rattle.cluster.specs.Fresh.{arrayLength}
 use Rattle.cluster.specs.Places.{signalPlace, occupies}
@@ -34,16 +34,6 @@ scalar-length t bs s v = put-length bs (signalPlace t s) (scalarWidth (signalWid
 pub array-length-stays : (t bs : List ℕ) (s : ℕ) (vs : List ℕ) → length (withArray t bs s vs) ≡ length bs
 unfolding withArray putArray
 array-length-stays t bs s vs = put-length bs (signalPlace t s) (8 * length vs) (bitAt vs)
-
--- a write of a scalar leaves bytes
-pub scalar-bytes : (t bs : List ℕ) (s v : ℕ) → Bytes (withScalar t bs s v)
-unfolding withScalar putScalar
-scalar-bytes t bs s v = put-bytes bs (signalPlace t s) (scalarWidth (signalWidth t s)) (bit v)
-
--- a write of an array leaves bytes
-pub array-bytes : (t bs : List ℕ) (s : ℕ) (vs : List ℕ) → Bytes (withArray t bs s vs)
-unfolding withArray putArray
-array-bytes t bs s vs = put-bytes bs (signalPlace t s) (8 * length vs) (bitAt vs)
 
 -- ---- a byte after a write goes by what that byte was before
 

@@ -52,3 +52,11 @@ judged t = then (faults t 0 (wordsRight t)) (surplus t)
 -- the table check accepts the table
 abbrev pub RightTable : List ℕ → Type 0
 RightTable t = judged t ≡ Accepted
+
+-- what a call asks of its table before all else: refusal 1, "the table check finds a fault"
+unfoldable pub takenOf : List ℕ → Verdict
+takenOf t = judged t
+
+-- a call takes the table
+abbrev pub TakenTable : List ℕ → Type 0
+TakenTable t = takenOf t ≡ Accepted

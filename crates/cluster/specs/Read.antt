@@ -21,14 +21,14 @@ unfoldable pub leading : List Bool → ℕ
 leading [] = 0
 leading (right ∷ rest) = cond right (suc (leading rest)) 0
 
--- some bit of a field is set in the number of the bits taken
+-- some bit of a field is set in the number of the occupied bits
 unfoldable pub hits : ℕ → ℕ → ℕ → Bool
-hits taken offset width = anyBelow width (λ k. bit taken (offset + k))
+hits bits offset width = anyBelow width (λ k. bit bits (offset + k))
 
--- the columns of a signal's record as it was read, with the number of the bits taken in its frame
+-- the columns of a signal's record as it was read, with the number of the occupied bits of its frame
 abbrev pub signalSeen : ℕ → ℕ → ℕ → signal.Words → List Bool
-signalSeen frames bits taken w =
-    signalColumns frames bits (hits taken (w .offset) (w .width)) (w .frame) (w .kind) (w .offset) (w .width) (w .start)
+signalSeen frames bits occupied w =
+    signalColumns frames bits (hits occupied (w .offset) (w .width)) (w .frame) (w .kind) (w .offset) (w .width) (w .start)
 
 -- the words of a signal's and of an entry's record
 pub record SignalRead (t : List ℕ) (at : ℕ) (r : signal.Words) : Type 0 where

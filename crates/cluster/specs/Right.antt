@@ -31,12 +31,12 @@ abbrev pub frameBits : List ℕ → ℕ → ℕ
 frameBits t s = 8 * frameLength t (signalFrame t s)
 
 -- bit j of the buffer belongs to one of the first n signals
-unfoldable pub takenBefore : List ℕ → ℕ → ℕ → Bool
-takenBefore t n j = anyBelow n (λ r. occupies t r j)
+unfoldable pub occupiedBefore : List ℕ → ℕ → ℕ → Bool
+occupiedBefore t n j = anyBelow n (λ r. occupies t r j)
 
 -- some bit of a signal belongs to an earlier one
 unfoldable pub overlaps : List ℕ → ℕ → Bool
-overlaps t s = anyBelow (64 * frameCount t) (λ j. occupies t s j && takenBefore t s j)
+overlaps t s = anyBelow (64 * frameCount t) (λ j. occupies t s j && occupiedBefore t s j)
 
 unfoldable pub signalRight : List ℕ → ℕ → List Bool
 signalRight t s =

@@ -103,11 +103,12 @@ pub(crate) fn judge(t: &[u16]) -> Verdict
     ensures { λ r. ⌜ r ≡ entryFaults (now (t .entry)) ⌝ }
 {
     let lists = members::lists(t);
+    let first = entry_at(t, 0);
     let n = count(t) as usize;
     let mut schedules: usize = 0;
     let mut e: usize = 0;
     while e < n {
-        let at = entry_at(t, e);
+        let at = first + Layout::ENTRY * e;
         let words = read(t, at);
         let right = right_words(
             frames::count(t) as usize,

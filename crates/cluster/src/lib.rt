@@ -12,7 +12,7 @@ mod table;
 pub mod values;
 
 ghost use mathlib.Core.Path.{_≡_};
-ghost use Rattle.cluster.specs.Check.{fault as faultAt, judged};
+ghost use Rattle.cluster.specs.Check.{fault as faultAt, judged, takenOf};
 
 // What the table check answers: accepted, or refusal 1 with the position of the first word that is wrong, missing or surplus.
 pub enum Verdict {
@@ -55,6 +55,13 @@ pub fn check(t: &[u16]) -> Verdict
         return Verdict::Refused(refusal);
     }
     table::surplus(t)
+}
+
+// Whether a call takes a table: what it asks before all else.
+pub fn taken(t: &[u16]) -> Verdict
+    ensures { λ r. ⌜ r ≡ takenOf (now (t .entry)) ⌝ }
+{
+    check(t)
 }
 
 // Refusal 1 with a position.

@@ -1,4 +1,4 @@
-// Marks: a number that was used, and the bits of a frame that are taken, as one number.
+// Marks: a number that was used, and the occupied bits of a frame, as one number.
 ghost use mathlib.Core.Path.{_≡_};
 ghost use mathlib.Core.Bool.{false, not, _||_};
 ghost use Prim.Native.Nat.{ℕ, _+_, _-_, _^_, _<_, _≤_};
@@ -14,28 +14,28 @@ pub(crate) fn is_marked(marks: &[bool], i: usize) -> bool
     if i < marks.len() { marks[i] } else { false }
 }
 
-// The bits of a frame that are taken.
+// The occupied bits of a frame.
 pub(crate) fn bits_of(marks: &[u64], i: usize) -> u64
     ensures { λ r. ⌜ r ≡ getD (now (marks .entry)) i 0 ⌝ }
 {
     if i < marks.len() { marks[i] } else { 0 }
 }
 
-// Whether none of the bits from an offset on is taken.
-pub(crate) fn are_free(taken: u64, offset: usize, width: usize) -> bool
+// Whether none of the bits from an offset on is occupied.
+pub(crate) fn are_free(bits: u64, offset: usize, width: usize) -> bool
     requires { ⌜ (1 ≤ width) × (offset + width ≤ 64) ⌝ }
-    ensures { λ r. ⌜ r ≡ not (hits taken offset width) ⌝ }
+    ensures { λ r. ⌜ r ≡ not (hits bits offset width) ⌝ }
 {
-    (taken >> (offset as u32)) & ones(width) == 0
+    (bits >> (offset as u32)) & ones(width) == 0
 }
 
-// The bits from an offset on, which are free, are taken too.
-pub(crate) fn with_bits(taken: u64, offset: usize, width: usize) -> u64
+// The occupied bits with those from an offset on, which are free.
+pub(crate) fn with_bits(bits: u64, offset: usize, width: usize) -> u64
     requires { ⌜ (1 ≤ width) × (offset + width ≤ 64) ⌝ }
-    requires { ⌜ hits taken offset width ≡ false ⌝ }
-    ensures { λ r. ⌜ ((j : ℕ) → bit r j ≡ (bit taken j || inside offset width j)) ⌝ }
+    requires { ⌜ hits bits offset width ≡ false ⌝ }
+    ensures { λ r. ⌜ ((j : ℕ) → bit r j ≡ (bit bits j || inside offset width j)) ⌝ }
 {
-    taken + (ones(width) << (offset as u32))
+    bits + (ones(width) << (offset as u32))
 }
 
 // The number with this many bits, all 1.

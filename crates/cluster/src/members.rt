@@ -13,7 +13,7 @@ ghost use mathlib.Core.Path.{_≡_};
 ghost use Prim.Native.Nat.{_≤_};
 ghost use Rattle.cluster.specs.Check.{memberFaults};
 ghost use Rattle.cluster.specs.Columns.{memberColumns};
-ghost use Rattle.cluster.specs.Lists.{nextMember};
+ghost use Rattle.cluster.specs.Lists.{members, nextMember, isOneOf, memberOf};
 ghost use Rattle.cluster.specs.Read.{leading};
 ghost use Rattle.cluster.specs.Table.{mostFrames, mostSignals, mostMembers};
 ghost use Rattle.cluster.specs.Table.{frameCount, signalCount, memberCount, memberList, memberFrame, listCount};
@@ -67,17 +67,48 @@ pub fn next(t: &[u16], l: u16, m: u16) -> u16
     k
 }
 
+// Whether a frame is in a list.
+pub fn has(t: &[u16], l: u16, f: u16) -> bool
+    ensures { λ r. ⌜ r ≡ isOneOf f (members (now (t .entry)) l) ⌝ }
+{
+    let n = count(t);
+    let mut m = next(t, l, 0);
+    while m < n {
+        if frame(t, m) == f {
+            return true;
+        }
+        m = next(t, l, m + 1);
+    }
+    false
+}
+
+// The member that a frame is; the number of members where it is in no list.
+pub fn of_frame(t: &[u16], f: u16) -> u16
+    ensures { λ r. ⌜ r ≡ memberOf (now (t .entry)) f ⌝ }
+{
+    let n = count(t);
+    let mut m: u16 = 0;
+    while m < n {
+        if frame(t, m) == f {
+            return m;
+        }
+        m += 1;
+    }
+    m
+}
+
 // Checks the members' records; the frames in a list so far are marked.
 pub(crate) fn judge(t: &[u16]) -> Verdict
     requires { ⌜ (frameCount (now t) ≤ mostFrames) × (signalCount (now t) ≤ mostSignals) × (memberCount (now t) ≤ mostMembers) ⌝ }
     ensures { λ r. ⌜ r ≡ memberFaults (now (t .entry)) ⌝ }
 {
     let mut listed = [false; Limits::FRAMES];
+    let first = member_at(t, 0);
     let n = count(t) as usize;
     let mut lists: usize = 0;
     let mut m: usize = 0;
     while m < n {
-        let at = member_at(t, m);
+        let at = first + Layout::MEMBER * m;
         let list = due(t, at);
         let f = due(t, at + 1);
         let right = right_words(

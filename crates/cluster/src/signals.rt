@@ -87,25 +87,26 @@ pub fn array_length(t: &[u16], s: u16) -> usize
     if bytes < 8 { bytes } else { 8 }
 }
 
-// Checks the signals' records; the bits taken so far are marked, frame by frame.
+// Checks the signals' records; the bits occupied so far are marked, frame by frame.
 pub(crate) fn judge(t: &[u16]) -> Verdict
     requires { ⌜ (frameCount (now t) ≤ mostFrames) × (signalCount (now t) ≤ mostSignals) ⌝ }
     requires { ⌜ ((f : ℕ) → f < frameCount (now t) → frameLength (now t) f ≤ 8) ⌝ }
     ensures { λ r. ⌜ r ≡ signalFaults (now (t .entry)) ⌝ }
 {
-    let mut taken = [0u64; Limits::FRAMES];
+    let mut occupied = [0u64; Limits::FRAMES];
+    let first = signal_at(t, 0);
     let n = count(t) as usize;
     let mut s: usize = 0;
     while s < n {
-        let at = signal_at(t, s);
+        let at = first + Layout::SIGNAL * s;
         let words = read(t, at);
         let f = words.frame;
-        let marks = bits_of(&taken, f);
+        let marks = bits_of(&occupied, f);
         let right = right_words(frames::count(t) as usize, frames::bits(t, f), marks, words);
         if right < Layout::SIGNAL {
             return fault(at + right);
         }
-        taken[f] = with_bits(marks, words.offset, words.width);
+        occupied[f] = with_bits(marks, words.offset, words.width);
         s += 1;
     }
     Verdict::Accepted
@@ -144,10 +145,10 @@ fn read(t: &[u16], at: usize) -> Words
 }
 
 // How many words of a signal's record are right before the first that is not.
-fn right_words(frames: usize, bits: usize, taken: u64, words: Words) -> usize
+fn right_words(frames: usize, bits: usize, occupied: u64, words: Words) -> usize
     requires { ⌜ (words .offset ≤ 65536) × (words .width ≤ 65536) ⌝ }
     requires { ⌜ (words .frame < frames → bits ≤ 64) ⌝ }
-    ensures { λ r. ⌜ r ≡ leading (signalSeen frames bits taken words) ⌝ }
+    ensures { λ r. ⌜ r ≡ leading (signalSeen frames bits occupied words) ⌝ }
 {
     if frames <= words.frame {
         return 0;
@@ -162,7 +163,7 @@ fn right_words(frames: usize, bits: usize, taken: u64, words: Words) -> usize
     if !width_right(array, bits, words.offset, words.width) {
         return 3;
     }
-    if !are_free(taken, words.offset, words.width) {
+    if !are_free(occupied, words.offset, words.width) {
         return 3;
     }
     if words.start < start_limit(array, words.width) {

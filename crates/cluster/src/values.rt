@@ -2,7 +2,6 @@
 use crate::frames;
 use crate::signals;
 ghost use mathlib.Core.Path.{_≡_};
-ghost use Prim.Native.Nat.{_≤_};
 ghost use Rattle.cluster.specs.Values.{touches as touchesOf, signalPublished, valueFits, arrayFits};
 ghost use Rattle.cluster.specs.Values.{scalarValue, withScalar, withArray, arrayRead};
 

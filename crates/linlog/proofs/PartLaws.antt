@@ -13,7 +13,7 @@ use Rattle.buslog.specs.declared.report.Written.{Written}
 use Rattle.buslog.specs.Row.{longestRow}
 use Rattle.buslog.specs.Lines.{wholeLines, lastLine}
 use Rattle.buslog.specs.Report.{builtIn, Outcome, reporting, reported, rowsOf, charactersOf, fronted, Fronts, Leaves, keptLength, keptOf}
-use Rattle.buslog.proofs.Example.{built-in-right}
+use Rattle.buslog.proofs.Example.{built-in-taken}
 use Rattle.buslog.proofs.ReportLaws.{part-reported}
 use Rattle.buslog.proofs.PartLaws.{kept-line}
 use Rattle.linlog.specs.declared.Log.{Log}
@@ -26,7 +26,7 @@ module _ (log r : Log) (t text out : List ℕ) (w : Written) (after : List ℕ)
     (room : longestRow * length text ≤ length out) (table : t ≡ builtIn) (leaves : Leaves (reported t (log .number) (length out) text) out w after) where
   -- all whole lines of the part are reported
   whole : reported t (log .number) (length out) text ≡ reporting builtIn (log .number) (wholeLines [] text)
-  whole = rw table (part-reported builtIn (log .number) (length out) text built-in-right room)
+  whole = rw table (part-reported builtIn (log .number) (length out) text built-in-taken room)
 
   handed : w ≡ reporting builtIn (log .number) (wholeLines [] text) .report
   handed = leaves .handed ∙ ap (λ (o : Outcome). o .report) whole

@@ -19,7 +19,8 @@ use Rattle.cluster.proofs.Searching.{first-holds, first-least}
 use Rattle.transport.proofs.Tests.{whether}
 use Rattle.master.specs.declared.state.Opened.the-variants.{Frame}
 use Rattle.master.specs.Tick.{firstPending}
-use Rattle.master.specs.Ahead.{memberOf, framesAhead, pendingCount}
+use Rattle.master.specs.Ahead.{pendingCount}
+use Rattle.cluster.specs.Lists.{memberOf, framesAhead}
 use Rattle.master.proofs.PendingLaws.{NonePending, one-none, first-pending-is, first-pending-of}
 
 -- ---- counting

@@ -26,7 +26,8 @@ use Rattle.master.specs.Select.{selectVerdict}
 use Rattle.master.specs.Message.{sendVerdict}
 use Rattle.master.specs.Tick.{tickVerdict}
 use Rattle.master.specs.Byte.{byteVerdict}
-use Rattle.master.specs.Ahead.{memberOf, aheadVerdict}
+use Rattle.master.specs.Ahead.{aheadVerdict}
+use Rattle.cluster.specs.Lists.{memberOf}
 use Rattle.master.specs.Write.{isBytes, fitsSignal}
 use Rattle.master.specs.Calls as call
 use Rattle.master.specs.Calls.{Call}

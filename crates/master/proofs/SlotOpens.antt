@@ -21,7 +21,8 @@ use Rattle.master.specs.declared.state.Requested.the-variants as request
 use Rattle.master.specs.declared.state.Opened.{Opened}
 use Rattle.master.specs.declared.state.Opened.the-variants.{Nothing, Frame, Request, Response}
 use Rattle.master.specs.declared.state.Message.{Message}
-use Rattle.master.specs.Fits.{entryThere, scheduleThere, frameThere, isOneOf, isSending, entryOpens}
+use Rattle.master.specs.Fits.{entryThere, scheduleThere, frameThere, isSending, entryOpens}
+use Rattle.cluster.specs.Lists.{isOneOf}
 use Rattle.master.specs.Plan.{entryDue}
 use Rattle.master.specs.Tick.{firstPending, slotOpens}
 

@@ -23,7 +23,8 @@ use Rattle.master.specs.Write.{writable}
 use Rattle.master.specs.Message.{sendVerdict}
 use Rattle.master.specs.Tick.{tickVerdict}
 use Rattle.master.specs.Byte.{byteVerdict}
-use Rattle.master.specs.Ahead.{memberOf, aheadVerdict}
+use Rattle.master.specs.Ahead.{aheadVerdict}
+use Rattle.cluster.specs.Lists.{memberOf}
 use Rattle.master.proofs.Answered.{Writable, writable-signal}
 use Rattle.master.proofs.Admitted.{unless-test, admits, admitted-table, admitted-size, admitted-fits, Fits, fits-clauses, open-identifier, open-length-low, open-length-high, open-count}
 

@@ -8,14 +8,30 @@ use native.Mathlib.Omega.{arith}
 use lib.Dec.{eqb}
 use lib.ListN.{getD}
 use Rattle.transport.proofs.Tests.{whether}
-use Rattle.cluster.specs.Table.{memberList, memberFrame}
-use Rattle.cluster.specs.Lists.{membersFrom}
-use Rattle.master.specs.declared.state.Opened.the-variants.{Frame}
-use Rattle.master.specs.Fits.{isOneOf}
+use Rattle.cluster.specs.Table.{memberCount, memberList, memberFrame}
+use Rattle.cluster.specs.Lists.{membersFrom, nextMember}
+use Rattle.cluster.proofs.ListWalk.{leftFrom, left-next, left-none}
+use Rattle.master.specs.declared.state.Opened.the-variants.{Nothing, Frame}
 use Rattle.master.specs.Tick.{firstPending}
 use Rattle.master.specs.Ahead.{pendingCount}
 
--- what a member adds to its list, with a test that its frame passes
+-- the first pending frame of those left in a list
+module _ (t : List ℕ) (l : ℕ) (bits : List Bool) (m : ℕ) where
+  pub first-here : nextMember t l m < memberCount t → getD bits (memberFrame t (nextMember t l m)) false ≡ true
+      → firstPending bits (leftFrom t l m) ≡ Frame (memberFrame t (nextMember t l m))
+  unfolding firstPending
+  first-here h p = rw (left-next t l m h, p)
+
+  pub first-later : nextMember t l m < memberCount t → getD bits (memberFrame t (nextMember t l m)) false ≡ false
+      → firstPending bits (leftFrom t l m) ≡ firstPending bits (leftFrom t l (suc (nextMember t l m)))
+  unfolding firstPending
+  first-later h p = rw (left-next t l m h, p)
+
+  pub first-none : memberCount t ≤ nextMember t l m → firstPending bits (leftFrom t l m) ≡ Nothing
+  unfolding firstPending
+  first-none h = rw (left-none t l m h)
+
+-- what a member adds to the count of its list
 module _ (t : List ℕ) (l m n : ℕ) (h : m < n) where
   abbrev rest : List ℕ
   rest = membersFrom t l (m + 1) (n - (m + 1))
@@ -23,25 +39,6 @@ module _ (t : List ℕ) (l m n : ℕ) (h : m < n) where
   turn : membersFrom t l m (n - m) ≡ cond (eqb (memberList t m) l) (memberFrame t m ∷ rest) rest
   unfolding membersFrom
   turn = let e : n - m ≡ suc (n - (m + 1)) = omega arith in rw (e, add-one)
-
-  pub one-of-here : (f : ℕ) → (eqb (memberList t m) l && eqb (memberFrame t m) f) ≡ true → isOneOf f (membersFrom t l m (n - m)) ≡ true
-  unfolding isOneOf
-  one-of-here f p = whether (eqb (memberList t m) l) (λ a. rw (turn, a, rw a at p)) (λ a. let z : _≡_ {A = Bool} false true = rw a at p in cc)
-
-  pub one-of-later : (f : ℕ) → (eqb (memberList t m) l && eqb (memberFrame t m) f) ≡ false
-      → isOneOf f (membersFrom t l m (n - m)) ≡ isOneOf f rest
-  unfolding isOneOf
-  one-of-later f p = whether (eqb (memberList t m) l) (λ a. rw (turn, a, rw a at p)) (λ a. rw (turn, a))
-
-  pub first-here : (bits : List Bool) → (eqb (memberList t m) l && getD bits (memberFrame t m) false) ≡ true
-      → firstPending bits (membersFrom t l m (n - m)) ≡ Frame (memberFrame t m)
-  unfolding firstPending
-  first-here bits p = whether (eqb (memberList t m) l) (λ a. rw (turn, a, rw a at p)) (λ a. let z : _≡_ {A = Bool} false true = rw a at p in cc)
-
-  pub first-later : (bits : List Bool) → (eqb (memberList t m) l && getD bits (memberFrame t m) false) ≡ false
-      → firstPending bits (membersFrom t l m (n - m)) ≡ firstPending bits rest
-  unfolding firstPending
-  first-later bits p = whether (eqb (memberList t m) l) (λ a. rw (turn, a, rw a at p)) (λ a. rw (turn, a))
 
   pub count-turn : (bits : List Bool) → pendingCount bits (membersFrom t l m (n - m))
       ≡ cond (eqb (memberList t m) l && getD bits (memberFrame t m) false) 1 0 + pendingCount bits rest

@@ -2,26 +2,18 @@
 use Prim.Native.Nat.{ℕ, suc}
 use mathlib.Core.Bool.{Bool, false, cond}
 use mathlib.Core.List.{List, [], _∷_}
-use lib.Dec.{ltb, eqb}
+use lib.Dec.{ltb}
 use lib.ListN.{getD}
 use Rattle.refusal.specs.Numbers.{unknown}
 use Rattle.cluster.specs.declared.Verdict.{Verdict}
 use Rattle.cluster.specs.declared.Verdict.the-variants as verdict
 use Rattle.cluster.specs.Check.{then}
-use Rattle.cluster.specs.Table.{memberCount, memberList, memberFrame}
-use Rattle.cluster.specs.Lists.{firstFrom, membersFrom}
+use Rattle.cluster.specs.Table.{memberCount}
+use Rattle.cluster.specs.Lists.{memberOf, framesAhead}
 use Rattle.master.specs.declared.state.State.{State}
 use Rattle.master.specs.declared.ahead.AheadAnswer.{AheadAnswer}
 use Rattle.master.specs.declared.ahead.AheadAnswer.the-variants.{Count, Refused}
 use Rattle.master.specs.Admit.{unless, admitted, answered, bufferSize}
-
--- the member that a frame is; the number of members where it is in no list
-unfoldable pub memberOf : List ℕ → ℕ → ℕ
-memberOf t f = firstFrom (λ m. eqb (memberFrame t m) f) 0 (memberCount t)
-
--- the frames ahead of a frame in its list: those of the same list among the members before it
-unfoldable pub framesAhead : List ℕ → ℕ → List ℕ
-framesAhead t f = membersFrom t (memberList t (memberOf t f)) 0 (memberOf t f)
 
 -- how many of some frames are pending
 unfoldable pub pendingCount : List Bool → List ℕ → ℕ

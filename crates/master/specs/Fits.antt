@@ -4,7 +4,7 @@ use mathlib.Core.Bool.{Bool, true, false, cond, not, _&&_, _||_}
 use mathlib.Core.List.{List, [], _∷_}
 use lib.Dec.{leb, ltb, eqb}
 use Rattle.cluster.specs.Table.{frameCount, published, entryCount, scheduleCount, entryKind, entryTarget, entryDelay}
-use Rattle.cluster.specs.Lists.{members}
+use Rattle.cluster.specs.Lists.{isOneOf, members}
 use Rattle.transport.specs.Cutting.{isLength, messageFrames}
 use Rattle.master.specs.declared.state.Plan.{Plan}
 use Rattle.master.specs.declared.state.Current.{Current}
@@ -56,11 +56,6 @@ pendingFits t f [] = true
 pendingFits t f (bit ∷ bits) = bitFits t f bit && pendingFits t (suc f) bits
 
 -- ---- "an open transfer the current entry cannot open"
-
--- a frame is one of some
-unfoldable pub isOneOf : ℕ → List ℕ → Bool
-isOneOf f [] = false
-isOneOf f (g ∷ gs) = cond (eqb g f) true (isOneOf f gs)
 
 -- a message is being sent
 unfoldable pub isSending : Message → Bool

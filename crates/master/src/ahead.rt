@@ -7,7 +7,8 @@ use cluster::Verdict;
 use cluster::members;
 use refusal::Refusal;
 ghost use mathlib.Core.Path.{_≡_};
-ghost use Rattle.master.specs.Ahead.{memberOf, aheadVerdict, aheadOf};
+ghost use Rattle.master.specs.Ahead.{aheadVerdict, aheadOf};
+ghost use Rattle.cluster.specs.Lists.{memberOf};
 
 // What number ahead answers.
 pub enum AheadAnswer {
@@ -24,7 +25,7 @@ impl State {
             return AheadAnswer::Refused(refusal);
         }
         let pending = self.pending;
-        let m = member_of(t, f);
+        let m = members::of_frame(t, f);
         let l = members::list(t, m);
         AheadAnswer::Count(count_pending(t, pending, l, m))
     }
@@ -36,24 +37,9 @@ impl State {
         if let Verdict::Refused(refusal) = self.admit(t, buffer_size(t)) {
             return Verdict::Refused(refusal);
         }
-        if members::count(t) <= member_of(t, f) {
+        if members::count(t) <= members::of_frame(t, f) {
             return refused(Refusal::UNKNOWN);
         }
         Verdict::Accepted
     }
-}
-
-// The member that a frame is; the number of members where it is in no list.
-fn member_of(t: &[u16], f: u16) -> u16
-    ensures { λ r. ⌜ r ≡ memberOf (now (t .entry)) f ⌝ }
-{
-    let n = members::count(t);
-    let mut m: u16 = 0;
-    while m < n {
-        if members::frame(t, m) == f {
-            return m;
-        }
-        m += 1;
-    }
-    m
 }

@@ -107,12 +107,13 @@ pub(crate) fn first_pending(t: &[u16], pending: [bool; Limits::FRAMES], l: u16) 
     ensures { λ r. ⌜ r ≡ firstPending pending (membersOf (now (t .entry)) l) ⌝ }
 {
     let n = members::count(t);
-    let mut m: u16 = 0;
+    let mut m = members::next(t, l, 0);
     while m < n {
-        if is_pending_member(t, pending, l, m) {
-            return Opened::Frame(members::frame(t, m));
+        let f = members::frame(t, m);
+        if pending[f as usize] {
+            return Opened::Frame(f);
         }
-        m += 1;
+        m = members::next(t, l, m + 1);
     }
     Opened::Nothing
 }
@@ -132,7 +133,7 @@ pub(crate) fn count_pending(t: &[u16], pending: [bool; Limits::FRAMES], l: u16, 
 }
 
 // Whether a member is of a list and its frame is pending.
-pub(crate) fn is_pending_member(t: &[u16], pending: [bool; Limits::FRAMES], l: u16, m: u16) -> bool
+fn is_pending_member(t: &[u16], pending: [bool; Limits::FRAMES], l: u16, m: u16) -> bool
     requires { ⌜ RightTable (now t) × (m < memberCount (now t)) ⌝ }
     ensures { λ r. ⌜ r ≡ (eqb (memberList (now (t .entry)) m) l && getD pending (memberFrame (now (t .entry)) m) false) ⌝ }
 {

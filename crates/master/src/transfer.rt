@@ -21,7 +21,8 @@ ghost use Rattle.wire.specs.Checksum.{checksumByte};
 ghost use Rattle.cluster.specs.Table.{published, memberList, memberFrame};
 ghost use Rattle.cluster.specs.Check.{RightTable};
 ghost use Rattle.master.specs.Admit.{bufferSize};
-ghost use Rattle.master.specs.Fits.{frameThere, isOneOf, entryOpens, countFits};
+ghost use Rattle.master.specs.Fits.{frameThere, entryOpens, countFits};
+ghost use Rattle.cluster.specs.Lists.{isOneOf};
 ghost use Rattle.master.specs.declared.state.Opened.the-variants.{Frame, Request};
 ghost use Rattle.master.specs.Transfers.{formatOf, isOpen, openLength, openIdentifier, openModel, sends as sendsOf, openProtected};
 ghost use Rattle.master.specs.Transfers.{openChecksum, frameData, requestData, copied, opening};
@@ -372,7 +373,7 @@ fn opens_frame(t: &[u16], e: u16, f: u16) -> bool
         return target == f;
     }
     if kind == 1 {
-        return list_has(t, target, f);
+        return members::has(t, target, f);
     }
     false
 }
@@ -383,31 +384,6 @@ fn opens_request(t: &[u16], message: Message, e: u16) -> bool
 {
     if entries::kind(t, e) == 2 {
         return message.is_sending();
-    }
-    false
-}
-
-// Whether a frame is a member of a list.
-fn list_has(t: &[u16], l: u16, f: u16) -> bool
-    ensures { λ r. ⌜ r ≡ isOneOf f (membersOf (now (t .entry)) l) ⌝ }
-{
-    let n = members::count(t);
-    let mut m: u16 = 0;
-    while m < n {
-        if is_member(t, l, m, f) {
-            return true;
-        }
-        m += 1;
-    }
-    false
-}
-
-// Whether a member is of a list and is a frame.
-fn is_member(t: &[u16], l: u16, m: u16, f: u16) -> bool
-    ensures { λ r. ⌜ r ≡ (eqb (memberList (now (t .entry)) m) l && eqb (memberFrame (now (t .entry)) m) f) ⌝ }
-{
-    if members::list(t, m) == l {
-        return members::frame(t, m) == f;
     }
     false
 }

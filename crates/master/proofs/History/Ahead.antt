@@ -11,7 +11,8 @@ use Rattle.cluster.specs.Table.{memberCount, memberList}
 use Rattle.transport.proofs.Tests.{whether}
 use Rattle.master.specs.declared.ahead.AheadAnswer.the-variants as answer
 use Rattle.master.specs.Admit.{bufferSize}
-use Rattle.master.specs.Ahead.{memberOf, framesAhead, pendingCount, aheadVerdict, aheadOf}
+use Rattle.master.specs.Ahead.{pendingCount, aheadVerdict, aheadOf}
+use Rattle.cluster.specs.Lists.{memberOf, framesAhead}
 use Rattle.master.specs.Seq.{Seq}
 use Rattle.master.specs.Schedule.{Scheduled}
 use Rattle.master.specs.Run.{Held}

@@ -15,7 +15,7 @@ use Rattle.cluster.specs.Table.{entrySchedule, entryKind, entryTarget, entryDel
 use Rattle.cluster.specs.Lists.{firstFrom, membersFrom, members, firstEntry, nextEntry}
 use Rattle.cluster.specs.Columns.{headerColumns, frameColumns, offsetRight, widthRight, startLimit, signalColumns, follows, memberColumns, targetRight, entryColumns}
 use Rattle.cluster.specs.Places.{signalPlace, occupies}
-use Rattle.cluster.specs.Right.{anyBelow, headerRight, frameRight, takenBefore, overlaps, signalRight, memberRight, entryRight, records, wordsRight}
+use Rattle.cluster.specs.Right.{anyBelow, headerRight, frameRight, occupiedBefore, overlaps, signalRight, memberRight, entryRight, records, wordsRight}
 use Rattle.cluster.specs.Check.{faults, surplus, judged}
 use Rattle.cluster.specs.Fresh.{putStart, filled, freshBytes}
 use Rattle.cluster.specs.Values.{touches, signalPublished, valueFits, withScalar}
@@ -27,7 +27,8 @@ use Rattle.master.specs.declared.byte.ByteAnswer.the-variants.{More, Suc
 use Rattle.master.specs.Admit.{bufferSize, admitted}
 use Rattle.master.specs.Start.{freshVerdict, freshOf}
 use Rattle.master.specs.Fresh.{fresh}
-use Rattle.master.specs.Fits.{entryThere, scheduleThere, frameThere, currentDelay, waitFits, bitFits, pendingFits, isOneOf, entryOpens, canOpen, countFits, messageFits, stateFits, lentFits}
+use Rattle.master.specs.Fits.{entryThere, scheduleThere, frameThere, currentDelay, waitFits, bitFits, pendingFits, entryOpens, canOpen, countFits, messageFits, stateFits, lentFits}
+use Rattle.cluster.specs.Lists.{isOneOf}
 use Rattle.master.specs.Transfers.{formatOf, isOpen, openProtected, openChecksum, frameData, sentData, copied, opening}
 use Rattle.master.specs.Plan.{asking, waits, entryDue, begun}
 use Rattle.master.specs.Select.{selectVerdict, selectOf}
@@ -83,7 +84,7 @@ sending =
 
 accepted : freshOf table buffer .given .answer ≡ Fresh
 unfolding freshOf freshVerdict bufferSize judged faults surplus wordsRight records headerRight frameRight anyBelow
-    signalRight offsetRight widthRight startLimit takenBefore overlaps memberRight entryRight targetRight word frameCount
+    signalRight offsetRight widthRight startLimit occupiedBefore overlaps memberRight entryRight targetRight word frameCount
     signalCount memberCount entryCount size identifier frameLength flags published signalFrame signalKind signalOffset
     signalWidth signalStart isArray memberList memberFrame entrySchedule entryKind entryTarget entryDelay counted listCount
     inside bit entryColumns follows frameColumns headerColumns memberColumns occupies signalColumns signalPlace
@@ -92,7 +93,7 @@ accepted = refl
 record-is : recordOf table buffer calls ≡ writing ⋈ sending
 unfolding scheduled schedule slotBegun slotAfter planAfter planBy planWith slotDue slotOf historyOf heldAfter leftBy answerOf
     freshOf freshVerdict fresh bufferSize admitted judged faults surplus wordsRight records headerRight frameRight anyBelow
-    signalRight offsetRight widthRight startLimit takenBefore overlaps memberRight entryRight targetRight word frameCount
+    signalRight offsetRight widthRight startLimit occupiedBefore overlaps memberRight entryRight targetRight word frameCount
     signalCount memberCount entryCount size identifier frameLength flags published classic signalFrame signalKind
     signalOffset signalWidth signalStart isArray memberList memberFrame entrySchedule entryKind entryTarget entryDelay
     counted listCount scheduleCount firstFrom membersFrom members firstEntry nextEntry signalPlace putStart filled freshBytes

@@ -24,7 +24,7 @@ use Rattle.master.specs.declared.ahead.AheadAnswer.{AheadAnswer}
 use Rattle.master.specs.declared.ahead.AheadAnswer.the-variants as counts
 use Rattle.master.specs.Start.{freshOf}
 use Rattle.master.specs.Plan.{waits, entryDue}
-use Rattle.master.specs.Ahead.{memberOf, framesAhead}
+use Rattle.cluster.specs.Lists.{memberOf, framesAhead}
 use Rattle.master.specs.Seq.{Seq}
 use Rattle.master.specs.Calls as call
 use Rattle.master.specs.Calls.{Call, Answer}

@@ -33,20 +33,24 @@ returns-4 c =
 returns-5 : tie.Need-returns-5
 unfolding entryColumns leading
 returns-5 c =
-    let up = not-false (c .before .before .before .before .before .before .before .before .before .args .up) (c .before .before .before .before .before .before .before .before .if1 .left) in
-    let kind = le-leb _ _ (c .before .before .before .before .before .before .if2 .left) in
-    let target = sym (c .before .before .before .before .before .target-right .ensures) ∙ not-false (c .before .before .before .before .before .target-right .result) (c .before .before .before .before .if3 .left) in
-    let delay = le-leb _ _ (c .before .before .if4 .left) in
-    simp (up, kind, target, delay, le-leb _ _ (c .if5 .taken))
+    let d3 = c .before .before .before .before in
+    let d2 = d3 .before .before in
+    let d1 = d2 .before .before in
+    let up = not-false (d1 .before .args .up) (d1 .if1 .left) in
+    let kind = le-leb _ _ (d2 .if2 .left) in
+    let target = sym (d3 .before .target-right .ensures) ∙ not-false (d3 .before .target-right .result) (d3 .if3 .left) in
+    simp (up, kind, target, le-leb _ _ (c .before .before .if4 .left), le-leb _ _ (c .if5 .taken))
 
 returns-6 : tie.Need-returns-6
 unfolding entryColumns leading
 returns-6 c =
-    let up = not-false (c .before .before .before .before .before .before .before .before .before .args .up) (c .before .before .before .before .before .before .before .before .if1 .left) in
-    let kind = le-leb _ _ (c .before .before .before .before .before .before .if2 .left) in
-    let target = sym (c .before .before .before .before .before .target-right .ensures) ∙ not-false (c .before .before .before .before .before .target-right .result) (c .before .before .before .before .if3 .left) in
-    let delay = le-leb _ _ (c .before .before .if4 .left) in
-    simp (up, kind, target, delay, lt-leb _ _ (c .if5 .left))
+    let d3 = c .before .before .before .before in
+    let d2 = d3 .before .before in
+    let d1 = d2 .before .before in
+    let up = not-false (d1 .before .args .up) (d1 .if1 .left) in
+    let kind = le-leb _ _ (d2 .if2 .left) in
+    let target = sym (d3 .before .target-right .ensures) ∙ not-false (d3 .before .target-right .result) (d3 .if3 .left) in
+    simp (up, kind, target, le-leb _ _ (c .before .before .if4 .left), lt-leb _ _ (c .if5 .left))
 
 pub right-words-spec : {M : Type 1} → statement M
 right-words-spec =

@@ -14,7 +14,9 @@ unfolding targetRight
 returns-2 c = rw (c .if2 .taken)
 
 returns-3 : tie.Need-returns-3
-returns-3 c = sym (other-kind (c .before .before .args .frames) (c .before .before .args .lists) (c .before .before .args .kind) (c .before .before .args .target) (c .before .if1 .left) (c .if2 .left))
+returns-3 c =
+    let a = c .before .before .args in
+    sym (other-kind (a .frames) (a .lists) (a .kind) (a .target) (c .before .if1 .left) (c .if2 .left))
 
 pub target-right-spec : {M : Type 1} → statement M
 target-right-spec = tie.close (tie.spec returns returns-2 returns-3)

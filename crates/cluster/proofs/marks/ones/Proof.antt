@@ -1,6 +1,6 @@
 -- `cluster::marks::ones` meets its contract: 64 ones shifted right.
 use native.Mathlib.Omega.{arith}
-use Rattle.cluster.proofs.Taken.{ones-shifted}
+use Rattle.cluster.proofs.FieldMask.{ones-shifted}
 use borrow.Author.Needs.{needs}
 use Rattle.cluster.proofs.marks.ones.Statement.{statement}
 use Rattle.cluster.proofs.marks.ones.Tie as tie

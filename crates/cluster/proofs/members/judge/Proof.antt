@@ -1,23 +1,23 @@
 -- `cluster::members::judge` meets its contract. The invariant: the members before are passed, their frames marked and their lists
 -- counted.
 use borrow.Author.Needs.{needs}
-use Prim.Native.Nat.{ℕ, _+_, _-_, _<_}
+use Prim.Native.Nat.{ℕ, _+_, _-_, _*_, _<_}
 use mathlib.Core.Path.{_≡_, _∙_}
 use mathlib.Core.Bool.{Bool}
 use mathlib.Core.List.{List}
 use native.Mathlib.Omega.{arith}
 use Rattle.cluster.specs.Columns.{memberColumns}
 use Rattle.cluster.specs.Read.{due, leading}
-use Rattle.cluster.specs.Table.{memberCount, memberAt}
-use Rattle.cluster.proofs.MemberTurn.{Passed, none-passed, all-passed, memberRead, stops, frame-below, passes}
+use Rattle.cluster.specs.Table.{memberCount, memberWords, memberAt}
+use Rattle.cluster.proofs.MemberTurn.{Passed, Turn, none-passed, all-passed, memberRead, stops, frame-below, passes}
 use Rattle.cluster.proofs.members.judge.Statement.{statement}
 use Rattle.cluster.proofs.members.judge.Tie as tie
 
 abbrev Inv-loop : tie.InvT-loop
-Inv-loop t listed₀ n lists₀ m₀ listed lists m = Passed t m lists listed
+Inv-loop t listed₀ first n lists₀ m₀ listed lists m = Passed t m lists listed
 
 abbrev μ-loop : tie.MeasureT-loop
-μ-loop t listed₀ n lists₀ m₀ listed lists m = memberCount t - m
+μ-loop t listed₀ first n lists₀ m₀ listed lists m = memberCount t - m
 
 -- the table, the member, the lists counted and the marks where the record's words are judged
 
@@ -28,45 +28,50 @@ abbrev table : Judged → List ℕ
 table c = c .before .before .before .before .before .before .before .before .before .before .before .before .before .args .t .now
 
 abbrev member : Judged → ℕ
-member c = c .before .before .before .before .before .before .before .before .before .before .loop .m
+member c = c .before .before .before .before .before .before .before .before .before .loop .m
 
-abbrev counted : Judged → ℕ
-counted c = c .before .before .before .before .before .before .before .before .before .before .loop .lists
+abbrev lists : Judged → ℕ
+lists c = c .before .before .before .before .before .before .before .before .before .loop .lists
 
 abbrev marks : Judged → List Bool
-marks c = c .before .before .before .before .before .before .before .before .before .before .loop .listed
+marks c = c .before .before .before .before .before .before .before .before .before .loop .listed
 
-passed : (c : Judged) → Passed (table c) (member c) (counted c) (marks c)
-passed c = c .before .before .before .before .before .before .before .before .before .before .loop .inv
+passed : (c : Judged) → Passed (table c) (member c) (lists c) (marks c)
+passed c = c .before .before .before .before .before .before .before .before .before .loop .inv
+
+here : (c : Judged) → c .before .before .before .before .before .before .before .before .before .before .before .member-at .result + memberWords * member c
+    ≡ memberAt (table c) (member c)
+here c = omega (arith, c .before .before .before .before .before .before .before .before .before .before .before .member-at .ensures)
 
 list-is : (c : Judged) → c .before .before .before .before .before .before .before .due .result ≡ due (table c) (memberAt (table c) (member c))
-list-is c = rw (c .before .before .before .before .before .before .before .before .member-at .ensures .0) at (c .before .before .before .before .before .before .before .due .ensures .0)
+list-is c = rw (here c) at (c .before .before .before .before .before .before .before .due .ensures .0)
 
 frame-is : (c : Judged) → c .before .before .before .before .before .before .due2 .result ≡ due (table c) (memberAt (table c) (member c) + 1)
-frame-is c = rw (c .before .before .before .before .before .before .before .before .member-at .ensures .0) at (c .before .before .before .before .before .before .due2 .ensures .0)
+frame-is c = rw (here c) at (c .before .before .before .before .before .before .due2 .ensures .0)
 
-below : (c : Judged) → member c < memberCount (table c)
-below c = omega (arith, c .before .before .before .before .before .before .before .before .before .loop-test .taken, c .before .before .before .before .before .before .before .before .before .before .before .count .ensures)
+turn : (c : Judged) → Turn (table c) (member c) (lists c) (marks c)
+turn c =
+    let known = c .before .before .before .before .before .before .before .before .before .before .before .before .before .pre in
+    (passed c, omega (arith, c .before .before .before .before .before .before .before .before .loop-test .taken, c .before .before .before .before .before .before .before .before .before .before .count .ensures), known .0, known .2)
 
-seen : (c : Judged) → c .right-words .result ≡ leading (memberRead (table c) (member c) (counted c) (marks c))
-seen c = cc
+seen : (c : Judged) → c .right-words .result ≡ leading (memberRead (table c) (member c) (lists c) (marks c))
+seen c = cc (here c)
 
 loop-holds : tie.Need-loop-holds Inv-loop μ-loop
-loop-holds c = none-passed (c .before .before .args .t .now)
+loop-holds c = none-passed (c .before .before .before .args .t .now)
 
 returns : tie.Need-returns Inv-loop μ-loop
 unfolding memberColumns
 returns c =
     let d : Judged = c .before .before in
     let right = seen d in
-    c .fault .ensures
-    ∙ stops (table d) (member d) (counted d) (marks d) (passed d) (below d) (d .before .before .before .before .before .before .before .before .before .before .before .before .before .pre .0) (d .before .before .before .before .before .before .before .before .before .before .before .before .before .pre .2) (omega arith) _ (omega arith)
+    c .fault .ensures ∙ stops (table d) (member d) (lists d) (marks d) (turn d) (omega arith) _ (omega (arith, here d))
 
 array-write-listed : tie.Need-array-write-listed Inv-loop μ-loop
 array-write-listed c =
     let d : Judged = c .before in
     let right = seen d in
-    let below = frame-below (table d) (member d) (counted d) (marks d) (passed d) (below d) (d .before .before .before .before .before .before .before .before .before .before .before .before .before .pre .0) (d .before .before .before .before .before .before .before .before .before .before .before .before .before .pre .2) (omega arith) in
+    let below = frame-below (table d) (member d) (lists d) (marks d) (turn d) (omega arith) in
     omega (arith, frame-is d, passed d .1 .0)
 
 loop-again : tie.Need-loop-again Inv-loop μ-loop
@@ -74,8 +79,7 @@ unfolding memberColumns
 loop-again c =
     let d : Judged = c .before in
     let right = seen d in
-    passes (table d) (member d) (counted d) (marks d) (passed d) (below d) (d .before .before .before .before .before .before .before .before .before .before .before .before .before .pre .0) (d .before .before .before .before .before .before .before .before .before .before .before .before .before .pre .2) (omega arith) _ _
-    (list-is d) (frame-is d)
+    passes (table d) (member d) (lists d) (marks d) (turn d) (omega arith) _ _ (list-is d) (frame-is d)
 
 returns-2 : tie.Need-returns-2 Inv-loop μ-loop
 returns-2 c = all-passed _ _ _ (c .before .loop .listed) (c .before .loop .inv) (omega arith)
@@ -83,7 +87,8 @@ returns-2 c = all-passed _ _ _ (c .before .loop .listed) (c .before .loop .inv) 
 pub judge-spec : {M : Type 1} → statement M
 judge-spec =
     tie.close
-    (tie.spec Inv-loop μ-loop (λ c κs. search needs) (λ c. search needs) loop-holds (λ c κs. search needs) (λ c κs. search needs)
-    (λ c. search needs) (λ c κs. search needs) (λ c κs. search needs) (λ c. search needs) (λ c κs. search needs) (λ c κs. search needs)
-    (λ c. search needs) (λ c κs. search needs) (λ c κs. search needs) (λ c. search needs) (λ c κs. search needs) returns
+    (tie.spec Inv-loop μ-loop (λ c κs. search needs) (λ c κs. search needs) (λ c. search needs) loop-holds (λ c. search needs)
+    (λ c. search needs) (λ c κs. search needs) (λ c. search needs) (λ c κs. search needs) (λ c κs. search needs) (λ c. search needs)
+    (λ c κs. search needs) (λ c κs. search needs) (λ c. search needs) (λ c κs. search needs) (λ c κs. search needs)
+    (λ c. search needs) (λ c κs. search needs) returns
     array-write-listed (λ c. search needs) (λ c. search needs) (λ c. search needs) loop-again returns-2)

@@ -10,21 +10,23 @@ use borrow.Author.Needs.{needs}
 use Rattle.cluster.proofs.table.judge.Statement.{statement}
 use Rattle.cluster.proofs.table.judge.Tie as tie
 
+seen : (c : tie.After-right-words) → c .right-words .result ≡ leading (headerRead (c .before .before .before .before .before .before .args .t .now))
+seen c = cc
+
 returns : tie.Need-returns
 unfolding headerColumns
 returns c =
-    let t = c .before .before .before .before .before .before .before .before .args .t .now in
-    let seen : c .before .before .right-words .result ≡ leading (headerRead t) =
-    rw (c .before .before .before .before .before .before .due .ensures .0, c .before .before .before .before .before .due2 .ensures .0, c .before .before .before .before .due3 .ensures .0, c .before .before .before .due4 .ensures .0) at (c .before .before .right-words .ensures) in
-    c .fault .ensures
-    ∙ sym (halt-words t 0 (headerRead t) (headerRight t) (c .before .before .right-words .result) (header-agrees t) (omega arith) (omega arith))
+    let d = c .before .before in
+    let t = d .before .before .before .before .before .before .args .t .now in
+    let right = seen d in
+    c .fault .ensures ∙ sym (halt-words t 0 (headerRead t) (headerRight t) (d .right-words .result) (header-agrees t) (omega arith) (omega arith))
 
 returns-2 : tie.Need-returns-2
 unfolding headerColumns
 returns-2 c =
-    let t = c .before .before .before .before .before .before .before .args .t .now in
-    let seen : c .before .right-words .result ≡ leading (headerRead t) =
-    rw (c .before .before .before .before .before .due .ensures .0, c .before .before .before .before .due2 .ensures .0, c .before .before .before .due3 .ensures .0, c .before .before .due4 .ensures .0) at (c .before .right-words .ensures) in
+    let d = c .before in
+    let t = d .before .before .before .before .before .before .args .t .now in
+    let right = seen d in
     sym (pass-words t 0 (headerRead t) (headerRight t) (header-agrees t) (omega arith))
 
 pub judge-spec : {M : Type 1} → statement M

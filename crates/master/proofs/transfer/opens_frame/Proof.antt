@@ -17,7 +17,7 @@ returns-2 c = rw (
   ne-eqb _ _
       (c .before .before .if1 .left),
   eq-eqb _ _ (c .before .if2 .taken),
-  c .list-has .ensures,
+  c .has .ensures,
 )
 
 returns-3 : tie.Need-returns-3

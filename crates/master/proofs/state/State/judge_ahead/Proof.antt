@@ -23,7 +23,7 @@ returns-2 c =
       enum-told .given .1,
       ← c .before .before .before .count .ensures,
       ←
-          c .before .before .member-of .ensures,
+          c .before .before .of-frame .ensures,
       le-ltb _ _ (c .before .if1 .taken),
       c .refused .ensures,
     )
@@ -33,7 +33,7 @@ unfolding aheadVerdict
 returns-3 c =
     let buffer-size = c .before .before .before .before .before .before .buffer-size in
     let admit = c .before .before .before .before .before .admit in
-    rw (← buffer-size .ensures, ← admit .ensures, c .before .before .before .enum-told .given .1, ← c .before .before .count .ensures, ← c .before .member-of .ensures, lt-ltb _ _ (c .if1 .left))
+    rw (← buffer-size .ensures, ← admit .ensures, c .before .before .before .enum-told .given .1, ← c .before .before .count .ensures, ← c .before .of-frame .ensures, lt-ltb _ _ (c .if1 .left))
 
 pub judge-ahead-spec : {M : Type 1} → statement M
 judge-ahead-spec =

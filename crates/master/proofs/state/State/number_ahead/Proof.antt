@@ -3,7 +3,8 @@ use borrow.Author.Needs.{needs}
 use mathlib.Core.Path.{_∙_, sym}
 use native.Mathlib.Omega.{arith}
 use Rattle.master.proofs.Verdicts.{ahead-member, ahead-table}
-use Rattle.master.specs.Ahead.{aheadOf, framesAhead}
+use Rattle.master.specs.Ahead.{aheadOf}
+use Rattle.cluster.specs.Lists.{framesAhead}
 use Rattle.master.proofs.state.State.number_ahead.Statement.{statement}
 use Rattle.master.proofs.state.State.number_ahead.Tie as tie
 
@@ -16,14 +17,14 @@ count-pending-requires c κs =
     let a = c .before .before .before .before .before .before .before .args in
     let judge-ahead = c .before .before .before .before .before .judge-ahead in
     let e = sym (judge-ahead .ensures) ∙ c .before .before .before .enum-told .given .1 in
-    (ahead-table (a .t .now) (a .self) (a .f) e, omega (arith, c .before .member-of .ensures, ahead-member (a .t .now) (a .self) (a .f) e))
+    (ahead-table (a .t .now) (a .self) (a .f) e, omega (arith, c .before .of-frame .ensures, ahead-member (a .t .now) (a .self) (a .f) e))
 
 returns-2 : tie.Need-returns-2
 unfolding aheadOf framesAhead
 returns-2 c =
     let judge-ahead = c .before .before .before .before .before .before .judge-ahead in
     let enum-told = c .before .before .before .before .enum-told in
-    rw (← judge-ahead .ensures, enum-told .given .1, c .count-pending .ensures, c .before .list .ensures, c .before .before .member-of .ensures)
+    rw (← judge-ahead .ensures, enum-told .given .1, c .count-pending .ensures, c .before .list .ensures, c .before .before .of-frame .ensures)
 
 pub number-ahead-spec : {M : Type 1} → statement M
 number-ahead-spec =

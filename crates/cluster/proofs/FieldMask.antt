@@ -1,4 +1,4 @@
--- Bits that are taken, held as one number.
+-- Occupied bits held as one number: a field is free where its mask meets none of them, and is added to them.
 use Prim.Native.Nat.{ℕ, zero, suc, _+_, _-_, _*_, _/_, _%_, _^_, _≤_, _<_}
 use mathlib.Core.Path.{_≡_, refl, sym, _∙_, ap}
 use mathlib.Core.Bool.{Bool, true, false, not, _&&_, _||_, and-false}
@@ -83,42 +83,42 @@ number-inside o w r =
 
 -- ---- what the code does
 
--- no bit of the field is taken
-pub field-free : (taken o w : ℕ) → eqb (bitAnd (taken / 2 ^ o) (2 ^ w - 1)) 0 ≡ not (hits taken o w)
+-- no bit of the field is bits
+pub field-free : (bits o w : ℕ) → eqb (bitAnd (bits / 2 ^ o) (2 ^ w - 1)) 0 ≡ not (hits bits o w)
 unfolding hits
-field-free taken o w =
-    rw (and-mask (taken / 2 ^ o) w, ← (number-mod w (taken / 2 ^ o)), none-set w (bit (taken / 2 ^ o)))
-    (ap not (any-ext w (bit (taken / 2 ^ o)) (λ k. bit taken (o + k)) (λ k h. bit-shift taken o k)))
+field-free bits o w =
+    rw (and-mask (bits / 2 ^ o) w, ← (number-mod w (bits / 2 ^ o)), none-set w (bit (bits / 2 ^ o)))
+    (ap not (any-ext w (bit (bits / 2 ^ o)) (λ k. bit bits (o + k)) (λ k h. bit-shift bits o k)))
 
-module _ (taken o w : ℕ) (small : taken < 2 ^ 64) (fits : o + w ≤ 64) (free : hits taken o w ≡ false) where
-  -- the field's bits are not taken
-  apart : (j : ℕ) → (bit taken j && inside o w j) ≡ false
+module _ (bits o w : ℕ) (small : bits < 2 ^ 64) (fits : o + w ≤ 64) (free : hits bits o w ≡ false) where
+  -- the field's bits are not bits
+  apart : (j : ℕ) → (bit bits j && inside o w j) ≡ false
   unfolding hits
   apart j =
       order j o
-      (λ h. rw (inside-low o w j h) (and-false (bit taken j)))
+      (λ h. rw (inside-low o w j h) (and-false (bit bits j)))
       (λ h. order j (o + w)
       (λ k. let e : o + (j - o) ≡ j = omega arith in
-      let f : bit taken j ≡ false = rw e at (none-below w (λ k. bit taken (o + k)) free (j - o) (omega arith)) in
+      let f : bit bits j ≡ false = rw e at (none-below w (λ k. bit bits (o + k)) free (j - o) (omega arith)) in
       rw f)
-      (λ k. rw (inside-high o w j k) (and-false (bit taken j))))
+      (λ k. rw (inside-high o w j k) (and-false (bit bits j))))
 
-  sum-is : taken + (2 ^ w - 1) * 2 ^ o ≡ number 64 (λ j. bit taken j || inside o w j)
+  sum-is : bits + (2 ^ w - 1) * 2 ^ o ≡ number 64 (λ j. bit bits j || inside o w j)
   sum-is =
       let e : o + (w + (64 - (o + w))) ≡ 64 = omega arith in
       let field : number 64 (inside o w) ≡ (2 ^ w - 1) * 2 ^ o = rw e at (number-inside o w (64 - (o + w))) in
-      omega (arith, field, number-bits 64 taken small, number-add 64 (bit taken) (inside o w) (λ k h. apart k))
+      omega (arith, field, number-bits 64 bits small, number-add 64 (bit bits) (inside o w) (λ k h. apart k))
 
-  pub field-put : (taken + ((2 ^ w - 1) * 2 ^ o) % 2 ^ 64 < 2 ^ 64)
-      × ((j : ℕ) → bit (taken + ((2 ^ w - 1) * 2 ^ o) % 2 ^ 64) j ≡ (bit taken j || inside o w j))
+  pub field-put : (bits + ((2 ^ w - 1) * 2 ^ o) % 2 ^ 64 < 2 ^ 64)
+      × ((j : ℕ) → bit (bits + ((2 ^ w - 1) * 2 ^ o) % 2 ^ 64) j ≡ (bit bits j || inside o w j))
   field-put =
       rw (shl-exact w o 64 (ones-lt w) (omega arith), sum-is) (
-        number-below 64 (λ j. bit taken j || inside o w j),
+        number-below 64 (λ j. bit bits j || inside o w j),
         λ j. order j 64
-            (bit-number 64 (λ k. bit taken k || inside o w k) j)
+            (bit-number 64 (λ k. bit bits k || inside o w k) j)
             (λ h. rw (
-              bit-above 64 (number 64 (λ k. bit taken k || inside o w k)) j (number-below 64 (λ k. bit taken k || inside o w k)) h,
-              bit-above 64 taken j small h,
+              bit-above 64 (number 64 (λ k. bit bits k || inside o w k)) j (number-below 64 (λ k. bit bits k || inside o w k)) h,
+              bit-above 64 bits j small h,
               inside-high o w j (omega arith),
             )),
       )

@@ -1,16 +1,15 @@
--- `ahead::member_of` meets its contract.
+-- `cluster::members::of_frame` meets its contract. The invariant: what is searched from the start is what is searched from here on.
 use Prim.Native.Nat.{_-_}
 use borrow.Author.Needs.{needs}
 use borrow.Author.Tests.{eq-eqb, ne-eqb}
 use lib.Dec.{eqb}
 use mathlib.Core.Path.{_∙_, _≡_, refl, sym}
 use native.Mathlib.Nat.{sub-zero}
 use Rattle.cluster.proofs.Searching.{ended, right, wrong}
-use Rattle.cluster.specs.Lists.{firstFrom}
+use Rattle.cluster.specs.Lists.{firstFrom, memberOf}
 use Rattle.cluster.specs.Table.{memberCount, memberFrame}
-use Rattle.master.specs.Ahead.{memberOf}
-use Rattle.master.proofs.ahead.member_of.Statement.{statement}
-use Rattle.master.proofs.ahead.member_of.Tie as tie
+use Rattle.cluster.proofs.members.of_frame.Statement.{statement}
+use Rattle.cluster.proofs.members.of_frame.Tie as tie
 
 abbrev Inv-loop : tie.InvT-loop
 Inv-loop t f n m₀ m = (n ≡ memberCount t) × (memberOf t f ≡ firstFrom (λ k. eqb (memberFrame t k) f) m (n - m))
@@ -33,8 +32,8 @@ loop-again c =
 returns-2 : tie.Need-returns-2 Inv-loop μ-loop
 returns-2 c = sym (c .before .loop .inv .1 ∙ ended _ _ _ (c .loop-test .left))
 
-pub member-of-spec : {M : Type 1} → statement M
-member-of-spec =
+pub of-frame-spec : {M : Type 1} → statement M
+of-frame-spec =
     tie.close
-    (tie.spec Inv-loop μ-loop (λ c κs. search needs) loop-holds (λ c κs. search needs) returns
-    (λ c. search needs) (λ c. search needs) loop-again returns-2)
+    (tie.spec Inv-loop μ-loop (λ c κs. search needs) loop-holds (λ c κs. search needs) returns (λ c. search needs) (λ c. search needs)
+    loop-again returns-2)
