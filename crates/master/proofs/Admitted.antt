@@ -11,7 +11,7 @@ use Rattle.transport.proofs.Tests.{and-left, and-right}
 use Rattle.cluster.specs.declared.Verdict.{Verdict}
 use Rattle.cluster.specs.declared.Verdict.the-variants.{Accepted}
 use Rattle.cluster.specs.Table.{frameCount}
-use Rattle.cluster.specs.Check.{judged, RightTable}
+use Rattle.cluster.specs.Check.{takenOf, TakenTable, RightTable}
 use Rattle.cluster.proofs.Accepted.{then-first, then-second}
 use Rattle.cluster.proofs.FrameLaws.{identifier-below, frame-length-low, frame-length-high}
 use Rattle.master.specs.declared.state.Opened.{Opened}
@@ -20,6 +20,7 @@ use Rattle.master.specs.declared.state.State.{State}
 use Rattle.master.specs.Transfers.{formatOf, isOpen, openLength, openIdentifier}
 use Rattle.master.specs.Fits.{entryThere, scheduleThere, frameThere, waitFits, pendingFits, canOpen, countFits, messageFits, stateFits}
 use Rattle.master.specs.Admit.{unless, bufferSize, admitted}
+use Rattle.cluster.proofs.TakenLaws.{taken-right}
 
 -- a test in front of a verdict that accepts holds, and what is behind it accepts
 pub unless-test : (b : Bool) (n : ℕ) (v : Verdict) → unless b n v ≡ Accepted → b ≡ true
@@ -33,12 +34,15 @@ unless-rest false n v h = cc
 module _ (t : List ℕ) (n : ℕ) (s : State) (h : admitted t n s ≡ Accepted) where
   behind : unless (eqb n (bufferSize t)) buffer (unless (stateFits t s) state Accepted) ≡ Accepted
   unfolding admitted
-  behind = then-second (judged t) _ h
+  behind = then-second (takenOf t) _ h
 
-  -- the table is right
-  pub admitted-table : RightTable t
+  -- the table is taken, and so it is right
+  pub admitted-taken : TakenTable t
   unfolding admitted
-  admitted-table = then-first (judged t) _ h
+  admitted-taken = then-first (takenOf t) _ h
+
+  pub admitted-table : RightTable t
+  admitted-table = taken-right t admitted-taken
 
   -- the buffer has its size
   pub admitted-size : n ≡ bufferSize t
@@ -49,7 +53,7 @@ module _ (t : List ℕ) (n : ℕ) (s : State) (h : admitted t n s ≡ Accepted) 
   admitted-fits = unless-test (stateFits t s) state Accepted (unless-rest (eqb n (bufferSize t)) buffer _ behind)
 
 -- what admits is just these three
-pub admits : (t : List ℕ) (n : ℕ) (s : State) → RightTable t → n ≡ bufferSize t → stateFits t s ≡ true → admitted t n s ≡ Accepted
+pub admits : (t : List ℕ) (n : ℕ) (s : State) → TakenTable t → n ≡ bufferSize t → stateFits t s ≡ true → admitted t n s ≡ Accepted
 unfolding admitted
 admits t n s ok e f = rw (ok, eq-eqb n (bufferSize t) e, f)
 

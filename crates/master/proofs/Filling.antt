@@ -8,7 +8,7 @@ use borrow.Author.Tests.{eqb-true}
 use Rattle.refusal.specs.Numbers.{buffer}
 use Rattle.cluster.specs.declared.Verdict.the-variants.{Accepted}
 use Rattle.cluster.specs.Table.{signalCount}
-use Rattle.cluster.specs.Check.{judged}
+use Rattle.cluster.specs.Check.{takenOf}
 use Rattle.cluster.specs.Fresh.{filled, freshBytes}
 use Rattle.cluster.proofs.Accepted.{then-second}
 use Rattle.master.specs.Admit.{bufferSize}
@@ -17,7 +17,7 @@ use Rattle.master.proofs.Admitted.{unless-test}
 
 pub fresh-size : (t : List ℕ) (n : ℕ) → freshVerdict t n ≡ Accepted → n ≡ bufferSize t
 unfolding freshVerdict
-fresh-size t n h = eqb-true n (bufferSize t) (unless-test (eqb n (bufferSize t)) buffer Accepted (then-second (judged t) _ h))
+fresh-size t n h = eqb-true n (bufferSize t) (unless-test (eqb n (bufferSize t)) buffer Accepted (then-second (takenOf t) _ h))
 
 pub filled-fresh : (t bs : List ℕ) → freshVerdict t (length bs) ≡ Accepted → filled t (length bs) (signalCount t) ≡ freshBytes t
 unfolding freshBytes bufferSize

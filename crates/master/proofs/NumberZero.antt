@@ -9,7 +9,7 @@ use lib.ListN.{length}
 use Rattle.cluster.specs.declared.Verdict.{Verdict}
 use Rattle.cluster.specs.declared.Verdict.the-variants.{Accepted, Refused}
 use Rattle.cluster.specs.Right.{wordsRight}
-use Rattle.cluster.specs.Check.{faults, surplus, judged, then}
+use Rattle.cluster.specs.Check.{takenOf, faults, surplus, judged, then}
 use Rattle.cluster.specs.Table.{size, signalCount, scheduleCount, memberCount, isArray}
 use Rattle.cluster.specs.Values.{signalPublished}
 use Rattle.transport.specs.Cutting.{isLength}
@@ -61,22 +61,22 @@ surplus-numbered : (t : List ℕ) → Numbered (surplus t)
 unfolding surplus
 surplus-numbered t = whether (ltb (size t) (length t)) (λ y. rw y (λ e. absurd (omega arith))) (λ n. rw n accepting)
 
-judged-numbered : (t : List ℕ) → Numbered (judged t)
-unfolding judged
-judged-numbered t = both (faults t 0 (wordsRight t)) (surplus t) (words-numbered t 0 (wordsRight t)) (surplus-numbered t)
+taken-numbered : (t : List ℕ) → Numbered (takenOf t)
+unfolding takenOf judged
+taken-numbered t = both (faults t 0 (wordsRight t)) (surplus t) (words-numbered t 0 (wordsRight t)) (surplus-numbered t)
 
 -- tests 1, 2 and 3
 pub admitted-numbered : (t : List ℕ) (n : ℕ) (s : State) → Numbered (admitted t n s)
 unfolding admitted
 admitted-numbered t n s =
-    both (judged t) _ (judged-numbered t) (tested (eqb n (bufferSize t)) 1 _ (tested (stateFits t s) 2 Accepted accepting))
+    both (takenOf t) _ (taken-numbered t) (tested (eqb n (bufferSize t)) 1 _ (tested (stateFits t s) 2 Accepted accepting))
 
 -- ---- the calls
 
 -- fresh
 pub fresh-numbered : (t : List ℕ) (n : ℕ) → Numbered (freshVerdict t n)
 unfolding freshVerdict
-fresh-numbered t n = both (judged t) _ (judged-numbered t) (tested (eqb n (bufferSize t)) 1 Accepted accepting)
+fresh-numbered t n = both (takenOf t) _ (taken-numbered t) (tested (eqb n (bufferSize t)) 1 Accepted accepting)
 
 -- every other one
 pub step-numbered : (t : List ℕ) (x : Held) (c : Call) → Numbered (verdictOf t x c)

@@ -28,7 +28,7 @@ use Rattle.master.specs.Admit.{admitted, bufferSize, Step}
 use Rattle.master.specs.Transfers.{frameData}
 use Rattle.master.specs.Write.{marked, writable, Value, scalar, array, Put, put, isBytes, fitsSignal, withValue, writeVerdict, writeOf}
 use Rattle.master.specs.Read.{readVerdict, readScalarOf, readArrayOf}
-use Rattle.master.proofs.Admitted.{admitted-table, admitted-size, admitted-fits, admits, fits-clauses, fits-all}
+use Rattle.master.proofs.Admitted.{admitted-taken, admitted-table, admitted-size, admitted-fits, admits, fits-clauses, fits-all}
 use Rattle.master.proofs.FitsKept.{marked-fits}
 use Rattle.master.proofs.Answered.{by-verdict, Writable, writable-signal}
 use Rattle.master.proofs.WriteLaws.{write-accepts, write-state, write-left}
@@ -61,7 +61,7 @@ known t x bs s kind fits a =
       size-right = size;
       signal = w;
       admits-after =
-          admits t (length bs) (marked t s x) ok size
+          admits t (length bs) (marked t s x) (admitted-taken t (length bs) x ad) size
           (fits-all t (marked t s x)
           (marked-fits t x (fits-clauses t x (admitted-fits t (length bs) x ad)) ok s (w .below) (w .is-published)));
     }

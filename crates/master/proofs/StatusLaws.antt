@@ -18,7 +18,7 @@ use Rattle.master.specs.Admit.{admitted, bufferSize}
 use Rattle.master.specs.Status.{withCounted, statusAfter, statusWord, statusOf}
 use Rattle.master.specs.Closing.{failed}
 use Rattle.master.specs.Tick.{abandoned}
-use Rattle.master.proofs.Admitted.{admitted-table, admitted-fits, admits, fits-clauses, fits-all}
+use Rattle.master.proofs.Admitted.{admitted-taken, admitted-fits, admits, fits-clauses, fits-all}
 use Rattle.master.proofs.FitsKept.{status-fits}
 use Rattle.master.proofs.Tests.{or-true, or-false}
 use Rattle.master.proofs.Answered.{by-verdict}
@@ -116,7 +116,7 @@ status-cleared t s =
     (λ r e w k. let z : _≡_ {A = ℕ} 0 1 = cc in absurd (omega arith))
     (λ a w k.
     let after =
-    admits t n (withStatus s noStatus) (admitted-table t n s a) refl
+    admits t n (withStatus s noStatus) (admitted-taken t n s a) refl
     (fits-all t (withStatus s noStatus) (status-fits t s (fits-clauses t s (admitted-fits t n s a)))) in
     record { answers = rw a; cleared = rw a; again = rw (a, after) })
 

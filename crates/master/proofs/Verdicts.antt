@@ -12,7 +12,7 @@ use Rattle.transport.specs.Cutting.{isLength}
 use Rattle.cluster.specs.declared.Verdict.the-variants.{Accepted}
 use Rattle.cluster.specs.Table.{memberCount}
 use Rattle.cluster.specs.Values.{valueFits}
-use Rattle.cluster.specs.Check.{RightTable, then}
+use Rattle.cluster.specs.Check.{TakenTable, RightTable, then}
 use Rattle.cluster.proofs.Accepted.{then-first, then-second}
 use Rattle.cluster.proofs.ValueLaws.{value-limit}
 use Rattle.master.specs.declared.state.State.{State}
@@ -120,7 +120,7 @@ module _ (t : List ℕ) (n : ℕ) (s : State) (h : byteVerdict t n s ≡ Accepte
   byte-count-high = omega (arith, byte-count, byte-length-high)
 
 -- in a state that fits, only a lent message of another length brings a 3 on tick
-pub tick-refusal : (t : List ℕ) (n lent : ℕ) (s : State) → RightTable t → n ≡ bufferSize t → stateFits t s ≡ true
+pub tick-refusal : (t : List ℕ) (n lent : ℕ) (s : State) → TakenTable t → n ≡ bufferSize t → stateFits t s ≡ true
     → tickVerdict t n lent s ≡ unless (lentFits (s .message) lent) number.state Accepted
 unfolding tickVerdict
 tick-refusal t n lent s ok e h = rw (admits t n s ok e h)

@@ -9,7 +9,7 @@ use Rattle.refusal.specs.Numbers.{refused, buffer, state}
 use Rattle.cluster.specs.declared.Verdict.{Verdict}
 use Rattle.cluster.specs.declared.Verdict.the-variants.{Accepted, Refused}
 use Rattle.cluster.specs.Table.{frameCount}
-use Rattle.cluster.specs.Check.{judged, then}
+use Rattle.cluster.specs.Check.{takenOf, then}
 use Rattle.master.specs.declared.state.State.{State}
 use Rattle.master.specs.Fits.{stateFits}
 
@@ -23,7 +23,7 @@ bufferSize t = 8 * frameCount t
 
 -- 1, 2 and 3; a call that is lent no frame bytes asks with the right number of them
 unfoldable pub admitted : List ℕ → ℕ → State → Verdict
-admitted t size s = then (judged t) (unless (eqb size (bufferSize t)) buffer (unless (stateFits t s) state Accepted))
+admitted t size s = then (takenOf t) (unless (eqb size (bufferSize t)) buffer (unless (stateFits t s) state Accepted))
 
 -- what a call answers: a refusal, or the rest
 abbrev pub answered : {A : Type 0} → Verdict → (Refusal → A) → A → A

@@ -2,7 +2,7 @@
 use crate::pending::pending_fits;
 use crate::state::State;
 use cluster::Verdict;
-use cluster::check;
+use cluster::taken;
 use cluster::frames;
 use refusal::Refusal;
 ghost use mathlib.Core.Path.{_≡_};
@@ -16,7 +16,7 @@ impl State {
     pub fn admit(self, t: &[u16], size: usize) -> Verdict
         ensures { λ r. ⌜ r ≡ admitted (now (t .entry)) size self ⌝ }
     {
-        if let Verdict::Refused(refusal) = check(t) {
+        if let Verdict::Refused(refusal) = taken(t) {
             return Verdict::Refused(refusal);
         }
         if size != buffer_size(t) {

@@ -3,7 +3,7 @@ use crate::admit::buffer_size;
 use crate::admit::refused;
 use crate::state::State;
 use cluster::Verdict;
-use cluster::check;
+use cluster::taken;
 use cluster::fresh;
 use refusal::Refusal;
 ghost use mathlib.Core.Path.{_≡_};
@@ -45,7 +45,7 @@ impl State {
 fn judge(t: &[u16], size: usize) -> Verdict
     ensures { λ r. ⌜ r ≡ freshVerdict (now (t .entry)) size ⌝ }
 {
-    if let Verdict::Refused(refusal) = check(t) {
+    if let Verdict::Refused(refusal) = taken(t) {
         return Verdict::Refused(refusal);
     }
     if size != buffer_size(t) {

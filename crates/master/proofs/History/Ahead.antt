@@ -6,7 +6,7 @@ use mathlib.Core.List.{List, [], _∷_, List·Memᴰ·head, Memᴰ·append-right
 use lib.Dec.{ltb}
 use lib.ListN.{getD}
 use borrow.Author.Tests.{ltb-true, lt-ltb}
-use Rattle.cluster.specs.Check.{RightTable}
+use Rattle.cluster.specs.Check.{TakenTable, RightTable}
 use Rattle.cluster.specs.Table.{memberCount, memberList}
 use Rattle.transport.proofs.Tests.{whether}
 use Rattle.master.specs.declared.ahead.AheadAnswer.the-variants as answer
@@ -31,11 +31,11 @@ unfolding pendingCount countIf
 count-pending bits p e [] = refl
 count-pending bits p e (f ∷ fs) = rw (e f, count-pending bits p e fs)
 
-module _ (t : List ℕ) (ok : RightTable t) (h : Seq Scheduled) (x : Held) (is : Agrees t h x) (f : ℕ) where
+module _ (t : List ℕ) (is-taken : TakenTable t) (ok : RightTable t) (h : Seq Scheduled) (x : Held) (is : Agrees t h x) (f : ℕ) where
   counts : memberOf t f < memberCount t → aheadOf t (x .state) f ≡ answer.Count (countIf (pendingAfter t h) (framesAhead t f))
   unfolding aheadOf aheadVerdict
   counts b =
-      rw (admits t (bufferSize t) (x .state) ok refl (is .fits), lt-ltb (memberOf t f) (memberCount t) b)
+      rw (admits t (bufferSize t) (x .state) is-taken refl (is .fits), lt-ltb (memberOf t f) (memberCount t) b)
       (ap answer.Count (count-pending (x .state .pending) (pendingAfter t h) (is .frames .bits-are) (framesAhead t f)))
 
   pub ahead-replies : AheadReply t h f (aheadOf t (x .state) f)
@@ -53,5 +53,5 @@ module _ (t : List ℕ) (ok : RightTable t) (h : Seq Scheduled) (x : Held) (is :
         (λ b.
         let p = ahead-parts t f (ltb-true (memberOf t f) (memberCount t) b) in
         absurd (none (memberList t (memberOf t f)) (rw (p .1) (Memᴰ·append-right (framesAhead t f) (List·Memᴰ·head refl)))))
-        (λ b. rw (admits t (bufferSize t) (x .state) ok refl (is .fits), b));
+        (λ b. rw (admits t (bufferSize t) (x .state) is-taken refl (is .fits), b));
   }

@@ -16,7 +16,7 @@ use Rattle.cluster.specs.Lists.{firstFrom, membersFrom, members, firstEntry, ne
 use Rattle.cluster.specs.Columns.{headerColumns, frameColumns, offsetRight, widthRight, startLimit, signalColumns, follows, memberColumns, targetRight, entryColumns}
 use Rattle.cluster.specs.Places.{signalPlace, occupies}
 use Rattle.cluster.specs.Right.{anyBelow, headerRight, frameRight, occupiedBefore, overlaps, signalRight, memberRight, entryRight, records, wordsRight}
-use Rattle.cluster.specs.Check.{faults, surplus, judged}
+use Rattle.cluster.specs.Check.{takenOf, faults, surplus, judged}
 use Rattle.cluster.specs.Fresh.{putStart, filled, freshBytes}
 use Rattle.cluster.specs.Values.{touches, signalPublished, valueFits, withScalar}
 use Rattle.master.specs.declared.start.FreshAnswer.the-variants.{Fresh}
@@ -83,7 +83,7 @@ sending =
     ▹ event (byteIn 247) (plain Success) none (entry 0)
 
 accepted : freshOf table buffer .given .answer ≡ Fresh
-unfolding freshOf freshVerdict bufferSize judged faults surplus wordsRight records headerRight frameRight anyBelow
+unfolding freshOf freshVerdict bufferSize takenOf judged faults surplus wordsRight records headerRight frameRight anyBelow
     signalRight offsetRight widthRight startLimit occupiedBefore overlaps memberRight entryRight targetRight word frameCount
     signalCount memberCount entryCount size identifier frameLength flags published signalFrame signalKind signalOffset
     signalWidth signalStart isArray memberList memberFrame entrySchedule entryKind entryTarget entryDelay counted listCount
@@ -92,7 +92,7 @@ accepted = refl
 
 record-is : recordOf table buffer calls ≡ writing ⋈ sending
 unfolding scheduled schedule slotBegun slotAfter planAfter planBy planWith slotDue slotOf historyOf heldAfter leftBy answerOf
-    freshOf freshVerdict fresh bufferSize admitted judged faults surplus wordsRight records headerRight frameRight anyBelow
+    freshOf freshVerdict fresh bufferSize admitted takenOf judged faults surplus wordsRight records headerRight frameRight anyBelow
     signalRight offsetRight widthRight startLimit occupiedBefore overlaps memberRight entryRight targetRight word frameCount
     signalCount memberCount entryCount size identifier frameLength flags published classic signalFrame signalKind
     signalOffset signalWidth signalStart isArray memberList memberFrame entrySchedule entryKind entryTarget entryDelay

@@ -43,7 +43,7 @@ use Rattle.master.proofs.History.Counting.{count-is}
 use Rattle.master.proofs.History.Words.{slotWith, slot-due}
 use Rattle.master.proofs.History.Agrees.{Agrees}
 use Rattle.master.proofs.History.Steps.{steps}
-use Rattle.master.proofs.History.Runs.{fresh-table, agrees}
+use Rattle.master.proofs.History.Runs.{table-taken, fresh-table, agrees}
 
 -- ---- a list slot
 
@@ -158,7 +158,6 @@ module _ (t : List ℕ) (ok : RightTable t) (h : Seq Scheduled) (x : Held) (is :
 pub only-answer : (t bs : List ℕ) → freshOf t bs .given .answer ≡ Fresh → (cs : Seq Call) (c : Call) (a : Answer c) → Replies t (recordOf t bs cs) c a
     → a ≡ answerOf t (heldAfter t bs cs) c
 only-answer t bs accepted cs c a r =
-    let ok = fresh-table t bs accepted in
     let is = agrees t bs accepted cs in
-    one-reply t ok (recordOf t bs cs) (heldAfter t bs cs) is c a (answerOf t (heldAfter t bs cs) c) r
-    (steps t ok (recordOf t bs cs) (heldAfter t bs cs) is c .replies)
+    one-reply t (fresh-table t bs accepted) (recordOf t bs cs) (heldAfter t bs cs) is c a (answerOf t (heldAfter t bs cs) c) r
+    (steps t (table-taken t bs accepted) (recordOf t bs cs) (heldAfter t bs cs) is c .replies)

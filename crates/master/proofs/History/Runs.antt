@@ -7,7 +7,7 @@ use native.Mathlib.Omega.{arith}
 use borrow.Author.Tests.{eq-eqb}
 use lib.ListN.{length, take}
 use Rattle.cluster.specs.declared.Verdict.the-variants as verdict
-use Rattle.cluster.specs.Check.{judged, RightTable}
+use Rattle.cluster.specs.Check.{takenOf, TakenTable, RightTable}
 use Rattle.cluster.proofs.Accepted.{then-first}
 use Rattle.master.specs.declared.start.FreshAnswer.the-variants as start
 use Rattle.master.specs.declared.start.Started.{Started}
@@ -29,6 +29,7 @@ use Rattle.master.proofs.History.Agrees.{Agrees, agrees-fresh}
 use Rattle.master.proofs.History.Progress.{Lawful}
 use Rattle.master.proofs.History.Stepped.{Stepped}
 use Rattle.master.proofs.History.Steps.{steps}
+use Rattle.cluster.proofs.TakenLaws.{taken-right}
 
 -- the answer of an event is the one that the history before it gives
 abbrev pub RepliesTo : List ℕ → Seq Scheduled → Event → Type 0
@@ -60,7 +61,7 @@ module _ (t : List ℕ) (h : Seq Scheduled) (x : Held) (is : Agrees t h x) (c : 
   }
 
 -- a fresh call is accepted for every accepted table and every buffer of its size
-pub fresh-taken : (t bs : List ℕ) → RightTable t → length bs ≡ bufferSize t → freshOf t bs .given .answer ≡ start.Fresh
+pub fresh-taken : (t bs : List ℕ) → TakenTable t → length bs ≡ bufferSize t → freshOf t bs .given .answer ≡ start.Fresh
 unfolding freshOf freshVerdict
 fresh-taken t bs ok size = rw (ok, eq-eqb (length bs) (bufferSize t) size)
 
@@ -73,16 +74,19 @@ module _ (t bs : List ℕ) (accepted : freshOf t bs .given .answer ≡ start.Fre
       (λ a k. a)
       accepted
 
-  -- an accepted fresh call has an accepted table
-  pub fresh-table : RightTable t
+  -- an accepted fresh call has a table that is taken
+  pub table-taken : TakenTable t
   unfolding freshVerdict
-  fresh-table = then-first (judged t) _ fresh-accepts
+  table-taken = then-first (takenOf t) _ fresh-accepts
+
+  pub fresh-table : RightTable t
+  fresh-table = taken-right t table-taken
 
   -- after every sequence of calls the state and the bytes are what its history says
   pub agrees : (cs : Seq Call) → Agrees t (recordOf t bs cs) (heldAfter t bs cs)
   unfolding heldAfter historyOf scheduled freshOf
   agrees ∅ = rw fresh-accepts (agrees-fresh t fresh-table)
-  agrees (cs ▹ c) = steps t fresh-table (recordOf t bs cs) (heldAfter t bs cs) (agrees cs) c .agrees
+  agrees (cs ▹ c) = steps t table-taken (recordOf t bs cs) (heldAfter t bs cs) (agrees cs) c .agrees
 
   -- and every event of its history is good
   pub goods : (cs : Seq Call) → Along (Good t) (recordOf t bs cs)
@@ -90,5 +94,5 @@ module _ (t bs : List ℕ) (accepted : freshOf t bs .given .answer ≡ start.Fre
   goods ∅ = tt
   goods (cs ▹ c) = (
     goods cs,
-    good-step t (recordOf t bs cs) (heldAfter t bs cs) (agrees cs) c (steps t fresh-table (recordOf t bs cs) (heldAfter t bs cs) (agrees cs) c),
+    good-step t (recordOf t bs cs) (heldAfter t bs cs) (agrees cs) c (steps t table-taken (recordOf t bs cs) (heldAfter t bs cs) (agrees cs) c),
   )

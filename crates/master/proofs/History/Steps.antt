@@ -8,7 +8,7 @@ use lib.ListN.{length, replicate}
 use Rattle.refusal.specs.declared.Refusal.{Refusal}
 use Rattle.refusal.specs.Numbers as number
 use Rattle.cluster.specs.declared.Verdict.the-variants as verdict
-use Rattle.cluster.specs.Check.{RightTable}
+use Rattle.cluster.specs.Check.{TakenTable, RightTable}
 use Rattle.cluster.specs.Values.{scalarValue, arrayRead}
 use Rattle.transport.proofs.Tests.{whether}
 use Rattle.master.specs.declared.state.State.{State}
@@ -61,21 +61,25 @@ use Rattle.master.proofs.History.Taking.{byte-goes}
 use Rattle.master.proofs.History.Ahead.{ahead-replies}
 use Rattle.master.proofs.History.Stepped.{Stepped}
 use Rattle.master.specs.Write.{Put, isBytes, fitsSignal, writable, marked, writeVerdict, writeOf}
+use Rattle.cluster.proofs.TakenLaws.{taken-right}
 
 -- an accepted call is not refused
 refused-never : {A : Type 0} (q : Refusal) → verdict.Accepted ≡ verdict.Refused q → A
 refused-never q e = let z : _≡_ {A = ℕ} 0 1 = cc in absurd (omega arith)
 
-module _ (t : List ℕ) (ok : RightTable t) (h : Seq Scheduled) (x : Held) (is : Agrees t h x) where
+module _ (t : List ℕ) (is-taken : TakenTable t) (h : Seq Scheduled) (x : Held) (is : Agrees t h x) where
+  ok : RightTable t
+  ok = taken-right t is-taken
+
   abbrev s : State
   s = x .state
 
   -- the call is admitted, with the frame bytes and without them
   lent-admitted : admitted t (length (x .bytes)) s ≡ verdict.Accepted
-  lent-admitted = admits t (length (x .bytes)) s ok (is .frames .size) (is .fits)
+  lent-admitted = admits t (length (x .bytes)) s is-taken (is .frames .size) (is .fits)
 
   own-admitted : admitted t (bufferSize t) s ≡ verdict.Accepted
-  own-admitted = admits t (bufferSize t) s ok refl (is .fits)
+  own-admitted = admits t (bufferSize t) s is-taken refl (is .fits)
 
   -- a call that counts for nothing
   step-nothing : (c : Call) (a : Answer c) → actOf (c ⇒ a) ≡ nothing → Replies t h c a → Stepped t h c a x
@@ -136,7 +140,7 @@ module _ (t : List ℕ) (ok : RightTable t) (h : Seq Scheduled) (x : Held) (is :
 
   step-ahead : (f : ℕ) → Stepped t h (call.numberAhead f) (answerOf t x (call.numberAhead f)) (leftBy t x (call.numberAhead f))
   unfolding answerOf leftBy
-  step-ahead f = step-nothing (call.numberAhead f) _ refl (ahead-replies t ok h x is f)
+  step-ahead f = step-nothing (call.numberAhead f) _ refl (ahead-replies t is-taken ok h x is f)
 
   -- ---- select, status, send
 
@@ -188,7 +192,7 @@ module _ (t : List ℕ) (ok : RightTable t) (h : Seq Scheduled) (x : Held) (is :
       let n = length (x .bytes) in
       let fits = lentFits (s .message) (length m) in
       let same : fits ≡ lentRight (messageAfter t h) (length m) = lent-right (s .message) (length m) ∙ rw (is .message-is) in
-      let inner = tick-refusal t n (length m) s ok (is .frames .size) (is .fits) in
+      let inner = tick-refusal t n (length m) s is-taken (is .frames .size) (is .fits) in
       by-verdict (λ (z : Ticked). Stepped t h (call.tick m) (z .answer) (held (z .state) (x .bytes))) (tickVerdict t n (length m) s) _ _
       (λ q e. step-nothing (call.tick m) (tick.Refused q) refl (record {
         refuses = λ l. let z : verdict.Refused (number.refused number.state) ≡ verdict.Refused q = rw (same ∙ l) at (sym inner ∙ e) in cc;

@@ -7,23 +7,23 @@ use Rattle.master.proofs.state.State.admit.Tie as tie
 
 returns : tie.Need-returns
 unfolding admitted
-returns c = rw (← c .before .before .before .check .ensures, c .before .refusal .given .1)
+returns c = rw (← c .before .before .before .taken .ensures, c .before .refusal .given .1)
 
 returns-2 : tie.Need-returns-2
 unfolding admitted
 returns-2 c =
-    let check = c .before .before .before .before .before .check in
-    rw (← check .ensures, c .before .before .before .enum-told .given .1, ← c .before .before .buffer-size .ensures, ne-eqb _ _ (c .before .if1 .taken), c .refused .ensures)
+    let taken = c .before .before .before .before .before .taken in
+    rw (← taken .ensures, c .before .before .before .enum-told .given .1, ← c .before .before .buffer-size .ensures, ne-eqb _ _ (c .before .if1 .taken), c .refused .ensures)
 
 returns-3 : tie.Need-returns-3
 unfolding admitted
 returns-3 c =
-    let check = c .before .before .before .before .before .before .before .check in
+    let taken = c .before .before .before .before .before .before .before .taken in
     let enum-told = c .before .before .before .before .before .enum-told in
     let buffer-size = c .before .before .before .before .buffer-size in
     let fits2 = c .before .before .fits2 in
     rw (
-      ← check .ensures,
+      ← taken .ensures,
       enum-told .given .1,
       ← buffer-size .ensures,
       eq-eqb _ _ (c .before .before .before .if1 .left),
@@ -36,10 +36,10 @@ returns-3 c =
 returns-4 : tie.Need-returns-4
 unfolding admitted
 returns-4 c =
-    let check = c .before .before .before .before .before .before .check in
+    let taken = c .before .before .before .before .before .before .taken in
     let enum-told = c .before .before .before .before .enum-told in
     rw (
-      ← check .ensures,
+      ← taken .ensures,
       enum-told .given .1,
       ← c .before .before .before .buffer-size .ensures,
       eq-eqb _ _
