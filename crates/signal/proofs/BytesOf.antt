@@ -1,6 +1,6 @@
 -- Bytes from bits, and bits of bytes.
 use Prim.Native.Nat.{ℕ, zero, suc, _+_, _*_, _/_, _%_, _<_, _≤_}
-use mathlib.Core.Path.{_≡_, refl, sym, _∙_, ap}
+use mathlib.Core.Path.{_≡_, refl, _∙_, ap}
 use mathlib.Core.Bool.{Bool, false}
 use mathlib.Core.List.{List}
 use native.Mathlib.Omega.{arith}
@@ -70,12 +70,3 @@ pub bytes-are : (bs : List ℕ) → Bytes bs → bytesOf (length bs) (bitAt bs) 
 bytes-are bs h =
     ext-getD 0 (bytesOf (length bs) (bitAt bs)) bs (bytes-length (length bs) (bitAt bs))
     (λ m b. bytes-at (length bs) (bitAt bs) m (omega (arith, bytes-length (length bs) (bitAt bs))) ∙ byte-is bs m h)
-
--- as many bytes with the same bits are the same bytes
-pub same-bits : (xs ys : List ℕ) → Bytes xs → Bytes ys → length xs ≡ length ys
-    → ((j : ℕ) → j < 8 * length xs → bitAt xs j ≡ bitAt ys j) → xs ≡ ys
-same-bits xs ys hx hy e h =
-    sym (bytes-are xs hx)
-    ∙ bytes-ext (length xs) (bitAt xs) (bitAt ys) h
-    ∙ ap (λ (n : ℕ). bytesOf n (bitAt ys)) e
-    ∙ bytes-are ys hy

@@ -1,6 +1,6 @@
 -- The laws of signals that the crates above use, each proved once over every offset and width.
 use Prim.Native.Nat.{ℕ, _+_, _-_, _*_, _/_, _%_, _^_, _<_, _≤_}
-use mathlib.Core.Path.{_≡_, refl, sym, _∙_, ap}
+use mathlib.Core.Path.{_≡_, sym, _∙_, ap}
 use mathlib.Core.Bool.{Bool, cond, _&&_}
 use mathlib.Core.List.{List}
 use mathlib.Core.Logic.{_⊎_, inl, inr, ⊎-elim}
@@ -77,11 +77,6 @@ put-alike bs cs o w f i e same =
 
 -- ---- scalars
 
--- a scalar's put is a put of its value's bits, so that every law above holds of it
-pub put-scalar-is : (bs : List ℕ) (o w v : ℕ) → putScalar bs o w v ≡ putBits bs o (scalarWidth w) (bit v)
-unfolding putScalar
-put-scalar-is bs o w v = refl
-
 -- a scalar fits its width
 pub get-below : (bs : List ℕ) (o w : ℕ) → getScalar bs o w < 2 ^ scalarWidth w
 unfolding getScalar
@@ -109,11 +104,6 @@ get-other bs o w f p n apart =
     (λ k hk. bit-stays bs o w f (p + k) (apart-bit p (scalarWidth n) o w k hk apart))
 
 -- ---- byte arrays
-
--- an array's put is a put of its bytes' bits
-pub put-array-is : (bs : List ℕ) (o : ℕ) (vs : List ℕ) → putArray bs o vs ≡ putBits bs o (8 * length vs) (bitAt vs)
-unfolding putArray
-put-array-is bs o vs = refl
 
 -- what was put is got back
 pub get-put-array : (bs : List ℕ) (o : ℕ) (vs : List ℕ) → Bytes vs → o + 8 * length vs ≤ 8 * length bs

@@ -1,5 +1,7 @@
 -- `cluster::check` meets its contract: the sections are judged one after another, and the first that refuses is the answer.
+use Prim.Native.Nat.{ℕ}
 use mathlib.Core.Path.{_≡_, sym, _∙_}
+use mathlib.Core.List.{List}
 use Rattle.cluster.specs.Check.{headerFaults, frameFaults, surplus, judged}
 use Rattle.cluster.specs.declared.Verdict.the-variants.{Accepted}
 use Rattle.cluster.proofs.Sections.{fromFrames, fromSignals, fromMembers, fromEntries, judged-sections, header-passed, frames-passed}
@@ -7,27 +9,44 @@ use borrow.Author.Needs.{needs}
 use Rattle.cluster.proofs.check.Statement.{statement}
 use Rattle.cluster.proofs.check.Tie as tie
 
+-- the table where each section is passed
+
+abbrev table1 : tie.After-enum-told → List ℕ
+table1 c = c .before .before .before .before .args .t .now
+
+abbrev table2 : tie.After-enum-told2 → List ℕ
+table2 c = table1 (c .before .before .before)
+
+abbrev table3 : tie.After-enum-told3 → List ℕ
+table3 c = table2 (c .before .before .before)
+
+abbrev table4 : tie.After-enum-told4 → List ℕ
+table4 c = table3 (c .before .before .before)
+
+abbrev table5 : tie.After-enum-told5 → List ℕ
+table5 c = table4 (c .before .before .before)
+
 -- what is left to be judged behind each section that accepts
 
-header-right : (c : tie.After-enum-told) → headerFaults (c .before .before .before .before .args .t .now) ≡ Accepted
+header-right : (c : tie.After-enum-told) → headerFaults (table1 c) ≡ Accepted
 header-right c = sym (c .before .before .judge .ensures) ∙ c .enum-told .given .1
 
-frames-left : (c : tie.After-enum-told) → judged (c .before .before .before .before .args .t .now) ≡ fromFrames (c .before .before .before .before .args .t .now)
-frames-left c = judged-sections (c .before .before .before .before .args .t .now) ∙ rw (header-right c)
+frames-left : (c : tie.After-enum-told) → judged (table1 c) ≡ fromFrames (table1 c)
+frames-left c = judged-sections (table1 c) ∙ rw (header-right c)
 
-frames-right : (c : tie.After-enum-told2) → frameFaults (c .before .before .before .before .before .before .before .args .t .now) ≡ Accepted
+frames-right : (c : tie.After-enum-told2) → frameFaults (table2 c) ≡ Accepted
 frames-right c = sym (c .before .before .judge2 .ensures) ∙ c .enum-told2 .given .1
 
-signals-left : (c : tie.After-enum-told2) → judged (c .before .before .before .before .before .before .before .args .t .now) ≡ fromSignals (c .before .before .before .before .before .before .before .args .t .now)
+signals-left : (c : tie.After-enum-told2) → judged (table2 c) ≡ fromSignals (table2 c)
 signals-left c = frames-left (c .before .before .before) ∙ rw (frames-right c)
 
-members-left : (c : tie.After-enum-told3) → judged (c .before .before .before .before .before .before .before .before .before .before .args .t .now) ≡ fromMembers (c .before .before .before .before .before .before .before .before .before .before .args .t .now)
+members-left : (c : tie.After-enum-told3) → judged (table3 c) ≡ fromMembers (table3 c)
 members-left c = signals-left (c .before .before .before) ∙ rw (sym (c .before .before .judge3 .ensures) ∙ c .enum-told3 .given .1)
 
-entries-left : (c : tie.After-enum-told4) → judged (c .before .before .before .before .before .before .before .before .before .before .before .before .before .args .t .now) ≡ fromEntries (c .before .before .before .before .before .before .before .before .before .before .before .before .before .args .t .now)
+entries-left : (c : tie.After-enum-told4) → judged (table4 c) ≡ fromEntries (table4 c)
 entries-left c = members-left (c .before .before .before) ∙ rw (sym (c .before .before .judge4 .ensures) ∙ c .enum-told4 .given .1)
 
-nothing-left : (c : tie.After-enum-told5) → judged (c .before .before .before .before .before .before .before .before .before .before .before .before .before .before .before .before .args .t .now) ≡ surplus (c .before .before .before .before .before .before .before .before .before .before .before .before .before .before .before .before .args .t .now)
+nothing-left : (c : tie.After-enum-told5) → judged (table5 c) ≡ surplus (table5 c)
 nothing-left c = entries-left (c .before .before .before) ∙ rw (sym (c .before .before .judge5 .ensures) ∙ c .enum-told5 .given .1)
 
 -- each section knows what those before it found
@@ -38,7 +57,7 @@ returns c =
     rw (judged-sections (c .before .before .before .before .before .args .t .now), refused)
 
 judge-requires-2 : tie.Need-judge-requires-2
-judge-requires-2 c κs = header-passed (c .before .before .before .before .args .t .now) (header-right c) .0
+judge-requires-2 c κs = header-passed (table1 c) (header-right c) .0
 
 returns-2 : tie.Need-returns-2
 returns-2 c =
@@ -47,9 +66,8 @@ returns-2 c =
 
 judge-requires-3 : tie.Need-judge-requires-3
 judge-requires-3 c κs =
-    let t = c .before .before .before .before .before .before .before .args .t .now in
-    let counts = header-passed t (header-right (c .before .before .before)) in
-    ((counts .0, counts .1), frames-passed t (frames-right c))
+    let counts = header-passed (table2 c) (header-right (c .before .before .before)) in
+    ((counts .0, counts .1), frames-passed (table2 c) (frames-right c))
 
 returns-3 : tie.Need-returns-3
 returns-3 c =
@@ -58,7 +76,7 @@ returns-3 c =
 
 judge-requires-4 : tie.Need-judge-requires-4
 judge-requires-4 c κs =
-    let counts = header-passed (c .before .before .before .before .before .before .before .before .before .before .args .t .now) (header-right (c .before .before .before .before .before .before)) in
+    let counts = header-passed (table3 c) (header-right (c .before .before .before .before .before .before)) in
     (counts .0, counts .1, counts .2)
 
 returns-4 : tie.Need-returns-4
@@ -68,7 +86,7 @@ returns-4 c =
 
 judge-requires-5 : tie.Need-judge-requires-5
 judge-requires-5 c κs =
-    let counts = header-passed (c .before .before .before .before .before .before .before .before .before .before .before .before .before .args .t .now) (header-right (c .before .before .before .before .before .before .before .before .before)) in
+    let counts = header-passed (table4 c) (header-right (c .before .before .before .before .before .before .before .before .before)) in
     ((counts .0, counts .1, counts .2), counts .3)
 
 returns-5 : tie.Need-returns-5

@@ -12,15 +12,11 @@ with-field-requires c κs = (rw (c .window .ensures) (number-below 24 _), search
 
 returns : tie.Need-returns
 returns c =
+    let d = c .before .before .before .before .before .before .before .before .before .before .before .before in
     c .before .before .set-byte3 .ensures
     ∙ rw (c .before .before .before .before .before .before .set-byte2 .ensures, c .before .before .before .before .before .before .before .before .before .before .set-byte .ensures)
-    (put-window _ _ _ _ _ _ _ (λ i. c .before .before .before .before .before .before .before .before .before .before .before .before
-    .before .before .before .slice-known .given i .fits) (omega (
-      arith,
-      c .before .before .before .before .before .before .before .before .before .before .before .before .before .before .before
-          .before .pre,
-    )) (c .before .before .before .before .before .before .before .before .before .before .before .before .before .window
-    .ensures) (c .before .before .before .before .before .before .before .before .before .before .before .before .with-field .ensures))
+    (put-window _ _ _ _ _ _ _ (λ i. d .before .before .before .slice-known .given i .fits) (omega (arith, d .before .before .before .before .pre))
+    (d .before .window .ensures) (d .with-field .ensures))
 
 pub put-at-spec : {M : Type 1} → statement M
 put-at-spec =

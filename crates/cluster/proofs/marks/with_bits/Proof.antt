@@ -1,5 +1,5 @@
 -- `cluster::marks::with_bits` meets its contract: bits that are free are set by adding them.
-use borrow.Author.Needs.{fits-under, needs}
+use borrow.Author.Needs.{needs}
 use Prim.Native.Nat.{ℕ, _+_, _-_, _*_, _%_, _^_, _<_}
 use mathlib.Core.Path.{_≡_}
 use mathlib.Core.Bool.{_||_}
@@ -18,7 +18,7 @@ put c =
     field-put (a .bits) (a .offset) (a .width) (omega arith) (omega arith) (c .before .pre .1)
 
 add-result : tie.Need-add-result
-add-result c = rw (c .ones .ensures) (fits-under _ _ (2 ^ 64) (put c .0) tt)
+add-result c = rw (c .ones .ensures) (omega (arith, put c .0))
 
 returns : tie.Need-returns
 returns c = rw (c .ones .ensures) (put c .1)

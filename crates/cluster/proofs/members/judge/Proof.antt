@@ -1,7 +1,7 @@
 -- `cluster::members::judge` meets its contract. The invariant: the members before are passed, their frames marked and their lists
 -- counted.
 use borrow.Author.Needs.{needs}
-use Prim.Native.Nat.{ℕ, _+_, _-_, _*_, _<_}
+use Prim.Native.Nat.{ℕ, _+_, _-_, _*_}
 use mathlib.Core.Path.{_≡_, _∙_}
 use mathlib.Core.Bool.{Bool}
 use mathlib.Core.List.{List}
@@ -52,7 +52,9 @@ frame-is c = rw (here c) at (c .before .before .before .before .before .before .
 turn : (c : Judged) → Turn (table c) (member c) (lists c) (marks c)
 turn c =
     let known = c .before .before .before .before .before .before .before .before .before .before .before .before .before .pre in
-    (passed c, omega (arith, c .before .before .before .before .before .before .before .before .loop-test .taken, c .before .before .before .before .before .before .before .before .before .before .count .ensures), known .0, known .2)
+    let more = c .before .before .before .before .before .before .before .before .loop-test .taken in
+    let count = c .before .before .before .before .before .before .before .before .before .before .count .ensures in
+    (passed c, omega arith, known .0, known .2)
 
 seen : (c : Judged) → c .right-words .result ≡ leading (memberRead (table c) (member c) (lists c) (marks c))
 seen c = cc (here c)

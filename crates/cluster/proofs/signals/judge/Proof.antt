@@ -37,7 +37,9 @@ passed c = c .before .before .before .before .before .before .before .loop .inv
 turn : (c : Judged) → Turn (table c) (signal c) (marks c)
 turn c =
     let known = c .before .before .before .before .before .before .before .before .before .before .before .pre in
-    (passed c, omega (arith, c .before .before .before .before .before .before .loop-test .taken, c .before .before .before .before .before .before .before .before .count .ensures), known .0 .0, known .1)
+    let more = c .before .before .before .before .before .before .loop-test .taken in
+    let count = c .before .before .before .before .before .before .before .before .count .ensures in
+    (passed c, omega arith, known .0 .0, known .1)
 
 here : (c : Judged) → c .before .before .before .before .before .before .before .before .before .signal-at .result + signalWords * signal c ≡ signalAt (table c) (signal c)
 here c = omega (arith, c .before .before .before .before .before .before .before .before .before .signal-at .ensures)
