@@ -2,8 +2,8 @@
 use crate::pending::pending_fits;
 use crate::state::State;
 use cluster::Verdict;
-use cluster::taken;
 use cluster::frames;
+use cluster::taken;
 use refusal::Refusal;
 ghost use mathlib.Core.Path.{_≡_};
 ghost use Rattle.master.specs.Admit.{bufferSize, admitted};
