@@ -131,7 +131,7 @@ module _ (t : List ℕ) (ok : RightTable t) where
 
   -- it has at least one data byte
   pub open-length-low : (o : Opened) → frameThere t o ≡ true → isOpen o ≡ true → 1 ≤ openLength t o
-  unfolding isOpen formatOf
+  unfolding formatOf
   open-length-low Nothing h p =
       let z : _≡_ {A = ℕ} 0 1 = cc in absurd (omega arith)
   open-length-low (Frame f) h p = frame-length-low t ok f (frame-below f h)

@@ -29,7 +29,7 @@ use Rattle.master.specs.Fresh.{noStatus}
 
 -- the fresh state fits every table
 pub fresh-fits : (t : List ℕ) → stateFits t fresh ≡ true
-unfolding stateFits fresh entryThere scheduleThere frameThere waitFits currentDelay canOpen isOpen countFits messageFits
+unfolding stateFits fresh entryThere scheduleThere frameThere waitFits currentDelay canOpen countFits messageFits
 fresh-fits t = rw (none-pending t 0 60)
 
 module _ (t : List ℕ) (s : State) (fits : Fits t s) where
@@ -91,7 +91,6 @@ module _ (t : List ℕ) (s : State) (fits : Fits t s) where
 
   -- the state after a send of a message with a right length fits
   pub send-fits : (nad n : ℕ) → isLength n ≡ true → Fits t (withMessage s (message.Sending (record { nad = nad; length = n; next = 0 })))
-  unfolding isSending
   send-fits nad n h = record {
     entry-there = fits .entry-there;
     schedule-there = fits .schedule-there;
@@ -105,7 +104,7 @@ module _ (t : List ℕ) (s : State) (fits : Fits t s) where
 
   -- the state after a failed transfer fits
   pub failed-fits : (counts : Bool) → Fits t (failed t s counts)
-  unfolding failed frameThere countFits isOpen
+  unfolding failed frameThere countFits
   failed-fits counts = record {
     entry-there = fits .entry-there;
     schedule-there = fits .schedule-there;
@@ -119,7 +118,7 @@ module _ (t : List ℕ) (s : State) (fits : Fits t s) where
 
   -- the state after a transfer that was received with success fits
   pub received-fits : Fits t (received t s)
-  unfolding received frameThere countFits isOpen
+  unfolding received frameThere countFits
   received-fits = record {
     entry-there = fits .entry-there;
     schedule-there = fits .schedule-there;
@@ -133,7 +132,7 @@ module _ (t : List ℕ) (s : State) (fits : Fits t s) where
 
   -- the state after a transfer that was sent with success fits
   pub all-sent-fits : Fits t (sent t s)
-  unfolding sent frameThere countFits isOpen
+  unfolding sent frameThere countFits
   all-sent-fits = record {
     entry-there = fits .entry-there;
     schedule-there = fits .schedule-there;

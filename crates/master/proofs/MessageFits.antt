@@ -64,7 +64,7 @@ first-frame-fits nad n h = and-true (isLength n) (ltb 0 (messageFrames n)) h (lt
 
 -- nothing open, which every entry can do
 pub nothing-open : (t : List ℕ) (x : Message) (c : Current) → canOpen t x c Nothing ≡ true
-unfolding canOpen isOpen entryOpens
+unfolding canOpen entryOpens
 nothing-open t x current.None = refl
 nothing-open t x (current.Entry e) = refl
 

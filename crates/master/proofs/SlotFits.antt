@@ -27,7 +27,6 @@ use Rattle.master.specs.State.{withPlan}
 
 -- what is not open is nothing
 pub not-open : (o : Opened) → isOpen o ≡ false → o ≡ Nothing
-unfolding isOpen
 not-open Nothing h = refl
 not-open (Frame f) h = cc
 not-open Request h = cc

@@ -58,7 +58,7 @@ pendingFits t f (bit ∷ bits) = bitFits t f bit && pendingFits t (suc f) bits
 -- ---- "an open transfer the current entry cannot open"
 
 -- a message is being sent
-unfoldable pub isSending : Message → Bool
+abbrev pub isSending : Message → Bool
 isSending message.None = false
 isSending (message.Sending x) = true
 isSending message.Completed = false

@@ -17,7 +17,7 @@ use Rattle.master.specs.declared.state.Transfer.{Transfer}
 use Rattle.master.specs.declared.transfer.Format.{Format}
 
 -- a transfer is open
-unfoldable pub isOpen : Opened → Bool
+abbrev pub isOpen : Opened → Bool
 isOpen Nothing = false
 isOpen (Frame f) = true
 isOpen Request = true

@@ -92,19 +92,18 @@ accepted = refl
 
 record-is : recordOf table buffer calls ≡ writing ⋈ sending
 unfolding scheduled schedule slotBegun slotAfter planAfter planBy planWith slotDue slotOf historyOf heldAfter leftBy answerOf
-    freshOf freshVerdict fresh bufferSize admitted takenOf judged faults surplus wordsRight records headerRight frameRight anyBelow
-    signalRight offsetRight widthRight startLimit occupiedBefore overlaps memberRight entryRight targetRight word frameCount
-    signalCount memberCount entryCount size identifier frameLength flags published classic signalFrame signalKind
-    signalOffset signalWidth signalStart isArray memberList memberFrame entrySchedule entryKind entryTarget entryDelay
-    counted listCount scheduleCount firstFrom membersFrom members firstEntry nextEntry signalPlace putStart filled freshBytes
-    touches signalPublished valueFits withScalar bitAt number bytesOf inside replaced putBits putScalar bit p0 p1 xor
-    protectedByte withCarry sum covered modelOf inverted checksumByte stateFits entryThere scheduleThere frameThere
-    currentDelay waitFits bitFits pendingFits isOneOf entryOpens canOpen countFits messageFits lentFits isOpen openProtected
-    openChecksum frameData sentData copied opening asking waits entryDue begun selectVerdict selectOf writable markedFrom
-    touchesOpen rewritten marked writeOf tick.firstPending tick.slotOpens tick.abandoned tick.opensOrSilent tick.slotAt
-    tick.slot tick.tickEffect tick.tickVerdict tick.tickOf status.withCounted status.statusAfter messageSent clearedBit
-    pendingSent sent received passed early sentByte byteEffect byteVerdict byteOf formatOf entryColumns follows frameColumns
-    headerColumns memberColumns occupies signalColumns
+    freshOf freshVerdict fresh bufferSize admitted takenOf judged faults surplus wordsRight records headerRight frameRight
+    anyBelow signalRight offsetRight widthRight startLimit occupiedBefore overlaps memberRight entryRight targetRight word
+    frameCount signalCount memberCount entryCount size identifier frameLength flags published classic signalFrame signalKind
+    signalOffset signalWidth signalStart isArray memberList memberFrame entrySchedule entryKind entryTarget entryDelay counted
+    listCount scheduleCount firstFrom membersFrom members firstEntry nextEntry signalPlace putStart filled freshBytes touches
+    signalPublished valueFits withScalar bitAt number bytesOf inside replaced putBits putScalar bit p0 p1 xor protectedByte
+    withCarry sum covered modelOf inverted checksumByte stateFits entryThere scheduleThere frameThere currentDelay waitFits
+    bitFits pendingFits isOneOf entryOpens canOpen countFits messageFits lentFits openProtected openChecksum frameData sentData
+    copied opening asking waits entryDue begun selectVerdict selectOf writable markedFrom touchesOpen rewritten marked writeOf
+    tick.firstPending tick.slotOpens tick.abandoned tick.opensOrSilent tick.slotAt tick.slot tick.tickEffect tick.tickVerdict
+    tick.tickOf status.withCounted status.statusAfter messageSent clearedBit pendingSent sent received passed early sentByte
+    byteEffect byteVerdict byteOf formatOf entryColumns follows frameColumns headerColumns memberColumns occupies signalColumns
 record-is = refl
 
 -- frame 1 is sent by the second success of its list

@@ -55,7 +55,7 @@ module _ (t : List ℕ) (ok : RightTable t) where
 
   -- what is opened is what its protected identifier names
   pub named : (o : Opened) → frameThere t o ≡ true → isOpen o ≡ true → transferNamed t (openProtected t o) ≡ o
-  unfolding transferNamed openProtected isOpen formatOf
+  unfolding transferNamed openProtected formatOf
   named Nothing h p = never p
   named (Frame f) h p =
       let b = frame-below t ok f h in

@@ -91,7 +91,7 @@ module _ (n : ℕ) (due got : List ℕ) (b : ℕ) (long : length due ≡ suc n) 
 pub sent-exactly : (t : List ℕ) (before : Seq Scheduled) (start : Scheduled) (during : Seq Scheduled) (b : ℕ) (r : Reply) (s k : Slot) (f : ℕ)
     → Good t (before ▹ start ⋈ during) (event (byteIn b) r s k) → opens t start ≡ Frame f → published t f ≡ true → Each (λ x. closes x ≡ false) during
     → (r .answer ≡ byte.Success) ↔ (gotAfter during ++ (b ∷ []) ≡ responseOf t (writtenBytes t before) f)
-unfolding isOpen byteReply formatOf
+unfolding byteReply formatOf
 sent-exactly t before start during b r s k f good o p q =
     let h = before ▹ start ⋈ during in
     let st = opens-starts t start (rw o) in

@@ -76,7 +76,7 @@ module _ (t : List ℕ) (o : Opened) (due got : List ℕ) (b : ℕ) where
       by Response s = never s
 
   reply-received : isOpen o ≡ true → sends t o ≡ false → byteReply t o due got b ≡ receivedReply (openLength t o) (openChecksum t o got) got b (successReply o got)
-  unfolding byteReply isOpen openChecksum checksumOver formatOf
+  unfolding byteReply openChecksum checksumOver formatOf
   reply-received p s = by o p s
     where
       by : (o : Opened) → isOpen o ≡ true → sends t o ≡ false
@@ -296,7 +296,7 @@ module _ (t : List ℕ) (ok : RightTable t) (h : Seq Scheduled) (x : Held) (is :
   goes-accepted : (o′ : Opened) → o ≡ o′ → sends t o ≡ false → early t (s .transfer) ≡ false
       → byteReply t (openAfter t h) (dueAfter t h) (gotAfter h) b ≡ successReply o (gotAfter h)
       → Goes (accepted t s o′ (withByte (s .transfer) b) (x .bytes))
-  unfolding accepted storedBy isOpen withByte formatOf
+  unfolding accepted storedBy withByte formatOf
   goes-accepted Nothing p n z r = never (rw p at open-now)
   goes-accepted (Frame g) p n z r =
       let there : frameThere t (Frame g) ≡ true = rw p at (fits-clauses t s (is .fits) .frame-there) in

@@ -53,11 +53,10 @@ use Rattle.master.specs.State.{withPlan}
 
 -- what an accepted tick answers where its slot opens something or nothing
 answer-silent : (t : List ℕ) (o : Opened) → isOpen o ≡ false → tick.Silent ≡ answerFor t o
-unfolding isOpen
 answer-silent t o n = rw (not-open o n)
 
 answer-opened : (t : List ℕ) (o : Opened) → isOpen o ≡ true → tick.Opened (openProtected t o) ≡ answerFor t o
-unfolding isOpen openProtected formatOf
+unfolding openProtected formatOf
 answer-opened t Nothing p = never p
 answer-opened t (Frame f) p = refl
 answer-opened t Request p = refl

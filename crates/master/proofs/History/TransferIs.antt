@@ -83,7 +83,6 @@ missed t y b c a Response = refl
 
 -- what is open is not nothing
 pub not-nothing : (o : Opened) → isOpen o ≡ true → o ≡ Nothing → ⊥
-unfolding isOpen
 not-nothing o p e = let z : false ≡ true = rw e at p in false≢true z
 
 sends-open : (t : List ℕ) (o : Opened) → sends t o ≡ true → o ≡ Nothing → ⊥

@@ -28,14 +28,13 @@ use Rattle.master.proofs.Tests.{never}
 -- ---- transfers
 
 pub is-transfer : (o : Opened) → isOpen o ≡ isTransfer o
-unfolding isOpen
 is-transfer Nothing = refl
 is-transfer (Frame f) = refl
 is-transfer Request = refl
 is-transfer Response = refl
 
 pub protected-of : (t : List ℕ) (o : Opened) → isOpen o ≡ true → openProtected t o ≡ protectedOf t o
-unfolding isOpen openProtected protectedOf formatOf
+unfolding openProtected protectedOf formatOf
 protected-of t Nothing p = never p
 protected-of t (Frame f) p = refl
 protected-of t Request p = refl
@@ -89,7 +88,6 @@ message-failed Request x = refl
 message-failed Response x = refl
 
 pub being-sent : (x : Message) → isSending x ≡ isBeingSent x
-unfolding isSending
 being-sent message.None = refl
 being-sent (message.Sending x) = refl
 being-sent message.Completed = refl
