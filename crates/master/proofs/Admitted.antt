@@ -118,7 +118,6 @@ fits-all t s f =
 
 module _ (t : List ℕ) (ok : RightTable t) where
   pub frame-below : (f : ℕ) → frameThere t (Frame f) ≡ true → f < frameCount t
-  unfolding frameThere
   frame-below f h = ltb-true f (frameCount t) h
 
   -- its identifier is one of 0..63

@@ -14,7 +14,7 @@ use Rattle.master.specs.declared.state.Message.the-variants as message
 use Rattle.master.specs.declared.state.State.{State}
 use Rattle.master.specs.Fresh.{fresh}
 use Rattle.master.specs.Transfers.{isOpen, openLength}
-use Rattle.master.specs.Fits.{entryThere, scheduleThere, frameThere, currentDelay, waitFits, isSending, canOpen}
+use Rattle.master.specs.Fits.{currentDelay, waitFits, canOpen}
 use Rattle.master.specs.Fits.{countFits, messageFits, stateFits}
 use Rattle.master.specs.Write.{marked, rewritten}
 use Rattle.master.specs.Plan.{asking, waited}
@@ -29,7 +29,7 @@ use Rattle.master.specs.Fresh.{noStatus}
 
 -- the fresh state fits every table
 pub fresh-fits : (t : List ℕ) → stateFits t fresh ≡ true
-unfolding stateFits fresh entryThere scheduleThere frameThere waitFits currentDelay canOpen countFits messageFits
+unfolding stateFits fresh waitFits canOpen countFits messageFits
 fresh-fits t = rw (none-pending t 0 60)
 
 module _ (t : List ℕ) (s : State) (fits : Fits t s) where
@@ -49,7 +49,7 @@ module _ (t : List ℕ) (s : State) (fits : Fits t s) where
 
   -- the state after a select of a schedule that is there fits
   pub asking-fits : (n : ℕ) → n < scheduleCount t → Fits t (withPlan s (asking (s .plan) n))
-  unfolding asking scheduleThere waitFits
+  unfolding waitFits
   asking-fits n h = record {
     entry-there = fits .entry-there;
     schedule-there = lt-ltb n (scheduleCount t) h;
@@ -63,7 +63,7 @@ module _ (t : List ℕ) (s : State) (fits : Fits t s) where
 
   -- the state after a waiting tick fits
   pub waited-fits : Fits t (withPlan s (waited (s .plan)))
-  unfolding waited waitFits
+  unfolding waitFits
   waited-fits = record {
     entry-there = fits .entry-there;
     schedule-there = fits .schedule-there;
@@ -104,7 +104,7 @@ module _ (t : List ℕ) (s : State) (fits : Fits t s) where
 
   -- the state after a failed transfer fits
   pub failed-fits : (counts : Bool) → Fits t (failed t s counts)
-  unfolding failed frameThere countFits
+  unfolding failed countFits
   failed-fits counts = record {
     entry-there = fits .entry-there;
     schedule-there = fits .schedule-there;
@@ -118,7 +118,7 @@ module _ (t : List ℕ) (s : State) (fits : Fits t s) where
 
   -- the state after a transfer that was received with success fits
   pub received-fits : Fits t (received t s)
-  unfolding received frameThere countFits
+  unfolding received countFits
   received-fits = record {
     entry-there = fits .entry-there;
     schedule-there = fits .schedule-there;
@@ -132,7 +132,7 @@ module _ (t : List ℕ) (s : State) (fits : Fits t s) where
 
   -- the state after a transfer that was sent with success fits
   pub all-sent-fits : Fits t (sent t s)
-  unfolding sent frameThere countFits
+  unfolding sent countFits
   all-sent-fits = record {
     entry-there = fits .entry-there;
     schedule-there = fits .schedule-there;
@@ -146,7 +146,7 @@ module _ (t : List ℕ) (s : State) (fits : Fits t s) where
 
   -- the state after a byte that is not the last one fits
   pub passed-fits : (nine : List ℕ) → early t (s .transfer) ≡ true → Fits t (passed s nine)
-  unfolding passed countFits early
+  unfolding passed countFits
   passed-fits nine h = record {
     entry-there = fits .entry-there;
     schedule-there = fits .schedule-there;

@@ -16,7 +16,6 @@ use Rattle.master.specs.declared.state.Opened.the-variants.{Nothing, Fra
 use Rattle.master.specs.declared.state.Sending as state
 use Rattle.master.specs.declared.state.Message.{Message}
 use Rattle.master.specs.declared.state.Message.the-variants as message
-use Rattle.master.specs.Transfers.{isOpen}
 use Rattle.master.specs.Fits.{isSending, entryOpens, canOpen, messageFits}
 use Rattle.master.specs.Message.{sendingAt, moved, messageSent, messageFailed}
 use Rattle.master.proofs.Tests.{and-true}
@@ -25,7 +24,7 @@ use Rattle.master.proofs.Tests.{and-true}
 
 -- the message that a failed transfer leaves fits
 pub message-failed-fits : (o : Opened) (x : Message) → messageFits x ≡ true → messageFits (messageFailed o x) ≡ true
-unfolding messageFailed messageFits
+unfolding messageFits
 message-failed-fits Nothing x h = h
 message-failed-fits (Frame f) x h = h
 message-failed-fits Request x h = refl
@@ -33,7 +32,7 @@ message-failed-fits Response x h = h
 
 at-fits : (x : state.Sending) (next frames : ℕ) → isLength (x .length) ≡ true → frames ≡ messageFrames (x .length)
     → messageFits (sendingAt x next frames) ≡ true
-unfolding sendingAt messageFits
+unfolding messageFits
 at-fits x next frames h e =
     whether (ltb next frames)
     (λ y. rw y (and-true (isLength (x .length)) (ltb next (messageFrames (x .length))) h (rw e at y)))
@@ -49,7 +48,6 @@ moved-fits message.Failed h = h
 
 -- the message that a successful transfer leaves fits
 pub message-sent-fits : (o : Opened) (x : Message) → messageFits x ≡ true → messageFits (messageSent o x) ≡ true
-unfolding messageSent
 message-sent-fits Nothing x h = h
 message-sent-fits (Frame f) x h = h
 message-sent-fits Request x h = moved-fits x h

@@ -40,7 +40,6 @@ cut-frame nad m k y h = rw (y, lt-ltb k (messageFrames (length m)) h)
 -- the data of a request are the frame due of the message that is lent with its length
 pub request-data : (x : state.Sending) (m : List ℕ) → messageFits (Sending x) ≡ true → length m ≡ x .length
     → requestData (Sending x) m ≡ messageFrame (x .nad) m (x .next)
-unfolding requestData
 request-data x m h e = cut-frame (x .nad) m (x .next) (rw (← e) at (sending-length x h)) (rw (← e) at (sending-next x h))
 
 -- a cut is of eight bytes, also where there is no frame
@@ -53,7 +52,6 @@ cut-length nad m k =
 
 -- the data of a request are eight bytes
 pub request-data-length : (x : Message) (m : List ℕ) → length (requestData x m) ≡ 8
-unfolding requestData
 request-data-length None m = refl
 request-data-length (Sending x) m = cut-length (x .nad) m (x .next)
 request-data-length Completed m = refl

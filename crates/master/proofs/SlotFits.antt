@@ -15,7 +15,7 @@ use Rattle.master.specs.declared.state.Opened.{Opened}
 use Rattle.master.specs.declared.state.Opened.the-variants.{Nothing, Frame, Request, Response}
 use Rattle.master.specs.declared.state.State.{State}
 use Rattle.master.specs.Transfers.{isOpen, openLength, opening}
-use Rattle.master.specs.Fits.{entryThere, scheduleThere, currentDelay, waitFits, canOpen, countFits}
+use Rattle.master.specs.Fits.{entryThere, waitFits, canOpen, countFits}
 use Rattle.master.specs.Plan.{waits, entryDue, begun}
 use Rattle.master.specs.Closing.{failed}
 use Rattle.master.specs.Tick.{slotOpens, abandoned, opensOrSilent, slotAt, slot, tickEffect}
@@ -54,7 +54,7 @@ module _ (t : List ℕ) (s : State) where
 module _ (t bs m : List ℕ) (s : State) (fits : Fits t s) where
   -- a state whose entry begins fits, with nothing open
   begun-fits : (e : ℕ) → entryThere t (current.Entry e) ≡ true → s .transfer .opened ≡ Nothing → Fits t (withPlan s (begun t e))
-  unfolding begun scheduleThere waitFits currentDelay countFits
+  unfolding waitFits countFits
   begun-fits e h n = record {
     entry-there = h;
     schedule-there = refl;
@@ -86,7 +86,7 @@ module _ (t bs m : List ℕ) (s : State) (fits : Fits t s) where
 module _ (t : List ℕ) (ok : RightTable t) (bs m : List ℕ) where
   -- the state that a slot leaves with an entry that is there fits
   pub slot-at-fits : (s : State) (c : Current) → Fits t s → s .transfer .opened ≡ Nothing → entryThere t c ≡ true → Fits t (slotAt t bs m s c .state)
-  unfolding slotAt begun entryThere
+  unfolding slotAt
   slot-at-fits s current.None fits n h = fits
   slot-at-fits s (current.Entry e) fits n h =
       opens-fits t bs m (withPlan s (begun t e)) (begun-fits t bs m s fits e h n) e (slotOpens t (s .pending) (s .message) e) refl

@@ -28,7 +28,6 @@ use Rattle.master.specs.Tick.{firstPending, slotOpens}
 
 -- an entry that is there is one of the table's
 pub entry-below : (t : List ℕ) (e : ℕ) → entryThere t (current.Entry e) ≡ true → e < entryCount t
-unfolding entryThere
 entry-below t e h = ltb-true e (entryCount t) h
 
 -- ---- what a slot opens
@@ -69,14 +68,14 @@ pub record Opens (t : List ℕ) (x : Message) (e : ℕ) (o : Opened) : Type 0 wh
 module _ (t : List ℕ) (ok : RightTable t) where
   module _ (bits : List Bool) (x : Message) (e : ℕ) (h : e < entryCount t) where
     frame-opens : eqb (entryKind t e) 0 ≡ true → Opens t x e (Frame (entryTarget t e))
-    unfolding frameThere entryOpens
+    unfolding entryOpens
     frame-opens k = record {
       frame-there = lt-ltb (entryTarget t e) (frameCount t) (frame-target t ok e h (eqb-true (entryKind t e) 0 k));
       can-open = rw k (eq-eqb (entryTarget t e) (entryTarget t e) refl);
     }
 
     list-opens : eqb (entryKind t e) 0 ≡ false → eqb (entryKind t e) 1 ≡ true → Opens t x e (firstPending bits (members t (entryTarget t e)))
-    unfolding frameThere entryOpens
+    unfolding entryOpens
     list-opens k l =
         let fs = members t (entryTarget t e) in
         first-kind bits fs (λ o. Opens t x e o)
@@ -87,14 +86,14 @@ module _ (t : List ℕ) (ok : RightTable t) where
         })
 
     request-opens : eqb (entryKind t e) 2 ≡ true → Opens t x e (cond (isSending x) Request Nothing)
-    unfolding frameThere entryOpens
+    unfolding entryOpens
     request-opens k =
         whether (isSending x)
         (λ y. rw y (record { frame-there = refl; can-open = rw (k, y) }))
         (λ n. rw n (record { frame-there = refl; can-open = refl }))
 
     response-opens : eqb (entryKind t e) 0 ≡ false → eqb (entryKind t e) 1 ≡ false → eqb (entryKind t e) 2 ≡ false → Opens t x e Response
-    unfolding frameThere entryOpens
+    unfolding entryOpens
     response-opens k l m = record {
       frame-there = refl;
       can-open = eq-eqb (entryKind t e) 3 (three (eqb-false (entryKind t e) 0 k) (eqb-false (entryKind t e) 1 l) (eqb-false (entryKind t e) 2 m));
@@ -116,7 +115,6 @@ module _ (t : List ℕ) (ok : RightTable t) where
 
   -- the entry due is there
   pub due-there : (r : Requested) (c : Current) → scheduleThere t r ≡ true → entryThere t c ≡ true → entryThere t (entryDue t r c) ≡ true
-  unfolding entryDue entryThere scheduleThere
   due-there (requested.Schedule n) c h k =
       lt-ltb (firstEntry t n) (entryCount t) (first-entry-below t ok n (ltb-true n (scheduleCount t) h))
   due-there requested.None current.None h k = k

@@ -61,7 +61,7 @@ pub record Stays (x y : Status) : Type 0 where
 
 -- "either stays set until read", and so does overrun
 pub stays-set : (x : Status) (counts success : Bool) (last : ℕ) → Stays x (statusAfter x counts success last)
-unfolding statusAfter withCounted
+unfolding withCounted
 stays-set x true success last = record {
   error-stays = λ h. rw h;
   success-stays = λ h. rw h;
@@ -96,7 +96,7 @@ overrun-second x first second last later = rw (some-bit x first last) (or-true (
 
 -- "Only closed transfers with at least one response byte count": a slot that closes one without any leaves status as it was
 pub uncounted : (t : List ℕ) (s : State) → s .transfer .count ≡ 0 → abandoned t s .status ≡ s .status
-unfolding abandoned failed statusAfter
+unfolding abandoned failed
 uncounted t s h = whether (isOpen (s .transfer .opened)) (λ y. rw (y, h)) (λ n. rw n)
 
 -- ---- reading

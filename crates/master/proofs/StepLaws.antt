@@ -113,7 +113,6 @@ accepted-answers t s opened.Request nine bs r k = let z : _≡_ {A = ℕ} 0 1 = 
 accepted-answers t s opened.Response nine bs r k = let z : _≡_ {A = ℕ} 0 1 = cc in omega arith
 
 told-answers : (m : Message) (r : Refusal) → told m ≡ tells.Refused r → ⊥
-unfolding told
 told-answers None r k = let z : _≡_ {A = ℕ} 0 1 = cc in omega arith
 told-answers (Sending s) r k = let z : _≡_ {A = ℕ} 0 1 = cc in omega arith
 told-answers Completed r k = let z : _≡_ {A = ℕ} 0 1 = cc in omega arith
@@ -184,7 +183,6 @@ accepted-number t s opened.Request nine bs = refl
 accepted-number t s opened.Response nine bs = refl
 
 told-number : (x : Message) → messageRefusal (told x) ≡ 0
-unfolding told
 told-number None = refl
 told-number (Sending x) = refl
 told-number Completed = refl

@@ -40,7 +40,7 @@ passed s nine =
     })
 
 -- the byte is not the last one: fewer than length bytes passed before it
-unfoldable pub early : List ℕ → Transfer → Bool
+abbrev pub early : List ℕ → Transfer → Bool
 early t x = ltb (x .count) (openLength t (x .opened))
 
 -- "Sent frames: the byte must equal the copied one; the first difference closes the transfer as failed, the last equal byte as successful."
@@ -73,7 +73,7 @@ lastByte t s nine bs =
     (record { given = noResponse (failed t s true) answer.Failure; left = bs })
 
 -- the nine bytes with one more
-unfoldable pub withByte : Transfer → ℕ → List ℕ
+abbrev pub withByte : Transfer → ℕ → List ℕ
 withByte x b = set (x .bytes) (x .count) b
 
 -- "Received frames"

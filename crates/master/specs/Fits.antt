@@ -21,15 +21,15 @@ use Rattle.master.specs.Transfers.{isOpen, openLength}
 
 -- ---- "it names a schedule, entry or frame not there"
 
-unfoldable pub entryThere : List ℕ → Current → Bool
+abbrev pub entryThere : List ℕ → Current → Bool
 entryThere t current.None = true
 entryThere t (current.Entry e) = ltb e (entryCount t)
 
-unfoldable pub scheduleThere : List ℕ → Requested → Bool
+abbrev pub scheduleThere : List ℕ → Requested → Bool
 scheduleThere t requested.None = true
 scheduleThere t (requested.Schedule n) = ltb n (scheduleCount t)
 
-unfoldable pub frameThere : List ℕ → Opened → Bool
+abbrev pub frameThere : List ℕ → Opened → Bool
 frameThere t Nothing = true
 frameThere t (Frame f) = ltb f (frameCount t)
 frameThere t Request = true
@@ -37,7 +37,7 @@ frameThere t Response = true
 
 -- ---- "wait above the current delay (0 with no schedule)"
 
-unfoldable pub currentDelay : List ℕ → Current → ℕ
+abbrev pub currentDelay : List ℕ → Current → ℕ
 currentDelay t current.None = 0
 currentDelay t (current.Entry e) = entryDelay t e
 
@@ -102,7 +102,7 @@ stateFits t s =
     && messageFits (s .message)
 
 -- "on tick, a lent message of another length than the one being sent"
-unfoldable pub lentFits : Message → ℕ → Bool
+abbrev pub lentFits : Message → ℕ → Bool
 lentFits message.None n = true
 lentFits (message.Sending x) n = eqb n (x .length)
 lentFits message.Completed n = true

@@ -23,7 +23,7 @@ use Rattle.master.specs.Fits.{isSending}
 use Rattle.master.specs.Admit.{unless, admitted, answered, bufferSize}
 
 -- the message at one of its frames, or completed behind the last of them
-unfoldable pub sendingAt : state.Sending → ℕ → ℕ → Message
+abbrev pub sendingAt : state.Sending → ℕ → ℕ → Message
 sendingAt x next frames = cond (ltb next frames) (Sending (record { nad = x .nad; length = x .length; next = next })) Completed
 
 -- "A successful request transfer moves to the next frame or completes"
@@ -34,14 +34,14 @@ moved Completed = Completed
 moved Failed = Failed
 
 -- what a successful transfer does to the message
-unfoldable pub messageSent : Opened → Message → Message
+abbrev pub messageSent : Opened → Message → Message
 messageSent opened.Nothing x = x
 messageSent (opened.Frame f) x = x
 messageSent opened.Request x = moved x
 messageSent opened.Response x = x
 
 -- "a failed one ends the message as failed"
-unfoldable pub messageFailed : Opened → Message → Message
+abbrev pub messageFailed : Opened → Message → Message
 messageFailed opened.Nothing x = x
 messageFailed (opened.Frame f) x = x
 messageFailed opened.Request x = Failed
@@ -63,7 +63,7 @@ sendOf t s nad n =
     (record { state = withMessage s (Sending (record { nad = nad; length = n; next = 0 })); answer = send.Sending })
 
 -- "A public call tells none, sending, completed or failed."
-unfoldable pub told : Message → MessageAnswer
+abbrev pub told : Message → MessageAnswer
 told None = tells.None
 told (Sending x) = tells.Sending
 told Completed = tells.Completed

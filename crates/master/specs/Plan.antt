@@ -12,23 +12,23 @@ use Rattle.master.specs.declared.state.Requested.{Requested}
 use Rattle.master.specs.declared.state.Requested.the-variants as requested
 
 -- "Select asks for a schedule"; "The last request before that counts"
-unfoldable pub asking : Plan → ℕ → Plan
+abbrev pub asking : Plan → ℕ → Plan
 asking p n = record { wait = p .wait; current = p .current; requested = requested.Schedule n }
 
 -- "If the wait is above 1"
-unfoldable pub waits : Plan → Bool
+abbrev pub waits : Plan → Bool
 waits p = ltb 1 (p .wait)
 
 -- "it falls by one"
-unfoldable pub waited : Plan → Plan
+abbrev pub waited : Plan → Plan
 waited p = record { wait = p .wait - 1; current = p .current; requested = p .requested }
 
 -- "the requested schedule begins", "at its entry 0", "or the next entry follows, cyclically"
-unfoldable pub entryDue : List ℕ → Requested → Current → Current
+abbrev pub entryDue : List ℕ → Requested → Current → Current
 entryDue t (requested.Schedule n) c = current.Entry (firstEntry t n)
 entryDue t requested.None current.None = current.None
 entryDue t requested.None (current.Entry e) = current.Entry (nextEntry t e)
 
 -- "The wait becomes the entry's delay."
-unfoldable pub begun : List ℕ → ℕ → Plan
+abbrev pub begun : List ℕ → ℕ → Plan
 begun t e = record { wait = entryDelay t e; current = current.Entry e; requested = requested.None }

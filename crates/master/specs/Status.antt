@@ -22,7 +22,7 @@ withCounted x success last =
     }
 
 -- "Only closed transfers with at least one response byte count"
-unfoldable pub statusAfter : Status → Bool → Bool → ℕ → Status
+abbrev pub statusAfter : Status → Bool → Bool → ℕ → Status
 statusAfter x counts success last = cond counts (withCounted x success last) x
 
 -- "bit 0 error in response, bit 1 successful transfer, bit 2 overrun, bits 8 to 15 the protected identifier of the last transfer

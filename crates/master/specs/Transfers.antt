@@ -58,7 +58,7 @@ unfoldable pub frameData : List ℕ → List ℕ → ℕ → List ℕ
 frameData t bs f = take (frameLength t f) (drop (8 * f) bs)
 
 -- "a frame is cut from the bytes lent when it opens"; there is none where no message is being sent
-unfoldable pub requestData : state.Message → List ℕ → List ℕ
+abbrev pub requestData : state.Message → List ℕ → List ℕ
 requestData message.None m = replicate 8 255
 requestData (message.Sending x) m = cutOf (x .nad) m (x .next) .bytes
 requestData message.Completed m = replicate 8 255

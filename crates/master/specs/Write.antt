@@ -64,7 +64,7 @@ markedFrom t s f [] = []
 markedFrom t s f (bit ∷ bits) = (bit || touches t s f) ∷ markedFrom t s (suc f) bits
 
 -- the open transfer is of a frame that a signal touches
-unfoldable pub touchesOpen : List ℕ → ℕ → Opened → Bool
+abbrev pub touchesOpen : List ℕ → ℕ → Opened → Bool
 touchesOpen t s opened.Nothing = false
 touchesOpen t s (opened.Frame f) = touches t s f
 touchesOpen t s opened.Request = false

@@ -82,7 +82,7 @@ module _ (t : List ℕ) (h : Seq Scheduled) (x : Held) (is : Agrees t h x) (y : 
   -- a select
   pub agrees-selected : (n : ℕ) → act y ≡ selected n → stateFits t (withPlan (x .state) (asking (x .state .plan) n)) ≡ true
       → Agrees t (h ▹ y) (held (withPlan (x .state) (asking (x .state .plan) n)) (x .bytes))
-  unfolding closes planAfter planBy asking
+  unfolding closes planAfter planBy
   agrees-selected n a f =
       let c : closes y ≡ false = rw a in
       aside (withPlan (x .state) (asking (x .state .plan) n)) f refl refl (rw a) c
@@ -94,7 +94,7 @@ module _ (t : List ℕ) (h : Seq Scheduled) (x : Held) (is : Agrees t h x) (y : 
   pub agrees-waited : (m : List ℕ) (b : TickAnswer) → act y ≡ ticked m b → y .slot ≡ none → slotDue t (planAfter t h) ≡ none
       → stateFits t (withPlan (x .state) (waited (x .state .plan))) ≡ true
       → Agrees t (h ▹ y) (held (withPlan (x .state) (waited (x .state .plan))) (x .bytes))
-  unfolding closes planAfter planBy planWith waited
+  unfolding closes planAfter planBy planWith
   agrees-waited m b a n d f =
       let c : closes y ≡ false = rw (a, n) in
       aside (withPlan (x .state) (waited (x .state .plan))) f refl refl (rw a) c

@@ -13,7 +13,7 @@ use Rattle.master.specs.declared.state.State.{State}
 use Rattle.master.specs.declared.byte.ByteAnswer.{ByteAnswer}
 use Rattle.master.specs.Fresh.{noTransfer}
 use Rattle.master.specs.Transfers.{formatOf, isOpen, openProtected}
-use Rattle.master.specs.Status.{withCounted, statusAfter}
+use Rattle.master.specs.Status.{withCounted}
 use Rattle.master.specs.Message.{messageFailed}
 use Rattle.master.specs.Closing.{failed}
 use Rattle.master.specs.Tick.{abandoned}
@@ -57,7 +57,7 @@ module _ (t : List ℕ) (h : Seq Scheduled) (x : Held) (is : Agrees t h x) (y : 
 
 -- the message behind the closing of what is open
 pub abandoned-message : (t : List ℕ) (s : State) → abandoned t s .message ≡ messageFailed (s .transfer .opened) (s .message)
-unfolding abandoned failed messageFailed
+unfolding abandoned failed
 abandoned-message t s = whether (isOpen (s .transfer .opened)) (λ y. rw y) (λ n. rw (n, not-open (s .transfer .opened) n))
 
 module _ (t : List ℕ) (h : Seq Scheduled) (x : Held) (is : Agrees t h x) where
@@ -90,7 +90,7 @@ module _ (t : List ℕ) (h : Seq Scheduled) (x : Held) (is : Agrees t h x) where
 
     -- the status after it: what was open counts where it had a response byte
     pub start-status : abandoned t (x .state) .status ≡ statusOver (countedAfter t (h ▹ y))
-    unfolding abandoned failed statusAfter countedAfter gotBy
+    unfolding abandoned failed countedAfter gotBy
     start-status =
         let o = x .state .transfer .opened in
         let p = is .transfer .opened-is in

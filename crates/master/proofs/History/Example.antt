@@ -27,17 +27,15 @@ use Rattle.master.specs.declared.byte.ByteAnswer.the-variants.{More, Suc
 use Rattle.master.specs.Admit.{bufferSize, admitted}
 use Rattle.master.specs.Start.{freshVerdict, freshOf}
 use Rattle.master.specs.Fresh.{fresh}
-use Rattle.master.specs.Fits.{entryThere, scheduleThere, frameThere, currentDelay, waitFits, bitFits, pendingFits, entryOpens, canOpen, countFits, messageFits, stateFits, lentFits}
+use Rattle.master.specs.Fits.{waitFits, bitFits, pendingFits, entryOpens, canOpen, countFits, messageFits, stateFits}
 use Rattle.cluster.specs.Lists.{isOneOf}
-use Rattle.master.specs.Transfers.{formatOf, isOpen, openProtected, openChecksum, frameData, sentData, copied, opening}
-use Rattle.master.specs.Plan.{asking, waits, entryDue, begun}
+use Rattle.master.specs.Transfers.{formatOf, openProtected, openChecksum, frameData, sentData, copied, opening}
 use Rattle.master.specs.Select.{selectVerdict, selectOf}
-use Rattle.master.specs.Write.{put, scalar, writable, markedFrom, touchesOpen, rewritten, marked, writeOf}
+use Rattle.master.specs.Write.{put, scalar, writable, markedFrom, rewritten, marked, writeOf}
 use Rattle.master.specs.Tick as tick
 use Rattle.master.specs.Status as status
-use Rattle.master.specs.Message.{messageSent}
 use Rattle.master.specs.Closing.{clearedBit, pendingSent, sent, received}
-use Rattle.master.specs.Byte.{passed, early, sentByte, byteEffect, byteVerdict, byteOf}
+use Rattle.master.specs.Byte.{passed, sentByte, byteEffect, byteVerdict, byteOf}
 use Rattle.master.specs.Seq.{Seq, ∅, _▹_, _⋈_}
 use Rattle.master.specs.Calls.{Call, select, write, tick, byteIn}
 use Rattle.master.specs.Run.{answerOf, leftBy, heldAfter, historyOf}
@@ -95,15 +93,15 @@ unfolding scheduled schedule slotBegun slotAfter planAfter planBy planWith slotD
     freshOf freshVerdict fresh bufferSize admitted takenOf judged faults surplus wordsRight records headerRight frameRight
     anyBelow signalRight offsetRight widthRight startLimit occupiedBefore overlaps memberRight entryRight targetRight word
     frameCount signalCount memberCount entryCount size identifier frameLength flags published classic signalFrame signalKind
-    signalOffset signalWidth signalStart isArray memberList memberFrame entrySchedule entryKind entryTarget entryDelay counted
-    listCount scheduleCount firstFrom membersFrom members firstEntry nextEntry signalPlace putStart filled freshBytes touches
-    signalPublished valueFits withScalar bitAt number bytesOf inside replaced putBits putScalar bit p0 p1 xor protectedByte
-    withCarry sum covered modelOf inverted checksumByte stateFits entryThere scheduleThere frameThere currentDelay waitFits
-    bitFits pendingFits isOneOf entryOpens canOpen countFits messageFits lentFits openProtected openChecksum frameData sentData
-    copied opening asking waits entryDue begun selectVerdict selectOf writable markedFrom touchesOpen rewritten marked writeOf
-    tick.firstPending tick.slotOpens tick.abandoned tick.opensOrSilent tick.slotAt tick.slot tick.tickEffect tick.tickVerdict
-    tick.tickOf status.withCounted status.statusAfter messageSent clearedBit pendingSent sent received passed early sentByte
-    byteEffect byteVerdict byteOf formatOf entryColumns follows frameColumns headerColumns memberColumns occupies signalColumns
+    signalOffset signalWidth signalStart isArray memberList memberFrame entrySchedule entryKind entryTarget entryDelay
+    counted listCount scheduleCount firstFrom membersFrom members firstEntry nextEntry signalPlace putStart filled freshBytes
+    touches signalPublished valueFits withScalar bitAt number bytesOf inside replaced putBits putScalar bit p0 p1 xor
+    protectedByte withCarry sum covered modelOf inverted checksumByte stateFits waitFits bitFits pendingFits isOneOf
+    entryOpens canOpen countFits messageFits openProtected openChecksum frameData sentData copied opening selectVerdict
+    selectOf writable markedFrom rewritten marked writeOf tick.firstPending tick.slotOpens tick.abandoned tick.opensOrSilent
+    tick.slotAt tick.slot tick.tickEffect tick.tickVerdict tick.tickOf status.withCounted status.statusAfter clearedBit
+    pendingSent sent received passed sentByte byteEffect byteVerdict byteOf formatOf entryColumns follows frameColumns
+    headerColumns memberColumns occupies signalColumns
 record-is = refl
 
 -- frame 1 is sent by the second success of its list

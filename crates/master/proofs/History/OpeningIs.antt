@@ -48,7 +48,7 @@ module _ (t : List ℕ) (ok : RightTable t) (bs : List ℕ) (size : length bs �
   -- what the master sends in a request: the frame due of the message, which is lent with its length
   request-due : (x : Message) (m : List ℕ) → isSending x ≡ true → messageFits x ≡ true → lentFits x (length m) ≡ true
       → requestOf x m ≡ requestData x m ++ (openChecksum t Request (requestData x m) ∷ [])
-  unfolding lentFits requestOf openChecksum formatOf
+  unfolding requestOf openChecksum formatOf
   request-due message.None m p f l = never p
   request-due (message.Sending x) m p f l = rw (request-data x m f (eqb-true (length m) (x .length) l))
   request-due message.Completed m p f l = never p

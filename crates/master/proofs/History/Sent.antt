@@ -13,7 +13,7 @@ use Rattle.cluster.specs.Table.{published}
 use Rattle.transport.proofs.Tests.{whether}
 use Rattle.master.specs.declared.state.Opened.the-variants.{Frame}
 use Rattle.master.specs.declared.byte.ByteAnswer.the-variants as byte
-use Rattle.master.specs.Transfers.{formatOf, isOpen, openLength, sends, sentData}
+use Rattle.master.specs.Transfers.{formatOf, openLength, sends, sentData}
 use Rattle.master.specs.Seq.{Seq, ∅, _▹_, _⋈_, Each}
 use Rattle.master.specs.Calls.{byteIn, Reply}
 use Rattle.master.specs.Acts.{Act, nothing, wrote, selected, ticked, took, statusRead, sending, onTick}

@@ -23,7 +23,6 @@ use Rattle.master.specs.declared.byte.Took.{Took}
 use Rattle.master.specs.Admit.{Step}
 use Rattle.master.specs.Fits.{stateFits, frameThere}
 use Rattle.master.specs.Transfers.{formatOf, isOpen, openLength, openChecksum, sends}
-use Rattle.master.specs.Status.{statusAfter}
 use Rattle.master.specs.Message.{messageSent}
 use Rattle.master.specs.Closing.{failed, pendingSent, sent, received}
 use Rattle.master.specs.Byte.{passed, early, withByte, sentByte, checksumRight, accepted, lastByte, receivedByte, byteEffect}
@@ -88,7 +87,7 @@ module _ (t : List ℕ) (o : Opened) (due got : List ℕ) (b : ℕ) where
 
 -- a received transfer leaves the message
 received-message : (t : List ℕ) (o : Opened) (m : Message) → sends t o ≡ false → messageSent o m ≡ m
-unfolding messageSent formatOf
+unfolding formatOf
 received-message t Nothing m n = refl
 received-message t (Frame f) m n = refl
 received-message t Request m n = never (sym n)
@@ -121,7 +120,7 @@ module _ (t : List ℕ) (ok : RightTable t) (h : Seq Scheduled) (x : Held) (is :
     }
 
     agrees-failed : act y ≡ took b byte.Failure → stateFits t (failed t s true) ≡ true → Agrees t (h ▹ y) (held (failed t s true) (x .bytes))
-    unfolding failed statusAfter planAfter planBy opens
+    unfolding failed planAfter planBy opens
     agrees-failed a f = record {
       fits = f;
       frames = frames-byte t h (s .pending) (x .bytes) (is .frames) y b byte.Failure a refl;
@@ -138,7 +137,7 @@ module _ (t : List ℕ) (ok : RightTable t) (h : Seq Scheduled) (x : Held) (is :
       → FramesAre t (h ▹ y) (pendingSent o (s .transfer .written) (s .pending)) bs → Agrees t (h ▹ y) (held after bs)
 
   agrees-sent : Ends (sent t s)
-  unfolding sent statusAfter planAfter planBy opens
+  unfolding sent planAfter planBy opens
   agrees-sent y c a e g f bs fr = record {
     fits = f;
     frames = fr;
@@ -149,7 +148,7 @@ module _ (t : List ℕ) (ok : RightTable t) (h : Seq Scheduled) (x : Held) (is :
   }
 
   agrees-received : sends t o ≡ false → Ends (received t s)
-  unfolding received statusAfter planAfter planBy opens
+  unfolding received planAfter planBy opens
   agrees-received n y c a e g f bs fr = record {
     fits = f;
     frames = rw (received-keeps t o (s .transfer .written) (s .pending) (fits-clauses t s (is .fits) .pending-fits) n) at fr;
@@ -172,7 +171,6 @@ module _ (t : List ℕ) (ok : RightTable t) (h : Seq Scheduled) (x : Held) (is :
       omega (arith, open-count t s (fits-clauses t s (is .fits) .count-fits) open-now, open-length-high t ok o (fits-clauses t s (is .fits) .frame-there))
 
   early-is : early t (s .transfer) ≡ ltb (length (gotAfter h)) (openLength t (openAfter t h))
-  unfolding early
   early-is = rw (is .transfer .count-is, is .transfer .opened-is)
 
   module _ (sent : sends t o ≡ true) where
@@ -296,7 +294,7 @@ module _ (t : List ℕ) (ok : RightTable t) (h : Seq Scheduled) (x : Held) (is :
   goes-accepted : (o′ : Opened) → o ≡ o′ → sends t o ≡ false → early t (s .transfer) ≡ false
       → byteReply t (openAfter t h) (dueAfter t h) (gotAfter h) b ≡ successReply o (gotAfter h)
       → Goes (accepted t s o′ (withByte (s .transfer) b) (x .bytes))
-  unfolding accepted storedBy withByte formatOf
+  unfolding accepted storedBy formatOf
   goes-accepted Nothing p n z r = never (rw p at open-now)
   goes-accepted (Frame g) p n z r =
       let there : frameThere t (Frame g) ≡ true = rw p at (fits-clauses t s (is .fits) .frame-there) in

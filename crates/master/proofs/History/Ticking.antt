@@ -64,7 +64,6 @@ answer-opened t Response p = refl
 
 -- a message that fails is lent whole where it was
 lent-failed : (o : Opened) (x : Message) (n : ℕ) → lentFits x n ≡ true → lentFits (messageFailed o x) n ≡ true
-unfolding messageFailed lentFits
 lent-failed Nothing x n l = l
 lent-failed (Frame f) x n l = l
 lent-failed Request x n l = refl
@@ -199,7 +198,7 @@ module _ (t : List ℕ) (ok : RightTable t) (h : Seq Scheduled) (x : Held) (is :
 
     goes-silent : (e : ℕ) → waits (s .plan) ≡ false → entryDue t (s .plan .requested) (s .plan .current) ≡ current.Entry e
         → isOpen (slotBy e) ≡ false → Goes (record { state = withPlan (abandoned t s) (begun t e); answer = tick.Silent })
-    unfolding schedule planWith opens begun slotBegun
+    unfolding schedule planWith opens slotBegun
     goes-silent e w c n f =
         let y = schedule t h (call.tick m ⇒ tick.Silent) in
         let d = due-entry e w c in
@@ -217,7 +216,7 @@ module _ (t : List ℕ) (ok : RightTable t) (h : Seq Scheduled) (x : Held) (is :
     goes-opened : (e : ℕ) (o : Opened) → waits (s .plan) ≡ false → entryDue t (s .plan .requested) (s .plan .current) ≡ current.Entry e
         → o ≡ slotBy e → isOpen o ≡ true
         → Goes (record { state = opened t (x .bytes) m (withPlan (abandoned t s) (begun t e)) o; answer = tick.Opened (openProtected t o) })
-    unfolding schedule planWith opens begun slotBegun
+    unfolding schedule planWith opens slotBegun
     goes-opened e o w c q p f =
         let a = tick.Opened (openProtected t o) in
         let y = schedule t h (call.tick m ⇒ a) in

@@ -112,7 +112,6 @@ module _ (t : List ℕ) (h : Seq Scheduled) (x : Transfer) (is : TransferIs t h 
   -- the nine bytes with one more that was received
   pub received-nine : (b : ℕ) → sends t (openAfter t h) ≡ false → x .count ≤ 8
       → withByte x b ≡ gotAfter h ++ (b ∷ replicate (8 - length (gotAfter h)) 255)
-  unfolding withByte
   received-nine b s n =
       rw (is .nine-is, s, is .count-is) (nine-set (gotAfter h) b (omega (arith, is .count-is, n)))
 
@@ -140,7 +139,7 @@ module _ (t : List ℕ) (h : Seq Scheduled) (x : Transfer) (is : TransferIs t h 
     wrote-closes = rw a
 
     wrote-hits : (o : Opened) → touchesOpen t s o ≡ hits t o y
-    unfolding touchesOpen writes
+    unfolding writes
     wrote-hits Nothing = refl
     wrote-hits (Frame f) = rw a
     wrote-hits Request = refl

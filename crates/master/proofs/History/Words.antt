@@ -18,7 +18,7 @@ use Rattle.master.specs.declared.state.Message.the-variants as message
 use Rattle.master.specs.Fits.{isSending, lentFits}
 use Rattle.master.specs.Transfers.{formatOf, isOpen, openProtected, openChecksum, frameData}
 use Rattle.master.specs.Plan.{waits, entryDue}
-use Rattle.master.specs.Message.{sendingAt, moved, messageSent, messageFailed, told}
+use Rattle.master.specs.Message.{moved, messageSent, messageFailed, told}
 use Rattle.master.specs.Schedule.{Slot, none, unscheduled, entry, slotOf, slotDue}
 use Rattle.master.specs.History.{isTransfer, dataOf, checksumOver}
 use Rattle.master.specs.Answering.{sentOn, messageClosed, protectedOf}
@@ -56,19 +56,19 @@ slotWith current.None = unscheduled
 slotWith (current.Entry e) = entry e
 
 slot-of : (t : List ℕ) (r : Requested) (c : Current) → slotOf t r c ≡ slotWith (entryDue t r c)
-unfolding slotOf entryDue
+unfolding slotOf
 slot-of t (requested.Schedule n) c = refl
 slot-of t requested.None current.None = refl
 slot-of t requested.None (current.Entry e) = refl
 
 pub slot-due : (t : List ℕ) (p : Plan) → slotDue t p ≡ cond (waits p) none (slotWith (entryDue t (p .requested) (p .current)))
-unfolding slotDue waits
+unfolding slotDue
 slot-due t p = rw (slot-of t (p .requested) (p .current))
 
 -- ---- the message
 
 pub message-sent : (o : Opened) (x : Message) → messageSent o x ≡ messageClosed o true x
-unfolding messageSent messageClosed moved sendingAt sentOn
+unfolding messageClosed moved sentOn
 message-sent Nothing x = refl
 message-sent (Frame f) x = refl
 message-sent Request x = go x
@@ -81,7 +81,7 @@ message-sent Request x = go x
 message-sent Response x = refl
 
 pub message-failed : (o : Opened) (x : Message) → messageFailed o x ≡ messageClosed o false x
-unfolding messageFailed messageClosed
+unfolding messageClosed
 message-failed Nothing x = refl
 message-failed (Frame f) x = refl
 message-failed Request x = refl
@@ -94,14 +94,12 @@ being-sent message.Completed = refl
 being-sent message.Failed = refl
 
 pub lent-right : (x : Message) (n : ℕ) → lentFits x n ≡ lentRight x n
-unfolding lentFits
 lent-right message.None n = refl
 lent-right (message.Sending x) n = refl
 lent-right message.Completed n = refl
 lent-right message.Failed n = refl
 
 pub message-told : (x : Message) → told x ≡ messageReply x
-unfolding told
 message-told message.None = refl
 message-told (message.Sending x) = refl
 message-told message.Completed = refl

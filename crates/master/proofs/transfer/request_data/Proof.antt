@@ -1,23 +1,18 @@
 -- `transfer::request_data` meets its contract.
 use borrow.Author.Needs.{needs}
-use Rattle.master.specs.Transfers.{requestData}
 use Rattle.master.proofs.transfer.request_data.Statement.{statement}
 use Rattle.master.proofs.transfer.request_data.Tie as tie
 
 returns : tie.Need-returns
-unfolding requestData
 returns c = rw (c .enum-told .given .1)
 
 returns-2 : tie.Need-returns-2
-unfolding requestData
 returns-2 c = rw (c .before .before .before .message .given .1, c .before .frame .ensures)
 
 returns-3 : tie.Need-returns-3
-unfolding requestData
 returns-3 c = rw (c .enum-told2 .given .1)
 
 returns-4 : tie.Need-returns-4
-unfolding requestData
 returns-4 c = rw (c .enum-told3 .given .1)
 
 pub request-data-spec : {M : Type 1} → statement M

@@ -1,15 +1,12 @@
 -- `state::Current::delay` meets its contract.
 use borrow.Author.Needs.{needs}
-use Rattle.master.specs.Fits.{currentDelay}
 use Rattle.master.proofs.state.Current.delay.Statement.{statement}
 use Rattle.master.proofs.state.Current.delay.Tie as tie
 
 returns : tie.Need-returns
-unfolding currentDelay
 returns c = rw (c .enum-told .given .1)
 
 returns-2 : tie.Need-returns-2
-unfolding currentDelay
 returns-2 c = rw (c .before .before .self .given .1, c .delay .ensures)
 
 pub delay-spec : {M : Type 1} → statement M

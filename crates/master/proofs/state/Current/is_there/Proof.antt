@@ -1,15 +1,12 @@
 -- `state::Current::is_there` meets its contract.
 use borrow.Author.Needs.{needs}
-use Rattle.master.specs.Fits.{entryThere}
 use Rattle.master.proofs.state.Current.is_there.Statement.{statement}
 use Rattle.master.proofs.state.Current.is_there.Tie as tie
 
 returns : tie.Need-returns
-unfolding entryThere
 returns c = rw (c .enum-told .given .1)
 
 returns-2 : tie.Need-returns-2
-unfolding entryThere
 returns-2 c = rw (c .before .before .self .given .1, c .count .ensures)
 
 pub is-there-spec : {M : Type 1} → statement M

@@ -1,15 +1,12 @@
 -- `state::Current::next` meets its contract.
 use borrow.Author.Needs.{needs}
-use Rattle.master.specs.Plan.{entryDue}
 use Rattle.master.proofs.state.Current.next.Statement.{statement}
 use Rattle.master.proofs.state.Current.next.Tie as tie
 
 returns : tie.Need-returns
-unfolding entryDue
 returns c = rw (c .enum-told .given .1)
 
 returns-2 : tie.Need-returns-2
-unfolding entryDue
 returns-2 c = rw (c .before .before .self .given .1, c .next .ensures)
 
 pub next-spec : {M : Type 1} → statement M

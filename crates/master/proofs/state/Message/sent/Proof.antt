@@ -1,23 +1,18 @@
 -- `state::Message::sent` meets its contract.
 use borrow.Author.Needs.{needs}
-use Rattle.master.specs.Message.{messageSent}
 use Rattle.master.proofs.state.Message.sent.Statement.{statement}
 use Rattle.master.proofs.state.Message.sent.Tie as tie
 
 returns : tie.Need-returns
-unfolding messageSent
 returns c = rw (c .enum-told .given .1)
 
 returns-2 : tie.Need-returns-2
-unfolding messageSent
 returns-2 c = rw (c .before .opened .given .1)
 
 returns-3 : tie.Need-returns-3
-unfolding messageSent
 returns-3 c = rw (c .before .enum-told2 .given .1, c .moved .ensures)
 
 returns-4 : tie.Need-returns-4
-unfolding messageSent
 returns-4 c = rw (c .enum-told3 .given .1)
 
 pub sent-spec : {M : Type 1} → statement M

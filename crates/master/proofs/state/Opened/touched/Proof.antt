@@ -1,23 +1,18 @@
 -- `state::Opened::touched` meets its contract.
 use borrow.Author.Needs.{needs}
-use Rattle.master.specs.Write.{touchesOpen}
 use Rattle.master.proofs.state.Opened.touched.Statement.{statement}
 use Rattle.master.proofs.state.Opened.touched.Tie as tie
 
 returns : tie.Need-returns
-unfolding touchesOpen
 returns c = rw (c .enum-told .given .1)
 
 returns-2 : tie.Need-returns-2
-unfolding touchesOpen
 returns-2 c = rw (c .before .before .self .given .1, c .touches .ensures)
 
 returns-3 : tie.Need-returns-3
-unfolding touchesOpen
 returns-3 c = rw (c .enum-told2 .given .1)
 
 returns-4 : tie.Need-returns-4
-unfolding touchesOpen
 returns-4 c = rw (c .enum-told3 .given .1)
 
 pub touched-spec : {M : Type 1} → statement M

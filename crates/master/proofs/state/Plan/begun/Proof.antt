@@ -1,11 +1,9 @@
 -- `state::Plan::begun` meets its contract.
 use borrow.Author.Needs.{needs}
-use Rattle.master.specs.Plan.{begun}
 use Rattle.master.proofs.state.Plan.begun.Statement.{statement}
 use Rattle.master.proofs.state.Plan.begun.Tie as tie
 
 returns : tie.Need-returns
-unfolding begun
 returns c = rw (c .delay .ensures)
 
 pub begun-spec : {M : Type 1} → statement M

@@ -1,15 +1,12 @@
 -- `state::Plan::due` meets its contract.
 use borrow.Author.Needs.{needs}
-use Rattle.master.specs.Plan.{entryDue}
 use Rattle.master.proofs.state.Plan.due.Statement.{statement}
 use Rattle.master.proofs.state.Plan.due.Tie as tie
 
 returns : tie.Need-returns
-unfolding entryDue
 returns c = rw (c .before .before .requested .given .1, c .first .ensures)
 
 returns-2 : tie.Need-returns-2
-unfolding entryDue
 returns-2 c = rw (c .before .enum-told .given .1, c .next .ensures)
 
 pub due-spec : {M : Type 1} → statement M

@@ -1,15 +1,12 @@
 -- `state::Requested::is_there` meets its contract.
 use borrow.Author.Needs.{needs}
-use Rattle.master.specs.Fits.{scheduleThere}
 use Rattle.master.proofs.state.Requested.is_there.Statement.{statement}
 use Rattle.master.proofs.state.Requested.is_there.Tie as tie
 
 returns : tie.Need-returns
-unfolding scheduleThere
 returns c = rw (c .enum-told .given .1)
 
 returns-2 : tie.Need-returns-2
-unfolding scheduleThere
 returns-2 c = rw (c .before .before .self .given .1, c .schedules .ensures .0)
 
 pub is-there-spec : {M : Type 1} → statement M

@@ -1,15 +1,12 @@
 -- `state::Sending::at` meets its contract.
 use borrow.Author.Tests.{le-ltb, lt-ltb}
-use Rattle.master.specs.Message.{sendingAt}
 use Rattle.master.proofs.state.Sending.at.Statement.{statement}
 use Rattle.master.proofs.state.Sending.at.Tie as tie
 
 returns : tie.Need-returns
-unfolding sendingAt
 returns c = rw (lt-ltb _ _ (c .if1 .taken))
 
 returns-2 : tie.Need-returns-2
-unfolding sendingAt
 returns-2 c = rw (le-ltb _ _ (c .if1 .left))
 
 pub at-spec : {M : Type 1} → statement M

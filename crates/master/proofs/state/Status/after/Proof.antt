@@ -1,15 +1,12 @@
 -- `state::Status::after` meets its contract.
 use borrow.Author.Needs.{needs}
-use Rattle.master.specs.Status.{statusAfter}
 use Rattle.master.proofs.state.Status.after.Statement.{statement}
 use Rattle.master.proofs.state.Status.after.Tie as tie
 
 returns : tie.Need-returns
-unfolding statusAfter
 returns c = rw (c .before .if1 .taken, c .counted .ensures)
 
 returns-2 : tie.Need-returns-2
-unfolding statusAfter
 returns-2 c = rw (c .if1 .left)
 
 pub after-spec : {M : Type 1} → statement M

@@ -1,11 +1,9 @@
 -- `state::Transfer::early` meets its contract.
 use borrow.Author.Needs.{needs}
-use Rattle.master.specs.Byte.{early}
 use Rattle.master.proofs.state.Transfer.early.Statement.{statement}
 use Rattle.master.proofs.state.Transfer.early.Tie as tie
 
 returns : tie.Need-returns
-unfolding early
 returns c = rw (c .length .ensures)
 
 pub early-spec : {M : Type 1} → statement M
