@@ -8,7 +8,6 @@ use cluster::members;
 use refusal::Refusal;
 ghost use mathlib.Core.Path.{_≡_};
 ghost use Rattle.master.specs.Ahead.{aheadVerdict, aheadOf};
-ghost use Rattle.cluster.specs.Lists.{memberOf};
 
 // What number ahead answers.
 pub enum AheadAnswer {

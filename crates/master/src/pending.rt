@@ -1,6 +1,5 @@
 // The pending bits: whether they fit, what a write sets and a success clears, and the pending members of a list.
 use crate::state::Opened;
-use crate::state::State;
 use cluster::Limits;
 use cluster::frames;
 use cluster::members;

@@ -9,8 +9,8 @@ use refusal::Refusal;
 ghost use mathlib.Core.Bool.{true, false};
 ghost use mathlib.Core.Path.{_≡_};
 ghost use Prim.Native.Nat.{_<_};
-ghost use Rattle.cluster.specs.Check.{RightTable, then};
-ghost use Rattle.master.specs.Admit.{Leaves, admitted};
+ghost use Rattle.cluster.specs.Check.{RightTable};
+ghost use Rattle.master.specs.Admit.{Leaves};
 ghost use Rattle.cluster.specs.Table.{signalCount};
 ghost use Rattle.master.specs.Write.{writable as writableOf, marked as markedOf, refusedWrite, scalar, array, put, writeVerdict, writeOf};
 
