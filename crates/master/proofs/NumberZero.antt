@@ -28,11 +28,11 @@ use Rattle.master.specs.Tick.{tickVerdict}
 use Rattle.master.specs.Byte.{byteVerdict}
 use Rattle.master.specs.Ahead.{aheadVerdict}
 use Rattle.cluster.specs.Lists.{memberOf}
-use Rattle.master.specs.Write.{isBytes, fitsSignal}
 use Rattle.master.specs.Calls as call
 use Rattle.master.specs.Calls.{Call}
 use Rattle.master.specs.Run.{Held}
 use Rattle.master.specs.Step.{verdictOf}
+use Rattle.master.specs.Write.{isBytes, fitsSignal}
 
 -- a verdict that refuses with no 0
 abbrev pub Numbered : Verdict → Type 0

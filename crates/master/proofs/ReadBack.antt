@@ -26,12 +26,14 @@ use Rattle.master.specs.declared.read.ReadAnswer.the-variants as read
 use Rattle.master.specs.declared.read.ArrayAnswer.the-variants as bytes
 use Rattle.master.specs.Admit.{admitted, bufferSize, Step}
 use Rattle.master.specs.Transfers.{frameData}
-use Rattle.master.specs.Write.{marked, writable, Value, scalar, array, Put, put, isBytes, fitsSignal, withValue, writeVerdict, writeOf}
+use Rattle.master.specs.Write.{marked, writable, writeVerdict, writeOf}
 use Rattle.master.specs.Read.{readVerdict, readScalarOf, readArrayOf}
 use Rattle.master.proofs.Admitted.{admitted-taken, admitted-table, admitted-size, admitted-fits, admits, fits-clauses, fits-all}
 use Rattle.master.proofs.FitsKept.{marked-fits}
 use Rattle.master.proofs.Answered.{by-verdict, Writable, writable-signal}
 use Rattle.master.proofs.WriteLaws.{write-accepts, write-state, write-left}
+use Rattle.master.specs.Put.{Value, scalar, array, Put, put, withValue}
+use Rattle.master.specs.Write.{isBytes, fitsSignal}
 
 -- ---- reading
 

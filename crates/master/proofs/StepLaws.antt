@@ -35,7 +35,7 @@ use Rattle.master.specs.declared.send.MessageAnswer.the-variants as tell
 use Rattle.master.specs.Fits.{stateFits}
 use Rattle.master.specs.Admit.{Step, admitted, answered, bufferSize}
 use Rattle.master.specs.Answers.{verdictNumber, readRefusal, writeRefusal, arrayRefusal, selectRefusal, tickRefusal, byteRefusal, statusRefusal, sendRefusal, messageRefusal, aheadRefusal}
-use Rattle.master.specs.Write.{marked, isBytes, fitsSignal, writeVerdict, writeOf}
+use Rattle.master.specs.Write.{marked, writeVerdict, writeOf}
 use Rattle.master.specs.Read.{readVerdict, readScalarOf, readArrayOf}
 use Rattle.master.specs.Select.{selectVerdict, selectOf}
 use Rattle.master.specs.Tick.{tickEffect, tickVerdict, tickOf}
@@ -56,6 +56,7 @@ use Rattle.master.proofs.Keeps.{taken-fits}
 use Rattle.master.proofs.Lengths.{taken-length}
 use Rattle.master.proofs.PendingLength.{ticked-pending}
 use Rattle.master.proofs.ReadBack.{value-length}
+use Rattle.master.specs.Write.{isBytes, fitsSignal}
 
 -- ---- verdict, then effect
 

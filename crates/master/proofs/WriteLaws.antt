@@ -9,8 +9,9 @@ use Rattle.master.specs.declared.state.State.{State}
 use Rattle.master.specs.declared.write.WriteAnswer.the-variants.{Written}
 use Rattle.master.specs.declared.write.Wrote.{Wrote}
 use Rattle.master.specs.Admit.{Step}
-use Rattle.master.specs.Write.{markedFrom, touchesOpen, rewritten, marked, Put, withValue, writeVerdict, writeOf}
+use Rattle.master.specs.Write.{markedFrom, touchesOpen, rewritten, marked, writeVerdict, writeOf}
 use Rattle.master.proofs.Answered.{by-verdict}
+use Rattle.master.specs.Put.{Put, withValue}
 
 -- what a write, refused or not, leaves of the state
 pub record Beside (x y : State) : Type 0 where

@@ -14,9 +14,9 @@ use Rattle.master.specs.declared.read.StatusAnswer.{StatusAnswer}
 use Rattle.master.specs.declared.read.StatusAnswer.the-variants as status
 use Rattle.master.specs.declared.send.SendAnswer.{SendAnswer}
 use Rattle.master.specs.declared.send.SendAnswer.the-variants as send
-use Rattle.master.specs.Write.{Value}
 use Rattle.master.specs.Calls as call
 use Rattle.master.specs.Calls.{Event, _⇒_}
+use Rattle.master.specs.Put.{Value}
 
 -- an accepted call that changes something, with what it was given, and what a tick or a byte was answered
 pub data Act : Type 0 where

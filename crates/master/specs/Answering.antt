@@ -19,9 +19,9 @@ use Rattle.master.specs.declared.state.Message.{Message}
 use Rattle.master.specs.declared.state.Message.the-variants as message
 use Rattle.master.specs.Seq.{Seq, ∅, _▹_}
 use Rattle.master.specs.Acts.{onWrite, onTick, onSend, isStatusRead}
-use Rattle.master.specs.Write.{withValue}
 use Rattle.master.specs.Schedule.{Scheduled, act}
 use Rattle.master.specs.History.{opens, closes, succeeds, openAfter, isTransfer, writtenBytes, responseOf, gotBy, gotAfter}
+use Rattle.master.specs.Put.{withValue}
 
 -- ---- the message
 

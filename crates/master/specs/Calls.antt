@@ -11,7 +11,7 @@ use Rattle.master.specs.declared.read.StatusAnswer.{StatusAnswer}
 use Rattle.master.specs.declared.send.SendAnswer.{SendAnswer}
 use Rattle.master.specs.declared.send.MessageAnswer.{MessageAnswer}
 use Rattle.master.specs.declared.ahead.AheadAnswer.{AheadAnswer}
-use Rattle.master.specs.Write.{Put}
+use Rattle.master.specs.Put.{Put}
 
 -- a call behind the fresh one, with what it is given beside the table, the state and the frame bytes; "Values, arrays and lent
 -- messages may be anything"

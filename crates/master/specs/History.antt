@@ -21,8 +21,8 @@ use Rattle.master.specs.declared.byte.ByteAnswer.{ByteAnswer}
 use Rattle.master.specs.declared.byte.ByteAnswer.the-variants as byte
 use Rattle.master.specs.Seq.{Seq, ∅, _▹_, _⋈_, Each}
 use Rattle.master.specs.Acts.{onWrite, onTick, onByte}
-use Rattle.master.specs.Write.{withValue}
 use Rattle.master.specs.Schedule.{Scheduled, act, isStart, starts, slotAfter, ofList}
+use Rattle.master.specs.Put.{withValue}
 
 -- ---- writes
 

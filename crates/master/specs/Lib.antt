@@ -4,6 +4,7 @@ pub mod Transfers
 pub mod Fits
 pub mod Admit
 pub mod Start
+pub mod Put
 pub mod Write
 pub mod Read
 pub mod Plan

@@ -12,7 +12,7 @@ use Rattle.wire.specs.Checksum.{checksumByte}
 use Rattle.wire.specs.declared.checksum.Model.the-variants.{Classic}
 use Rattle.cluster.specs.Table.{signalCount, scheduleCount, identifier, frameLength, published, isArray, entryKind, entryTarget}
 use Rattle.cluster.specs.Lists.{members}
-use Rattle.cluster.specs.Values.{signalPublished, scalarValue, arrayRead}
+use Rattle.cluster.specs.Values.{signalPublished, valueFits, arrayFits, scalarValue, arrayRead}
 use Rattle.master.specs.declared.state.Opened.{Opened}
 use Rattle.master.specs.declared.state.Opened.the-variants.{Nothing, Frame, Request, Response}
 use Rattle.master.specs.declared.state.Message.{Message}
@@ -21,7 +21,7 @@ use Rattle.master.specs.declared.write.WriteAnswer.{WriteAnswer}
 use Rattle.master.specs.declared.write.WriteAnswer.the-variants as write
 use Rattle.master.specs.declared.read.ReadAnswer.{ReadAnswer}
 use Rattle.master.specs.declared.read.ReadAnswer.the-variants as read
-use Rattle.master.specs.declared.read.ArrayAnswer.the-variants as array
+use Rattle.master.specs.declared.read.ArrayAnswer.the-variants as bytes
 use Rattle.master.specs.declared.read.ReadArray.{ReadArray}
 use Rattle.master.specs.declared.select.SelectAnswer.{SelectAnswer}
 use Rattle.master.specs.declared.select.SelectAnswer.the-variants as select
@@ -37,12 +37,12 @@ use Rattle.master.specs.declared.send.MessageAnswer.the-variants as tell
 use Rattle.master.specs.declared.ahead.AheadAnswer.{AheadAnswer}
 use Rattle.master.specs.declared.ahead.AheadAnswer.the-variants as counted
 use Rattle.master.specs.Seq.{Seq}
-use Rattle.master.specs.Write.{isBytes, fitsSignal}
 use Rattle.master.specs.Calls as call
 use Rattle.master.specs.Calls.{Call, Answer, Reply}
 use Rattle.master.specs.Schedule.{Slot, none, unscheduled, entry, Scheduled, slotDue, planAfter}
 use Rattle.master.specs.History.{Pending, openAfter, checksumOver, gotAfter}
 use Rattle.master.specs.Answering.{messageClosed, messageAfter, dueAfter, bytesAfter, countedAfter, wordOver}
+use Rattle.master.specs.Put.{Value, scalar, array}
 
 -- ---- which refusal a call gets: the number of the first test that fails, and 0 where all hold
 
@@ -53,18 +53,23 @@ test holds number later = cond holds later number
 -- "no such signal"; "write to a signal the master doesn't publish"; "scalar call on an array or the reverse"; "value of 2^width or more; array of
 -- another length"
 unfoldable pub writeNumber : List ℕ → ℕ → Bool → Bool → ℕ
-writeNumber t s array fits =
+writeNumber t s asArray fits =
     test (ltb s (signalCount t)) 4
     (test (signalPublished t s) 5
-    (test (Bool·beq (isArray t s) array) 6
+    (test (Bool·beq (isArray t s) asArray) 6
     (test fits 7
     0)))
 
+-- of a scalar, and of an array
+abbrev pub putNumber : List ℕ → ℕ → Value → ℕ
+putNumber t s (scalar v) = writeNumber t s false (valueFits t s v)
+putNumber t s (array vs) = writeNumber t s true (arrayFits t s vs)
+
 -- "no such signal"; "scalar call on an array or the reverse"
 unfoldable pub readNumber : List ℕ → ℕ → Bool → ℕ
-readNumber t s array =
+readNumber t s asArray =
     test (ltb s (signalCount t)) 4
-    (test (Bool·beq (isArray t s) array) 6
+    (test (Bool·beq (isArray t s) asArray) 6
     0)
 
 -- "no such .. schedule"
@@ -99,8 +104,8 @@ readReply n t bs s = cond (eqb n 0) (read.Value (scalarValue t bs s)) (read.Refu
 unfoldable pub readArrayReply : ℕ → List ℕ → List ℕ → ℕ → ReadArray
 readArrayReply n t bs s =
     cond (eqb n 0)
-    (record { answer = array.Bytes (arrayRead t bs s .count); bytes = arrayRead t bs s .bytes })
-    (record { answer = array.Refused (refused n); bytes = replicate 8 255 })
+    (record { answer = bytes.Bytes (arrayRead t bs s .count); bytes = arrayRead t bs s .bytes })
+    (record { answer = bytes.Refused (refused n); bytes = replicate 8 255 })
 
 unfoldable pub selectReply : ℕ → SelectAnswer
 selectReply n = cond (eqb n 0) select.Selected (select.Refused (refused n))
@@ -204,7 +209,7 @@ pub record AheadReply (t : List ℕ) (h : Seq Scheduled) (f : ℕ) (a : AheadAns
 
 -- a is what c answers after h
 abbrev pub Replies : List ℕ → Seq Scheduled → (c : Call) → Answer c → Type 0
-Replies t h (call.write w) a = a ≡ writeReply (writeNumber t (w .signal) (isBytes (w .value)) (fitsSignal t (w .signal) (w .value)))
+Replies t h (call.write w) a = a ≡ writeReply (putNumber t (w .signal) (w .value))
 Replies t h (call.read s) a = a ≡ readReply (readNumber t s false) t (bytesAfter t h) s
 Replies t h (call.readArray s) a = a ≡ readArrayReply (readNumber t s true) t (bytesAfter t h) s
 Replies t h (call.select n) a = a ≡ selectReply (selectNumber t n)

@@ -20,7 +20,7 @@ use Rattle.master.specs.declared.ahead.AheadAnswer.the-variants as ahead
 use Rattle.master.specs.Fresh.{noStatus}
 use Rattle.master.specs.State.{withPlan, withMessage, withStatus}
 use Rattle.master.specs.Admit.{admitted, bufferSize}
-use Rattle.master.specs.Write.{withValue, marked, writeVerdict}
+use Rattle.master.specs.Write.{marked, writeVerdict}
 use Rattle.master.specs.Read.{readVerdict}
 use Rattle.master.specs.Plan.{asking}
 use Rattle.master.specs.Select.{selectVerdict}
@@ -33,6 +33,7 @@ use Rattle.master.specs.Answers.{messageRefusal, aheadRefusal}
 use Rattle.master.specs.Calls as call
 use Rattle.master.specs.Calls.{Call, Answer}
 use Rattle.master.specs.Run.{Held, held}
+use Rattle.master.specs.Put.{withValue}
 
 -- the verdict on a call
 unfoldable pub verdictOf : List ℕ → Held → Call → Verdict

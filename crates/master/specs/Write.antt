@@ -10,7 +10,7 @@ use Rattle.cluster.specs.declared.Verdict.{Verdict}
 use Rattle.cluster.specs.declared.Verdict.the-variants as verdict
 use Rattle.cluster.specs.Check.{then}
 use Rattle.cluster.specs.Table.{signalCount, isArray}
-use Rattle.cluster.specs.Values.{touches, signalPublished, valueFits, arrayFits, withScalar, withArray}
+use Rattle.cluster.specs.Values.{touches, signalPublished, valueFits, arrayFits}
 use Rattle.master.specs.declared.state.Opened.{Opened}
 use Rattle.master.specs.declared.state.Opened.the-variants as opened
 use Rattle.master.specs.declared.state.Transfer.{Transfer}
@@ -19,19 +19,7 @@ use Rattle.master.specs.declared.write.WriteAnswer.the-variants.{Written
 use Rattle.master.specs.declared.write.Wrote.{Wrote}
 use Rattle.master.specs.State.{withPending, withTransfer}
 use Rattle.master.specs.Admit.{unless, admitted, answered, Step}
-
--- what a write puts into a signal: a number, or bytes
-pub data Value : Type 0 where
-  scalar : ℕ → Value
-  array : List ℕ → Value
-
--- a write: a signal and its value
-pub record Put : Type 0 where
-  pub signal : ℕ
-  pub value : Value
-
-abbrev pub put : ℕ → Value → Put
-put s v = record { signal = s; value = v }
+use Rattle.master.specs.Put.{Value, scalar, array, Put, withValue}
 
 -- it is a write of an array
 abbrev pub isBytes : Value → Bool
@@ -42,11 +30,6 @@ isBytes (array vs) = true
 abbrev pub fitsSignal : List ℕ → ℕ → Value → Bool
 fitsSignal t s (scalar v) = valueFits t s v
 fitsSignal t s (array vs) = arrayFits t s vs
-
--- the frame bytes with a value put into a signal
-abbrev pub withValue : List ℕ → List ℕ → ℕ → Value → List ℕ
-withValue t bs s (scalar v) = withScalar t bs s v
-withValue t bs s (array vs) = withArray t bs s vs
 
 -- refusals of a write: 4 "no such signal", 5 "write to a signal the master doesn't publish", 6 "scalar call on an array or the reverse",
 -- 7 where the value does not fit

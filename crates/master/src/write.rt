@@ -12,7 +12,8 @@ ghost use Prim.Native.Nat.{_<_};
 ghost use Rattle.cluster.specs.Check.{RightTable};
 ghost use Rattle.master.specs.Admit.{Leaves};
 ghost use Rattle.cluster.specs.Table.{signalCount};
-ghost use Rattle.master.specs.Write.{writable as writableOf, marked as markedOf, refusedWrite, scalar, array, put, writeVerdict, writeOf};
+ghost use Rattle.master.specs.Write.{writable as writableOf, marked as markedOf, refusedWrite, writeVerdict, writeOf};
+ghost use Rattle.master.specs.Put.{scalar, array, put};
 
 // What a write answers.
 pub enum WriteAnswer {

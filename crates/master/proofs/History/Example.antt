@@ -31,7 +31,7 @@ use Rattle.master.specs.Fits.{waitFits, bitFits, pendingFits, entryOpens
 use Rattle.cluster.specs.Lists.{isOneOf}
 use Rattle.master.specs.Transfers.{formatOf, openProtected, openChecksum, frameData, sentData, copied, opening}
 use Rattle.master.specs.Select.{selectVerdict, selectOf}
-use Rattle.master.specs.Write.{put, scalar, writable, markedFrom, rewritten, marked, writeOf}
+use Rattle.master.specs.Write.{writable, markedFrom, rewritten, marked, writeOf}
 use Rattle.master.specs.Tick as tick
 use Rattle.master.specs.Status as status
 use Rattle.master.specs.Closing.{clearedBit, pendingSent, sent, received}
@@ -46,6 +46,7 @@ use Rattle.master.specs.Claim.{recordOf, event}
 use Rattle.master.proofs.History.Computed.{rewrittenAfter, wipes, pendingAfter}
 use Rattle.master.proofs.History.PendingLaw.{pending-iff}
 use Rattle.master.proofs.History.Claimed.{demand-3}
+use Rattle.master.specs.Put.{put, scalar}
 
 -- two frames of one byte with a signal in each, both in list 0, and a schedule of one slot of that list, at every tick
 abbrev table : List ℕ

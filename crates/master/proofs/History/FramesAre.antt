@@ -23,7 +23,6 @@ use Rattle.master.specs.Closing.{pendingSent}
 use Rattle.master.specs.Write.{markedFrom}
 use Rattle.master.specs.Seq.{Seq, ∅, _▹_}
 use Rattle.master.specs.Acts.{wrote, took}
-use Rattle.master.specs.Write.{Value, withValue}
 use Rattle.master.specs.Schedule.{Scheduled, act}
 use Rattle.master.specs.History.{writes, isSuccess, succeeds, openAfter, carries, writtenBytes, gotAfter}
 use Rattle.master.specs.Answering.{storedBy, bytesAfter}
@@ -34,6 +33,7 @@ use Rattle.master.proofs.History.Computed.{rewrittenAfter, pendingAfter
 use Rattle.master.proofs.History.Quiet.{isQuiet, quiet-byte, quiet-write, quiet-writes, written-quiet}
 use Rattle.master.proofs.History.SameBytes.{SameBytes, same-refl, same-written}
 use Rattle.master.proofs.ReadBack.{value-length}
+use Rattle.master.specs.Put.{Value, withValue}
 
 -- the bits and the bytes, whatever holds them
 pub record FramesAre (t : List ℕ) (h : Seq Scheduled) (bits : List Bool) (bs : List ℕ) : Type 0 where

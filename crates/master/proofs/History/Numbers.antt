@@ -18,6 +18,10 @@ use Rattle.master.specs.Fits.{isSending}
 use Rattle.master.specs.Write.{writable}
 use Rattle.master.specs.Replies.{test, writeNumber, readNumber, selectNumber, isBeingSent, sendNumber}
 use Rattle.master.proofs.History.Words.{being-sent}
+use Rattle.master.specs.Put.{Value, scalar, array}
+use Rattle.master.specs.Write.{isBytes, fitsSignal}
+use Rattle.master.specs.Replies.{putNumber}
+use Rattle.cluster.specs.Values.{valueFits, arrayFits}
 
 -- 0 accepts
 abbrev pub byNumber : ℕ → Verdict
@@ -39,20 +43,24 @@ reply-is n refuse go v e = ap (λ (w : Verdict). answered w refuse go) (sym e) �
 
 -- ---- each call
 
-pub write-verdict : (t : List ℕ) (s : ℕ) (array fits : Bool) → writable t s array fits ≡ byNumber (writeNumber t s array fits)
+write-verdict : (t : List ℕ) (s : ℕ) (asArray fits : Bool) → writable t s asArray fits ≡ byNumber (writeNumber t s asArray fits)
 unfolding writable writeNumber
-write-verdict t s array fits =
-    let k = Bool·beq (isArray t s) array in
+write-verdict t s asArray fits =
+    let k = Bool·beq (isArray t s) asArray in
     ap (λ (v : Verdict). unless (ltb s (signalCount t)) 4 (unless (signalPublished t s) 5 (unless k 6 v))) (tested fits 7 0 refl)
     ∙ ap (λ (v : Verdict). unless (ltb s (signalCount t)) 4 (unless (signalPublished t s) 5 v)) (tested k 6 (test fits 7 0) refl)
     ∙ ap (λ (v : Verdict). unless (ltb s (signalCount t)) 4 v) (tested (signalPublished t s) 5 (test k 6 (test fits 7 0)) refl)
     ∙ tested (ltb s (signalCount t)) 4 (test (signalPublished t s) 5 (test k 6 (test fits 7 0))) refl
 
-pub read-verdict : (t : List ℕ) (s : ℕ) (array : Bool)
-    → unless (ltb s (signalCount t)) number.unknown (unless (Bool·beq (isArray t s) array) number.kind Accepted) ≡ byNumber (readNumber t s array)
+pub put-verdict : (t : List ℕ) (s : ℕ) (v : Value) → writable t s (isBytes v) (fitsSignal t s v) ≡ byNumber (putNumber t s v)
+put-verdict t s (scalar v) = write-verdict t s false (valueFits t s v)
+put-verdict t s (array vs) = write-verdict t s true (arrayFits t s vs)
+
+pub read-verdict : (t : List ℕ) (s : ℕ) (asArray : Bool)
+    → unless (ltb s (signalCount t)) number.unknown (unless (Bool·beq (isArray t s) asArray) number.kind Accepted) ≡ byNumber (readNumber t s asArray)
 unfolding readNumber
-read-verdict t s array =
-    let k = Bool·beq (isArray t s) array in
+read-verdict t s asArray =
+    let k = Bool·beq (isArray t s) asArray in
     ap (λ (v : Verdict). unless (ltb s (signalCount t)) 4 v) (tested k 6 0 refl)
     ∙ tested (ltb s (signalCount t)) 4 (test k 6 0) refl
 

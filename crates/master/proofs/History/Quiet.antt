@@ -10,11 +10,11 @@ use Rattle.master.specs.declared.byte.ByteAnswer.{ByteAnswer}
 use Rattle.master.specs.Seq.{Seq, _▹_}
 use Rattle.master.specs.Schedule.{Scheduled, act}
 use Rattle.master.specs.Acts.{Act, nothing, wrote, selected, ticked, took, statusRead, sending, onWrite, onByte}
-use Rattle.master.specs.Write.{Value, withValue}
 use Rattle.master.specs.History.{writes, closes, openAfter, writtenBytes, gotBy, gotAfter}
 use Rattle.master.specs.Answering.{dueAfter}
 use Rattle.master.proofs.Tests.{never, or-false}
 use Rattle.master.proofs.History.Computed.{hits, rewrittenAfter, rewritten-on}
+use Rattle.master.specs.Put.{Value, withValue}
 
 -- neither a write nor a byte
 abbrev pub isQuiet : Act → Bool

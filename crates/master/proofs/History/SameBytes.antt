@@ -11,9 +11,9 @@ use Rattle.cluster.specs.Table.{published}
 use Rattle.cluster.proofs.ValueLaws.{scalar-alike, array-alike}
 use Rattle.master.specs.Admit.{bufferSize}
 use Rattle.master.specs.Transfers.{frameData}
-use Rattle.master.specs.Write.{Value, scalar, array, withValue}
 use Rattle.master.specs.History.{eightOf}
 use Rattle.master.proofs.ReadBack.{untouched-data, value-length}
+use Rattle.master.specs.Put.{Value, scalar, array, withValue}
 
 -- two buffers of one length have the same eight bytes in each published frame
 pub record SameBytes (t bs cs : List ℕ) : Type 0 where

@@ -42,7 +42,7 @@ use Rattle.master.specs.Run.{Held, held, answerOf, leftBy}
 use Rattle.master.specs.Acts.{nothing, actOf}
 use Rattle.master.specs.Schedule.{slotBegun, Scheduled, schedule}
 use Rattle.master.specs.Answering.{messageAfter, countedAfter}
-use Rattle.master.specs.Replies.{Replies, writeNumber, readNumber, selectNumber, sendNumber, writeReply, readReply, readArrayReply, selectReply, sendReply, byteReply, plain, lentRight}
+use Rattle.master.specs.Replies.{putNumber, Replies, readNumber, selectNumber, sendNumber, writeReply, readReply, readArrayReply, selectReply, sendReply, byteReply, plain, lentRight}
 use Rattle.master.proofs.Tests.{never}
 use Rattle.master.proofs.Admitted.{admits, fits-clauses, fits-all, unless-test}
 use Rattle.master.proofs.Answered.{by-verdict, writable-signal}
@@ -52,7 +52,7 @@ use Rattle.master.proofs.StepLaws.{keeps-fit}
 use Rattle.master.proofs.Verdicts.{tick-refusal}
 use Rattle.master.proofs.SlotFits.{not-open}
 use Rattle.master.proofs.History.Words.{lent-right, message-told}
-use Rattle.master.proofs.History.Numbers.{byNumber, reply-is, write-verdict, read-verdict, select-verdict, send-verdict}
+use Rattle.master.proofs.History.Numbers.{byNumber, reply-is, put-verdict, read-verdict, select-verdict, send-verdict}
 use Rattle.master.proofs.History.StatusOver.{word-over}
 use Rattle.master.proofs.History.Agrees.{Agrees, agrees-nothing, agrees-selected, agrees-status, agrees-sending}
 use Rattle.master.proofs.History.Writing.{agrees-wrote}
@@ -60,8 +60,10 @@ use Rattle.master.proofs.History.Ticking.{tick-goes}
 use Rattle.master.proofs.History.Taking.{byte-goes}
 use Rattle.master.proofs.History.Ahead.{ahead-replies}
 use Rattle.master.proofs.History.Stepped.{Stepped}
-use Rattle.master.specs.Write.{Put, isBytes, fitsSignal, writable, marked, writeVerdict, writeOf}
+use Rattle.master.specs.Write.{writable, marked, writeVerdict, writeOf}
 use Rattle.cluster.proofs.TakenLaws.{taken-right}
+use Rattle.master.specs.Put.{Put}
+use Rattle.master.specs.Write.{isBytes, fitsSignal}
 
 -- an accepted call is not refused
 refused-never : {A : Type 0} (q : Refusal) → verdict.Accepted ≡ verdict.Refused q → A
@@ -98,9 +100,9 @@ module _ (t : List ℕ) (is-taken : TakenTable t) (h : Seq Scheduled) (x : Held)
   step-write w =
       let r = w .signal in
       let v = w .value in
-      let n = writeNumber t r (isBytes v) (fitsSignal t r v) in
+      let n = putNumber t r v in
       let inner : writeVerdict t (length (x .bytes)) s w ≡ writable t r (isBytes v) (fitsSignal t r v) = rw lent-admitted in
-      let number-is : byNumber n ≡ writeVerdict t (length (x .bytes)) s w = sym (write-verdict t r (isBytes v) (fitsSignal t r v)) ∙ sym inner in
+      let number-is : byNumber n ≡ writeVerdict t (length (x .bytes)) s w = sym (put-verdict t r v) ∙ sym inner in
       by-verdict (λ (z : Step Wrote). Stepped t h (call.write w) (z .given .answer) (held (z .given .state) (z .left))) (writeVerdict t (length (x .bytes)) s w) _ _
       (λ q e. step-nothing (call.write w) (write.Refused q) refl (reply-is n (λ i. write.Refused i) write.Written (verdict.Refused q) (number-is ∙ e)))
       (λ a. let k = writable-signal t r (isBytes v) (fitsSignal t r v) (sym inner ∙ a) in

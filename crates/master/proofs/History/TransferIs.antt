@@ -19,7 +19,6 @@ use Rattle.master.specs.Write.{touchesOpen, rewritten}
 use Rattle.master.specs.Byte.{withByte}
 use Rattle.master.specs.Seq.{Seq, ∅, _▹_}
 use Rattle.master.specs.Acts.{wrote, took}
-use Rattle.master.specs.Write.{Value}
 use Rattle.master.specs.Schedule.{Scheduled, act}
 use Rattle.master.specs.History.{writes, opens, closes, openAfter, gotBy, gotAfter}
 use Rattle.master.specs.Answering.{dueAfter}
@@ -28,6 +27,7 @@ use Rattle.master.proofs.History.Opening.{open-new, open-kept}
 use Rattle.master.proofs.History.Computed.{hits, rewrittenAfter, rewritten-new, rewritten-on}
 use Rattle.master.proofs.History.Quiet.{isQuiet, got-quiet, due-quiet, rewritten-quiet}
 use Rattle.master.proofs.History.NineBytes.{nineOf, nine-snoc, nine-set, nine-at}
+use Rattle.master.specs.Put.{Value}
 
 -- the bytes of the open transfer: those due where the master sends, and else those that came
 abbrev pub heldBytes : List ℕ → Seq Scheduled → List ℕ

@@ -10,13 +10,13 @@ use Rattle.master.specs.Write.{marked}
 use Rattle.master.specs.Seq.{Seq, _▹_}
 use Rattle.master.specs.Run.{Held, held}
 use Rattle.master.specs.Acts.{wrote}
-use Rattle.master.specs.Write.{Value, withValue}
 use Rattle.master.specs.Schedule.{Scheduled, act, planBy, planAfter}
 use Rattle.master.specs.History.{closes}
 use Rattle.master.specs.Answering.{messageAfter, countedAfter}
 use Rattle.master.proofs.History.FramesAre.{frames-wrote}
 use Rattle.master.proofs.History.TransferIs.{transfer-wrote}
 use Rattle.master.proofs.History.Agrees.{Agrees}
+use Rattle.master.specs.Put.{Value, withValue}
 
 pub agrees-wrote : (t : List ℕ) → RightTable t → (h : Seq Scheduled) (x : Held) → Agrees t h x → (y : Scheduled) (s : ℕ) (v : Value) → act y ≡ wrote s v
     → s < signalCount t → stateFits t (marked t s (x .state)) ≡ true
