@@ -9,11 +9,12 @@ use borrow.Author.Tests.{ltb-true, leb-true, eqb-true}
 use lib.Dec.{eqb}
 use Rattle.cluster.specs.Check.{fault, faults, entryFaults}
 use Rattle.cluster.specs.Columns.{follows, targetRight, entryColumns}
-use Rattle.cluster.specs.Read.{due, leading}
+use Rattle.cluster.specs.Read.{EntryRead, due, leading}
 use Rattle.cluster.specs.Right.{entryRight, records}
 use Rattle.cluster.specs.Table.{mostFrames, mostEntries, counted, frameCount, listCount, entryCount, entryWords, entryAt}
 use Rattle.cluster.specs.Table.{entrySchedule, entryKind, entryTarget, entryDelay}
 use Rattle.cluster.specs.declared.Verdict.the-variants.{Accepted}
+use Rattle.cluster.specs.declared.entries.Words.{Words}
 use Rattle.cluster.proofs.Clauses.{within-high}
 use Rattle.cluster.proofs.Counting.{counted-none, counted-next, follows-high}
 use Rattle.cluster.proofs.Scan.{Agrees, leading-all, all-there, halt-record, next-record, no-record}
@@ -66,6 +67,11 @@ module _ (t : List ℕ) (e schedules : ℕ) where
 
   abbrev pub entryRead : List Bool
   entryRead = entryColumns (frameCount t) (listCount t) (follows schedules scheduleRead) kindRead targetRead delayRead
+
+  -- what the check computes of the words read is that list
+  pub seen-read : (w : Words) → EntryRead t (entryAt t e) w → (frames lists : ℕ) (up : Bool) → frames ≡ frameCount t → lists ≡ listCount t
+      → up ≡ follows schedules (w .schedule) → entryColumns frames lists up (w .kind) (w .target) (w .delay) ≡ entryRead
+  seen-read w read frames lists up ef el eu = rw (ef, el, eu, read .schedule-is, read .kind-is, read .target-is, read .delay-is)
 
   module _ (turn : Turn t e schedules) where
     agrees : Agrees t (entryAt t e) 0 entryRead (entryRight t e)

@@ -34,6 +34,11 @@ module _ (t : List ℕ) (f : ℕ) (used : List Bool) where
   abbrev pub frameRead : List Bool
   frameRead = frameColumns (getD used (due t (frameAt f)) false) (due t (frameAt f)) (due t (frameAt f + 1)) (due t (frameAt f + 2))
 
+  -- what the check computes of the words read is that list
+  pub seen-read : (at id bytes flags : ℕ) (mark : Bool) → at ≡ frameAt f → mark ≡ getD used id false → id ≡ due t at → bytes ≡ due t (at + 1)
+      → flags ≡ due t (at + 2) → frameColumns mark id bytes flags ≡ frameRead
+  seen-read at id bytes flags mark ea em ei eb ef = rw (em, ei, eb, ef, ea)
+
   module _ (p : Passed t f used) (h : f < frameCount t) where
     agrees : Agrees t (frameAt f) 0 frameRead (frameRight t f)
     unfolding frameColumns frameRight identifier frameLength flags

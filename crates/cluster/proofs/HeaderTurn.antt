@@ -1,6 +1,6 @@
 -- The check of the header: the words read are the fields.
 use Prim.Native.Nat.{ℕ}
-use mathlib.Core.Path.{refl}
+use mathlib.Core.Path.{_≡_, refl}
 use mathlib.Core.Bool.{Bool}
 use mathlib.Core.List.{List}
 use native.Mathlib.Omega.{arith}
@@ -13,6 +13,11 @@ use Rattle.cluster.proofs.Scan.{Agrees}
 
 abbrev pub headerRead : List ℕ → List Bool
 headerRead t = headerColumns (due t 0) (due t 1) (due t 2) (due t 3)
+
+-- what the check computes of the words read is that list
+pub seen-read : (t : List ℕ) (frames signals members entries : ℕ) → frames ≡ due t 0 → signals ≡ due t 1 → members ≡ due t 2 → entries ≡ due t 3
+    → headerColumns frames signals members entries ≡ headerRead t
+seen-read t frames signals members entries ef es em ee = rw (ef, es, em, ee)
 
 pub header-agrees : (t : List ℕ) → Agrees t 0 0 (headerRead t) (headerRight t)
 unfolding headerColumns headerRight frameCount signalCount memberCount entryCount

@@ -46,6 +46,12 @@ module _ (t : List ℕ) (m lists : ℕ) (listed : List Bool) where
   abbrev pub memberRead : List Bool
   memberRead = memberColumns (frameCount t) (follows lists listRead) (published t frameRead) (getD listed frameRead false) frameRead
 
+  -- what the check computes of the words read is that list
+  pub seen-read : (list frame frames : ℕ) (up publishes mark : Bool) → list ≡ listRead → frame ≡ frameRead → frames ≡ frameCount t
+      → up ≡ follows lists list → publishes ≡ published t frame → mark ≡ getD listed frame false
+      → memberColumns frames up publishes mark frame ≡ memberRead
+  seen-read list frame frames up publishes mark el ef en eu ep em = rw (en, eu, ep, em, el, ef)
+
   module _ (turn : Turn t m lists listed) where
     agrees : Agrees t (memberAt t m) 0 memberRead (memberRight t m)
     unfolding memberColumns memberRight memberList memberFrame

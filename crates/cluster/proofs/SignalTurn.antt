@@ -13,11 +13,12 @@ use Rattle.wire.proofs.Tests.{whether}
 use Rattle.signal.specs.Signal.{inside}
 use Rattle.cluster.specs.Check.{fault, faults, signalFaults}
 use Rattle.cluster.specs.Columns.{signalWidthRight, startLimit, signalColumns}
-use Rattle.cluster.specs.Read.{due, leading, hits}
+use Rattle.cluster.specs.Read.{SignalRead, due, leading, hits, signalSeen}
 use Rattle.cluster.specs.Right.{overlaps, signalRight, records}
 use Rattle.cluster.specs.Table.{mostFrames, frameCount, frameLength, signalCount, signalWords, signalAt}
 use Rattle.cluster.specs.Table.{signalFrame, signalKind, signalOffset, signalWidth, signalStart}
 use Rattle.cluster.specs.declared.Verdict.the-variants.{Accepted}
+use Rattle.cluster.specs.declared.signals.Words.{Words}
 use Rattle.cluster.proofs.BitMarks.{BitMarks, none-marked, bits-marked, overlap-is}
 use Rattle.cluster.proofs.Scan.{Agrees, leading-all, all-there, halt-record, next-record, no-record}
 use Rattle.cluster.proofs.Widths.{offset-below, width-says, start-limit-high}
@@ -65,6 +66,12 @@ module _ (t : List ℕ) (s : ℕ) (marks : List ℕ) where
 
   abbrev pub signalRead : List Bool
   signalRead = signalColumns (frameCount t) bitsRead hitRead frameRead kindRead offsetRead widthRead startRead
+
+  -- what the check computes of the words read is that list
+  pub seen-read : (w : Words) → SignalRead t (signalAt t s) w → (frames bits occupied : ℕ) → frames ≡ frameCount t → bits ≡ 8 * frameLength t (w .frame)
+      → occupied ≡ getD marks (w .frame) 0 → signalSeen frames bits occupied w ≡ signalRead
+  seen-read w read frames bits occupied ef eb eo =
+      rw (ef, eb, eo, read .frame-is, read .kind-is, read .offset-is, read .width-is, read .start-is)
 
   -- a field that is right lies in a frame of the table, and its bits are free
   pub record Placed : Type 0 where
@@ -143,12 +150,21 @@ module _ (t : List ℕ) (s : ℕ) (marks : List ℕ) where
           let there = all-there t (signalAt t s) 0 signalRead (signalRight t s) agrees (leading-all signalRead right) in
           (there .0, there .1 .1 .0, there .1 .1 .1 .0)
 
-      pub passes : (r : ℕ) → ((j : ℕ) → bit r j ≡ (bit (getD marks frameRead 0) j || inside offsetRead widthRead j)) → Passed t (s + 1) (set marks frameRead r)
+      more : (r : ℕ) → ((j : ℕ) → bit r j ≡ (bit (getD marks frameRead 0) j || inside offsetRead widthRead j)) → Passed t (s + 1) (set marks frameRead r)
       unfolding signalColumns
-      passes r put = (
+      more r put = (
         omega arith,
         rw (are .0)
             (bits-marked t s marks (turn .0 .1) (omega (arith, are, placed .fits)) (omega (arith, are, placed .below)) r
             (λ j. rw (are .0, are .1, are .2) at (put j))),
         turn .0 .2 ∙ next-record t (signalRight t) s (signalCount t) (signalAt t s) signalRead (signalAt t (s + 1)) (turn .1) agrees right (omega arith),
       )
+
+      module _ (w : Words) (read : SignalRead t (signalAt t s) w) (occupied : ℕ) (eo : occupied ≡ getD marks (w .frame) 0) where
+        pub free-read : ((1 ≤ w .width) × (w .offset + w .width ≤ 64)) × (hits occupied (w .offset) (w .width) ≡ false)
+        free-read = rw (eo, read .frame-is, read .offset-is, read .width-is) ((placed .wide, placed .fits), placed .free)
+
+        pub passes : (r : ℕ) → ((j : ℕ) → bit r j ≡ (bit occupied j || inside (w .offset) (w .width) j)) → Passed t (s + 1) (set marks (w .frame) r)
+        passes r put =
+            rw (read .frame-is)
+            (more r (λ j. rw (eo, read .frame-is, read .offset-is, read .width-is) at (put j)))

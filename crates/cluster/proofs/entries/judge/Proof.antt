@@ -1,13 +1,13 @@
 -- `cluster::entries::judge` meets its contract. The invariant: the entries before are passed, and their schedules counted.
 use borrow.Author.Needs.{needs}
 use Prim.Native.Nat.{ℕ, _+_, _-_, _*_, _<_}
-use mathlib.Core.Path.{_≡_, _∙_}
+use mathlib.Core.Path.{_≡_, _∙_, ap}
 use mathlib.Core.List.{List}
 use native.Mathlib.Omega.{arith}
 use Rattle.cluster.specs.Columns.{entryColumns}
-use Rattle.cluster.specs.Read.{due, leading}
+use Rattle.cluster.specs.Read.{EntryRead, leading}
 use Rattle.cluster.specs.Table.{entryCount, entryWords, entryAt}
-use Rattle.cluster.proofs.EntryTurn.{Passed, Turn, none-passed, all-passed, entryRead, stops, passes}
+use Rattle.cluster.proofs.EntryTurn.{Passed, Turn, none-passed, all-passed, entryRead, seen-read, stops, passes}
 use Rattle.cluster.proofs.entries.judge.Statement.{statement}
 use Rattle.cluster.proofs.entries.judge.Tie as tie
 
@@ -43,11 +43,14 @@ turn c =
 here : (c : Judged) → c .before .before .before .before .before .before .before .entry-at .result + entryWords * entry c ≡ entryAt (table c) (entry c)
 here c = omega (arith, c .before .before .before .before .before .before .before .entry-at .ensures)
 
-schedule-is : (c : Judged) → c .before .before .before .read .result .schedule ≡ due (table c) (entryAt (table c) (entry c))
-schedule-is c = rw (here c) at (c .before .before .before .read .ensures .schedule-is)
+read-at : (c : Judged) → EntryRead (table c) (entryAt (table c) (entry c)) (c .before .before .before .read .result)
+read-at c = rw (here c) at (c .before .before .before .read .ensures)
 
 seen : (c : Judged) → c .right-words .result ≡ leading (entryRead (table c) (entry c) (schedules c))
-seen c = cc (here c)
+seen c =
+    let lists = c .before .before .before .before .before .before .before .before .lists .ensures .0 in
+    let up = c .before .follows .ensures in
+    c .right-words .ensures ∙ ap leading (seen-read (table c) (entry c) (schedules c) _ (read-at c) _ _ _ (c .before .before .count2 .ensures) lists up)
 
 loop-holds : tie.Need-loop-holds Inv-loop μ-loop
 loop-holds c = none-passed (c .before .before .before .before .args .t .now)
@@ -67,7 +70,7 @@ unfolding entryColumns
 loop-again c =
     let d : Judged = c .before .before in
     let right = seen d in
-    rw (schedule-is d) (passes (table d) (entry d) (schedules d) (turn d) (omega arith))
+    rw (read-at d .schedule-is) (passes (table d) (entry d) (schedules d) (turn d) (omega arith))
 
 returns-2 : tie.Need-returns-2 Inv-loop μ-loop
 returns-2 c = all-passed _ _ _ (c .before .loop .inv) (omega arith)

@@ -1,14 +1,14 @@
 -- `cluster::frames::judge` meets its contract. The invariant: the frames before are passed, and their identifiers marked.
 use borrow.Author.Needs.{needs}
 use Prim.Native.Nat.{ℕ, _-_}
-use mathlib.Core.Path.{_≡_, _∙_}
+use mathlib.Core.Path.{_≡_, _∙_, ap}
 use mathlib.Core.Bool.{Bool}
 use mathlib.Core.List.{List}
 use native.Mathlib.Omega.{arith}
 use Rattle.cluster.specs.Columns.{frameColumns}
 use Rattle.cluster.specs.Read.{due, leading}
 use Rattle.cluster.specs.Table.{frameCount, frameAt}
-use Rattle.cluster.proofs.FrameTurn.{Passed, none-passed, all-passed, frameRead, stops, identifier-below, passes}
+use Rattle.cluster.proofs.FrameTurn.{Passed, none-passed, all-passed, frameRead, seen-read, stops, identifier-below, passes}
 use Rattle.cluster.proofs.frames.judge.Statement.{statement}
 use Rattle.cluster.proofs.frames.judge.Tie as tie
 
@@ -39,7 +39,14 @@ id-is : (c : Judged) → c .before .before .before .before .before .due .result 
 id-is c = rw (c .before .before .before .before .before .before .frame-at .ensures) at (c .before .before .before .before .before .due .ensures .0)
 
 seen : (c : Judged) → c .right-words .result ≡ leading (frameRead (table c) (frame c) (marks c))
-seen c = cc
+seen c =
+    let bytes = c .before .before .due2 .ensures .0 in
+    let flags = c .before .due3 .ensures .0 in
+    let id = c .before .before .before .before .before .due .ensures .0 in
+    let at = c .before .before .before .before .before .before .frame-at .ensures in
+    let mark = c .before .before .before .is-marked .ensures in
+    c .right-words .ensures
+    ∙ ap leading (seen-read (table c) (frame c) (marks c) _ _ _ _ _ at mark id bytes flags)
 
 loop-holds : tie.Need-loop-holds Inv-loop μ-loop
 loop-holds c = none-passed (c .before .before .args .t .now)

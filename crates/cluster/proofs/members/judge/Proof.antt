@@ -2,14 +2,14 @@
 -- counted.
 use borrow.Author.Needs.{needs}
 use Prim.Native.Nat.{ℕ, _+_, _-_, _*_}
-use mathlib.Core.Path.{_≡_, _∙_}
+use mathlib.Core.Path.{_≡_, _∙_, ap}
 use mathlib.Core.Bool.{Bool}
 use mathlib.Core.List.{List}
 use native.Mathlib.Omega.{arith}
 use Rattle.cluster.specs.Columns.{memberColumns}
 use Rattle.cluster.specs.Read.{due, leading}
 use Rattle.cluster.specs.Table.{memberCount, memberWords, memberAt}
-use Rattle.cluster.proofs.MemberTurn.{Passed, Turn, none-passed, all-passed, memberRead, stops, frame-below, passes}
+use Rattle.cluster.proofs.MemberTurn.{Passed, Turn, none-passed, all-passed, memberRead, seen-read, stops, frame-below, passes}
 use Rattle.cluster.proofs.members.judge.Statement.{statement}
 use Rattle.cluster.proofs.members.judge.Tie as tie
 
@@ -57,7 +57,13 @@ turn c =
     (passed c, omega arith, known .0, known .2)
 
 seen : (c : Judged) → c .right-words .result ≡ leading (memberRead (table c) (member c) (lists c) (marks c))
-seen c = cc (here c)
+seen c =
+    let count = c .before .before .before .before .before .count2 .ensures in
+    let up = c .before .before .before .before .follows .ensures in
+    let publishes = c .before .before .before .publishes .ensures in
+    let mark = c .before .is-marked .ensures in
+    c .right-words .ensures
+    ∙ ap leading (seen-read (table c) (member c) (lists c) (marks c) _ _ _ _ _ _ (list-is c) (frame-is c) count up publishes mark)
 
 loop-holds : tie.Need-loop-holds Inv-loop μ-loop
 loop-holds c = none-passed (c .before .before .before .args .t .now)

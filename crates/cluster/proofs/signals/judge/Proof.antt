@@ -1,13 +1,13 @@
 -- `cluster::signals::judge` meets its contract. The invariant: the signals before are passed, and their bits marked.
 use borrow.Author.Needs.{needs}
 use Prim.Native.Nat.{ℕ, _+_, _-_, _*_, _≤_}
-use mathlib.Core.Path.{_≡_, _∙_}
+use mathlib.Core.Path.{_≡_, _∙_, ap}
 use mathlib.Core.List.{List}
 use native.Mathlib.Omega.{arith}
 use Rattle.cluster.specs.Columns.{signalColumns}
-use Rattle.cluster.specs.Read.{due, leading}
+use Rattle.cluster.specs.Read.{SignalRead, leading}
 use Rattle.cluster.specs.Table.{signalCount, signalWords, signalAt}
-use Rattle.cluster.proofs.SignalTurn.{Passed, Turn, none-passed, all-passed, signalRead, stops, Placed, placed, passes}
+use Rattle.cluster.proofs.SignalTurn.{Passed, Turn, none-passed, all-passed, signalRead, seen-read, stops, Placed, placed, free-read, passes}
 use Rattle.cluster.proofs.signals.judge.Statement.{statement}
 use Rattle.cluster.proofs.signals.judge.Tie as tie
 
@@ -44,17 +44,14 @@ turn c =
 here : (c : Judged) → c .before .before .before .before .before .before .before .before .before .signal-at .result + signalWords * signal c ≡ signalAt (table c) (signal c)
 here c = omega (arith, c .before .before .before .before .before .before .before .before .before .signal-at .ensures)
 
-frame-is : (c : Judged) → c .before .before .before .before .before .read .result .frame ≡ due (table c) (signalAt (table c) (signal c))
-frame-is c = rw (here c) at (c .before .before .before .before .before .read .ensures .frame-is)
-
-offset-is : (c : Judged) → c .before .before .before .before .before .read .result .offset ≡ due (table c) (signalAt (table c) (signal c) + 2)
-offset-is c = rw (here c) at (c .before .before .before .before .before .read .ensures .offset-is)
-
-width-is : (c : Judged) → c .before .before .before .before .before .read .result .width ≡ due (table c) (signalAt (table c) (signal c) + 3)
-width-is c = rw (here c) at (c .before .before .before .before .before .read .ensures .width-is)
+read-at : (c : Judged) → SignalRead (table c) (signalAt (table c) (signal c)) (c .before .before .before .before .before .read .result)
+read-at c = rw (here c) at (c .before .before .before .before .before .read .ensures)
 
 seen : (c : Judged) → c .right-words .result ≡ leading (signalRead (table c) (signal c) (marks c))
-seen c = cc (here c)
+seen c =
+    let bits = c .before .bits .ensures in
+    c .right-words .ensures
+    ∙ ap leading (seen-read (table c) (signal c) (marks c) _ (read-at c) _ _ _ (c .before .before .count2 .ensures) bits (c .before .before .before .bits-of .ensures))
 
 place : (c : Judged) → signalWords ≤ c .right-words .result → Placed (table c) (signal c) (marks c)
 place c right = placed (table c) (signal c) (marks c) (turn c) (omega (arith, seen c))
@@ -81,29 +78,25 @@ returns c =
 with-bits-requires : tie.Need-with-bits-requires Inv-loop μ-loop
 with-bits-requires c κs =
     let d : Judged = c .before in
-    let p = place d (omega arith) in (
-      (omega (arith, width-is d, p .wide), omega (arith, offset-is d, width-is d, p .fits)),
-      cc (d .before .before .before .bits-of .ensures, frame-is d, offset-is d, width-is d, p .free),
-    )
+    let right = seen d in
+    free-read (table d) (signal d) (marks d) (turn d) (omega arith) _ (read-at d) _ (d .before .before .before .bits-of .ensures)
 
 mul-occupied : tie.Need-mul-occupied Inv-loop μ-loop
 mul-occupied c =
     let d : Judged = c .before .before in
-    omega (arith, frame-is d, place d (omega arith) .below)
+    omega (arith, read-at d .frame-is, place d (omega arith) .below)
 
 array-write-occupied : tie.Need-array-write-occupied Inv-loop μ-loop
 array-write-occupied c =
     let d : Judged = c .before .before in
-    omega (arith, frame-is d, place d (omega arith) .below, passed d .1 .0)
+    omega (arith, read-at d .frame-is, place d (omega arith) .below, passed d .1 .0)
 
 loop-again : tie.Need-loop-again Inv-loop μ-loop
 unfolding signalColumns
 loop-again c =
     let d : Judged = c .before .before in
     let right = seen d in
-    rw (frame-is d)
-    (passes (table d) (signal d) (marks d) (turn d) (omega arith) (c .with-bits .result)
-    (λ j. cc (d .before .before .before .bits-of .ensures, frame-is d, offset-is d, width-is d, c .with-bits .ensures j)))
+    passes (table d) (signal d) (marks d) (turn d) (omega arith) _ (read-at d) _ (d .before .before .before .bits-of .ensures) _ (c .with-bits .ensures)
 
 returns-2 : tie.Need-returns-2 Inv-loop μ-loop
 returns-2 c = all-passed _ _ (c .before .loop .occupied) (c .before .loop .inv) (omega arith)

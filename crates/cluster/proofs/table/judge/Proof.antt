@@ -1,17 +1,20 @@
 -- `cluster::table::judge` meets its contract: the words read are the fields.
 use native.Mathlib.Omega.{arith}
-use mathlib.Core.Path.{_≡_, sym, _∙_}
+use mathlib.Core.Path.{_≡_, sym, _∙_, ap}
 use Rattle.cluster.specs.Columns.{headerColumns}
 use Rattle.cluster.specs.Read.{leading}
 use Rattle.cluster.specs.Right.{headerRight}
-use Rattle.cluster.proofs.HeaderTurn.{headerRead, header-agrees}
+use Rattle.cluster.proofs.HeaderTurn.{headerRead, seen-read, header-agrees}
 use Rattle.cluster.proofs.Scan.{halt-words, pass-words}
 use borrow.Author.Needs.{needs}
 use Rattle.cluster.proofs.table.judge.Statement.{statement}
 use Rattle.cluster.proofs.table.judge.Tie as tie
 
 seen : (c : tie.After-right-words) → c .right-words .result ≡ leading (headerRead (c .before .before .before .before .before .before .args .t .now))
-seen c = cc
+seen c =
+    let frames = c .before .before .before .before .due .ensures .0 in
+    let signals = c .before .before .before .due2 .ensures .0 in
+    c .right-words .ensures ∙ ap leading (seen-read _ _ _ _ _ frames signals (c .before .before .due3 .ensures .0) (c .before .due4 .ensures .0))
 
 returns : tie.Need-returns
 unfolding headerColumns
