@@ -19,27 +19,6 @@ abbrev μ-loop : tie.MeasureT-loop
 loop-holds : tie.Need-loop-holds Inv-loop μ-loop
 loop-holds c = (omega arith, refl, gotten-none _ _)
 
-add-get-at : tie.Need-add-get-at Inv-loop μ-loop
-add-get-at c = search needs
-
-cast-get-at : tie.Need-cast-get-at Inv-loop μ-loop
-cast-get-at c = search needs
-
-get-at-requires : tie.Need-get-at-requires Inv-loop μ-loop
-get-at-requires c κs = search needs
-
-cast-values : tie.Need-cast-values Inv-loop μ-loop
-cast-values c = search needs
-
-slice-write-values : tie.Need-slice-write-values Inv-loop μ-loop
-slice-write-values c = search needs
-
-add-i : tie.Need-add-i Inv-loop μ-loop
-add-i c = search needs
-
-loop-less : tie.Need-loop-less Inv-loop μ-loop
-loop-less c = search needs
-
 loop-again : tie.Need-loop-again Inv-loop μ-loop
 loop-again c =
     let o = c .before .before .before .before .before .args .offset in
@@ -60,17 +39,5 @@ returns c = c .before .loop .inv .2 ∙ gotten-all _ _ _ (omega arith)
 pub get-array-spec : {M : Type 1} → statement M
 get-array-spec =
     tie.close
-    (tie.spec
-    Inv-loop
-    μ-loop
-    loop-holds
-    add-get-at
-    cast-get-at
-    get-at-requires
-    cast-values
-    slice-write-values
-    add-i
-    loop-less
-    loop-again
-    same-length
-    returns)
+    (tie.spec Inv-loop μ-loop loop-holds (λ c. search needs) (λ c. search needs) (λ c κs. search needs) (λ c. search needs)
+    (λ c. search needs) (λ c. search needs) (λ c. search needs) loop-again same-length returns)

@@ -21,26 +21,8 @@ loop-holds : tie.Need-loop-holds Inv-loop μ-loop
 loop-holds c =
     (omega arith, sym (put-none _ _ _ (λ i. c .before .slice-known .given i .fits)))
 
-add-put-at : tie.Need-add-put-at Inv-loop μ-loop
-add-put-at c = search needs
-
-cast-put-at : tie.Need-cast-put-at Inv-loop μ-loop
-cast-put-at c = search needs
-
-shared-slice-read-put-at : tie.Need-shared-slice-read-put-at Inv-loop μ-loop
-shared-slice-read-put-at c = search needs
-
 cast-put-at-2 : tie.Need-cast-put-at-2 Inv-loop μ-loop
 cast-put-at-2 c = omega (arith, c .shared-slice-known2 .given (c .before .before .before .loop .i))
-
-put-at-requires : tie.Need-put-at-requires Inv-loop μ-loop
-put-at-requires c κs = search needs
-
-add-i : tie.Need-add-i Inv-loop μ-loop
-add-i c = search needs
-
-loop-less : tie.Need-loop-less Inv-loop μ-loop
-loop-less c = search needs
 
 loop-again : tie.Need-loop-again Inv-loop μ-loop
 loop-again c =
@@ -59,17 +41,5 @@ returns c = let e : c .before .loop .i ≡ length (c .before .before .before .be
 pub put-array-spec : {M : Type 1} → statement M
 put-array-spec =
     tie.close
-    (tie.spec
-    Inv-loop
-    μ-loop
-    loop-holds
-    add-put-at
-    cast-put-at
-    shared-slice-read-put-at
-    cast-put-at-2
-    put-at-requires
-    add-i
-    loop-less
-    loop-again
-    same-length
-    returns)
+    (tie.spec Inv-loop μ-loop loop-holds (λ c. search needs) (λ c. search needs) (λ c. search needs) cast-put-at-2
+    (λ c κs. search needs) (λ c. search needs) (λ c. search needs) loop-again same-length returns)

@@ -19,27 +19,15 @@ Inv-loop t n end e₀ e =
 abbrev μ-loop : tie.MeasureT-loop
 μ-loop t n end e₀ e = end - e
 
-count-requires : tie.Need-count-requires Inv-loop μ-loop
-count-requires c κs = search needs
-
 loop-holds : tie.Need-loop-holds Inv-loop μ-loop
 unfolding firstEntry
 loop-holds c = (c .count .ensures, rw (c .count .ensures, sub-zero) refl)
-
-schedule-requires : tie.Need-schedule-requires Inv-loop μ-loop
-schedule-requires c κs = search needs
 
 returns : tie.Need-returns Inv-loop μ-loop
 returns c =
     sym
     (c .before .before .before .loop .inv .1
     ∙ right _ _ _ (c .before .before .loop-test .taken) (eq-eqb _ _ (sym (c .before .schedule .ensures) ∙ c .if1 .taken)))
-
-add-e : tie.Need-add-e Inv-loop μ-loop
-add-e c = search needs
-
-loop-less : tie.Need-loop-less Inv-loop μ-loop
-loop-less c = search needs
 
 loop-again : tie.Need-loop-again Inv-loop μ-loop
 loop-again c = (
@@ -54,14 +42,5 @@ returns-2 c = sym (c .before .loop .inv .1 ∙ ended _ _ _ (c .loop-test .left))
 pub first-spec : {M : Type 1} → statement M
 first-spec =
     tie.close
-    (tie.spec
-    Inv-loop
-    μ-loop
-    count-requires
-    loop-holds
-    schedule-requires
-    returns
-    add-e
-    loop-less
-    loop-again
-    returns-2)
+    (tie.spec Inv-loop μ-loop (λ c κs. search needs) loop-holds (λ c κs. search needs) returns (λ c. search needs)
+    (λ c. search needs) loop-again returns-2)

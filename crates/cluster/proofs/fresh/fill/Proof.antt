@@ -16,25 +16,10 @@ Inv-loop t bytes₀ n s₀ bytes s = (s ≤ n) × (bytes ≡ filled t (length by
 abbrev μ-loop : tie.MeasureT-loop
 μ-loop t bytes₀ n s₀ bytes s = n - s
 
-set-bits-requires : tie.Need-set-bits-requires Inv-loop μ-loop
-set-bits-requires c κs = search needs
-
-count-requires : tie.Need-count-requires Inv-loop μ-loop
-count-requires c κs = search needs
-
 loop-holds : tie.Need-loop-holds Inv-loop μ-loop
 loop-holds c =
     let size = length (c .before .before .before .before .before .before .before .args .bytes .now) in
     (omega arith, filled-none _ _ size (c .before .before .before .set-bits .ensures))
-
-put-start-requires : tie.Need-put-start-requires Inv-loop μ-loop
-put-start-requires c κs = search needs
-
-add-s : tie.Need-add-s Inv-loop μ-loop
-add-s c = search needs
-
-loop-less : tie.Need-loop-less Inv-loop μ-loop
-loop-less c = search needs
 
 loop-again : tie.Need-loop-again Inv-loop μ-loop
 loop-again c =
@@ -51,15 +36,5 @@ returns c =
 pub fill-spec : {M : Type 1} → statement M
 fill-spec =
     tie.close
-    (tie.spec
-    Inv-loop
-    μ-loop
-    set-bits-requires
-    count-requires
-    loop-holds
-    put-start-requires
-    add-s
-    loop-less
-    loop-again
-    same-length
-    returns)
+    (tie.spec Inv-loop μ-loop (λ c κs. search needs) (λ c κs. search needs) loop-holds (λ c κs. search needs)
+    (λ c. search needs) (λ c. search needs) loop-again same-length returns)

@@ -15,21 +15,6 @@ Inv-loop from bytes total₀ i₀ total i = (i ≤ length bytes) × (sum from by
 abbrev μ-loop : tie.MeasureT-loop
 μ-loop from bytes total₀ i₀ total i = length bytes - i
 
-loop-holds : tie.Need-loop-holds Inv-loop μ-loop
-loop-holds c = search needs
-
-shared-slice-read-with-carry : tie.Need-shared-slice-read-with-carry Inv-loop μ-loop
-shared-slice-read-with-carry c = search needs
-
-with-carry-requires : tie.Need-with-carry-requires Inv-loop μ-loop
-with-carry-requires c κs = search needs
-
-add-i : tie.Need-add-i Inv-loop μ-loop
-add-i c = search needs
-
-loop-less : tie.Need-loop-less Inv-loop μ-loop
-loop-less c = search needs
-
 loop-again : tie.Need-loop-again Inv-loop μ-loop
 loop-again c = (omega arith, c .before .before .before .loop .inv .1 ∙ sum-step _ _ _ (c .before .before .loop-test .taken) ∙ simp (c .with-carry .ensures))
 
@@ -39,13 +24,5 @@ returns c = sym (c .before .loop .inv .1 ∙ sum-end _ _ _ (c .loop-test .left))
 pub sum-spec : {M : Type 1} → statement M
 sum-spec =
     tie.close
-    (tie.spec
-    Inv-loop
-    μ-loop
-    loop-holds
-    shared-slice-read-with-carry
-    with-carry-requires
-    add-i
-    loop-less
-    loop-again
-    returns)
+    (tie.spec Inv-loop μ-loop (λ c. search needs) (λ c. search needs) (λ c κs. search needs) (λ c. search needs)
+    (λ c. search needs) loop-again returns)
