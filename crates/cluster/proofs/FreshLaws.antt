@@ -18,8 +18,8 @@ use Rattle.cluster.specs.Check.{RightTable}
 use Rattle.cluster.specs.Table.{frameCount, signalCount, signalWidth, signalStart, isArray}
 use Rattle.cluster.specs.Fresh.{arrayLength, putStart, filled, freshBytes}
 use Rattle.cluster.specs.Places.{signalPlace, occupies}
-use Rattle.cluster.proofs.DisjointSignals.{places-apart}
-use Rattle.cluster.proofs.Occupied.{not-occupied}
+use Rattle.cluster.proofs.DisjointSignals.{other-bits}
+use Rattle.cluster.proofs.Occupied.{occupies-from, not-occupied}
 use Rattle.cluster.proofs.PlaceLaws.{place-end, array-bits}
 use Rattle.cluster.proofs.SignalLaws.{scalar-width-high, scalar-start-below, array-width-whole, array-width-high, array-start-high}
 use Rattle.cluster.proofs.Starts.{startBytes, startWidth, startBit, array-start-width, scalar-start-width, array-start-bit, scalar-start-bit}
@@ -35,17 +35,19 @@ set-bit : (size j : ℕ) → j < 8 * size → bitAt (replicate size 255) j ≡ t
 unfolding bitAt
 set-bit size j h = rw (getD-replicate {A = ℕ} size (j / 8) 255 0 (omega arith)) (ones (j % 8) (omega arith))
 
+-- a start value changes no bit that is not its signal's
+start-outside : (t bs : List ℕ) (s j : ℕ) → occupies t s j ≡ false → bitAt (putStart t s bs) j ≡ bitAt bs j
+start-outside t bs s j h =
+    let w : startWidth t s ≤ signalWidth t s = start-within t s in
+    rw (start-is t s bs)
+    (bit-stays bs (signalPlace t s) (startWidth t s) (startBit t s) j (⊎-elim (λ a. inl a) (λ a. inr (omega arith)) (not-occupied t s j h)))
+
 -- a bit of none of the first n signals
 module _ (t : List ℕ) (size j : ℕ) (within : j < 8 * size) where
   free-bit : (n : ℕ) → ((s : ℕ) → s < n → occupies t s j ≡ false) → bitAt (filled t size n) j ≡ true
   unfolding filled
   free-bit zero free = set-bit size j within
-  free-bit (suc n) free =
-      let w : startWidth t n ≤ signalWidth t n = start-within t n in
-      rw (start-is t n (filled t size n))
-      (bit-stays (filled t size n) (signalPlace t n) (startWidth t n) (startBit t n) j
-      (⊎-elim (λ a. inl a) (λ a. inr (omega arith)) (not-occupied t n j (free n (omega arith))))
-      ∙ free-bit n (λ s h. free s (omega arith)))
+  free-bit (suc n) free = start-outside t (filled t size n) n j (free n (omega arith)) ∙ free-bit n (λ s h. free s (omega arith))
 
 -- "255 everywhere": every bit of no signal is 1
 pub fresh-free : (t : List ℕ) (j : ℕ) → j < 64 * frameCount t
@@ -78,9 +80,8 @@ module _ (t : List ℕ) (ok : RightTable t) where
   other-bit : (bs : List ℕ) (r s : ℕ) → r < signalCount t → s < signalCount t → (r ≡ s → ⊥) → (k : ℕ) → k < signalWidth t s
       → bitAt (putStart t r bs) (signalPlace t s + k) ≡ bitAt bs (signalPlace t s + k)
   other-bit bs r s hr hs n k b =
-      rw (start-is t r bs, start-wide r hr)
-      (bit-stays bs (signalPlace t r) (signalWidth t r) (startBit t r) (signalPlace t s + k)
-      (⊎-elim (λ a. inr (omega arith)) (λ a. inl (omega arith)) (places-apart t ok r s hr hs n)))
+      let j = signalPlace t s + k in
+      start-outside t bs r j (other-bits t ok s r j hs hr (λ e. n (sym e)) (occupies-from t s j (omega arith) (omega arith)))
 
   filled-bit : (n s : ℕ) → n ≤ signalCount t → s < n → (k : ℕ) → k < signalWidth t s
       → bitAt (filled t (8 * frameCount t) n) (signalPlace t s + k) ≡ startBit t s k

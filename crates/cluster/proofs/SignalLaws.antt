@@ -101,7 +101,3 @@ module _ (t : List ℕ) (ok : RightTable t) (s : ℕ) (h : s < signalCount t) wh
   pub array-start-high : isArray t s ≡ true → signalStart t s ≤ 255
   unfolding startLimit
   array-start-high k = let below : signalStart t s < 256 = rw k at start-right in omega arith
-
-  -- a signal has at least one bit
-  pub signal-width-low : 1 ≤ signalWidth t s
-  signal-width-low = width-right .1

@@ -1,6 +1,6 @@
 -- Laws of the values in the frame buffer of an accepted table: what is written is read, and nothing else changes.
 use Prim.Native.Nat.{ℕ, _+_, _*_, _^_, _<_, _≤_}
-use mathlib.Core.Path.{_≡_, refl}
+use mathlib.Core.Path.{_≡_, refl, sym, _∙_}
 use mathlib.Core.Bool.{Bool, true, false}
 use mathlib.Core.List.{List}
 use mathlib.Core.Logic.{inl, inr, ⊎-elim}
@@ -8,19 +8,20 @@ use native.Mathlib.Omega.{arith}
 use borrow.Author.Tests.{ltb-true, eqb-true, eqb-false}
 use lib.ListN.{length, getD}
 use Rattle.wire.specs.Bits.{bit, Bytes}
-use Rattle.signal.specs.Signal.{bitAt, putBits, scalarWidth, putScalar, putArray}
-use Rattle.signal.proofs.Inside.{order}
-use Rattle.signal.proofs.Laws.{Apart, bit-stays, byte-stays, put-alike, get-put-value, get-put-array, get-other, get-other-array}
-use Rattle.signal.proofs.PutBits.{put-length}
+use Rattle.signal.specs.Signal.{bitAt, putBits, scalarWidth, getScalar, putScalar, getArray, putArray}
+use Rattle.signal.proofs.BytesOf.{bytes-ext, byte-is}
+use Rattle.signal.proofs.Laws.{bit-stays, put-alike, get-put-value, get-put-array}
+use Rattle.signal.proofs.Numbers.{number-ext}
+use Rattle.signal.proofs.PutBits.{put-length, put-bytes}
 use Rattle.cluster.specs.Check.{RightTable}
 use Rattle.cluster.specs.Fresh.{arrayLength}
 use Rattle.cluster.specs.Places.{signalPlace, occupies}
 use Rattle.cluster.specs.Table.{frameCount, published, signalCount, signalFrame, signalWidth, isArray}
 use Rattle.cluster.specs.Values.{touches, signalPublished, valueFits, arrayFits, scalarValue, arrayValue, withScalar, withArray}
-use Rattle.cluster.proofs.DisjointSignals.{places-apart}
-use Rattle.cluster.proofs.Occupied.{not-occupied}
-use Rattle.cluster.proofs.PlaceLaws.{place-frame, place-end}
-use Rattle.cluster.proofs.SignalLaws.{signal-frame-below, scalar-width-high}
+use Rattle.cluster.proofs.DisjointSignals.{other-bits}
+use Rattle.cluster.proofs.Occupied.{occupies-from, not-occupied, occupies-other}
+use Rattle.cluster.proofs.PlaceLaws.{place-end}
+use Rattle.cluster.proofs.SignalLaws.{signal-frame-below, signal-end-high, scalar-width-high}
 use Rattle.cluster.proofs.Widths.{scalar-limit}
 
 -- ---- a write leaves as many bytes, for every table
@@ -85,6 +86,33 @@ array-write t bs s vs h = record {
   put = refl;
 }
 
+-- ---- a value goes by the signal's own bits alone
+
+-- that of a scalar
+pub scalar-own : (t bs cs : List ℕ) (s : ℕ) → ((j : ℕ) → occupies t s j ≡ true → bitAt bs j ≡ bitAt cs j) → scalarValue t bs s ≡ scalarValue t cs s
+unfolding scalarValue getScalar
+scalar-own t bs cs s same =
+    let place = signalPlace t s in
+    number-ext (scalarWidth (signalWidth t s)) (λ k. bitAt bs (place + k)) (λ k. bitAt cs (place + k))
+    (λ k b. same (place + k) (occupies-from t s (place + k) (omega arith) (omega arith)))
+
+-- and that of an array
+pub array-own : (t bs cs : List ℕ) (s : ℕ) → ((j : ℕ) → occupies t s j ≡ true → bitAt bs j ≡ bitAt cs j) → arrayValue t bs s ≡ arrayValue t cs s
+unfolding arrayValue getArray
+array-own t bs cs s same =
+    let place = signalPlace t s in
+    bytes-ext (arrayLength t s) (λ k. bitAt bs (place + k)) (λ k. bitAt cs (place + k))
+    (λ k b. same (place + k) (occupies-from t s (place + k) (omega arith) (omega (arith, array-within t s))))
+
+-- ---- what a write leaves as it was
+
+-- a signal has no bit of a frame that it does not touch
+untouched-bit : (t : List ℕ) → RightTable t → (s : ℕ) → s < signalCount t → (f : ℕ) → touches t s f ≡ false → (k : ℕ) → k < 64
+    → occupies t s (64 * f + k) ≡ false
+unfolding touches
+untouched-bit t ok s hs f h k b =
+    occupies-other t s (signal-end-high t ok s hs) f k b (λ e. eqb-false (signalFrame t s) f h (sym e))
+
 module _ (t bs : List ℕ) (s : ℕ) (after : List ℕ) (w : Write t bs s after) where
   outside : (j : ℕ) → occupies t s j ≡ false → bitAt after j ≡ bitAt bs j
   outside j h =
@@ -94,33 +122,21 @@ module _ (t bs : List ℕ) (s : ℕ) (after : List ℕ) (w : Write t bs s after)
 
   module _ (ok : RightTable t) (hs : s < signalCount t) where
     untouched : Bytes bs → (f : ℕ) → touches t s f ≡ false → (k : ℕ) → k < 8 → getD after (8 * f + k) 0 ≡ getD bs (8 * f + k) 0
-    unfolding touches signalPlace
     untouched hb f h k b =
-        let apart : signalFrame t s ≡ f → ⊥ = eqb-false (signalFrame t s) f h in
-        rw (w .put)
-        (byte-stays bs (signalPlace t s) (w .width) (w .bits) (8 * f + k) hb
-        (order (signalFrame t s) f
-        (λ a. inr (omega (arith, w .within, place-frame t ok s hs)))
-        (λ a. order f (signalFrame t s) (λ d. inl (omega arith)) (λ d. absurd (apart (omega arith))))))
+        let m = 8 * f + k in
+        let bytes : Bytes after = rw (w .put) (put-bytes bs (signalPlace t s) (w .width) (w .bits)) in
+        sym (byte-is after m bytes)
+        ∙ number-ext 8 (λ i. bitAt after (8 * m + i)) (λ i. bitAt bs (8 * m + i)) (same f h k b)
+        ∙ byte-is bs m hb
+      where
+        same : (f : ℕ) → touches t s f ≡ false → (k : ℕ) → k < 8 → (i : ℕ) → i < 8 → bitAt after (8 * (8 * f + k) + i) ≡ bitAt bs (8 * (8 * f + k) + i)
+        same f h k b i l =
+            let at : 64 * f + (8 * k + i) ≡ 8 * (8 * f + k) + i = omega arith in
+            outside (8 * (8 * f + k) + i) (rw at at (untouched-bit t ok s hs f h (8 * k + i) (omega arith)))
 
     module _ (r : ℕ) (hr : r < signalCount t) (n : r ≡ s → ⊥) where
-      other-apart : (m : ℕ) → m ≤ signalWidth t r → Apart (signalPlace t r) m (signalPlace t s) (w .width)
-      other-apart m b =
-          ⊎-elim (λ a. inl (omega arith)) (λ a. inr (omega (arith, w .within))) (places-apart t ok r s hr hs n)
-
-      other-scalar : scalarValue t after r ≡ scalarValue t bs r
-      unfolding scalarValue
-      other-scalar =
-          rw (w .put)
-          (get-other bs (signalPlace t s) (w .width) (w .bits) (signalPlace t r) (signalWidth t r)
-          (other-apart (scalarWidth (signalWidth t r)) (omega arith)))
-
-      other-array : arrayValue t after r ≡ arrayValue t bs r
-      unfolding arrayValue
-      other-array =
-          rw (w .put)
-          (get-other-array bs (signalPlace t s) (w .width) (w .bits) (signalPlace t r) (arrayLength t r)
-          (other-apart (8 * arrayLength t r) (array-within t r)))
+      other-bit : (j : ℕ) → occupies t r j ≡ true → bitAt after j ≡ bitAt bs j
+      other-bit j q = outside j (other-bits t ok r s j hr hs n q)
 
 -- ---- the laws of an accepted table
 
@@ -188,19 +204,19 @@ module _ (t : List ℕ) (ok : RightTable t) where
     -- a write of a scalar changes no other scalar
     pub other-scalar-scalar : (bs : List ℕ) (v : ℕ) → isArray t r ≡ false → isArray t s ≡ false
         → scalarValue t (withScalar t bs s v) r ≡ scalarValue t bs r
-    other-scalar-scalar bs v a b = other-scalar t bs s (withScalar t bs s v) (scalar-write t bs s v) ok hs r hr n
+    other-scalar-scalar bs v a b = scalar-own t (withScalar t bs s v) bs r (other-bit t bs s (withScalar t bs s v) (scalar-write t bs s v) ok hs r hr n)
 
     -- a write of a scalar changes no array
     pub other-array-scalar : (bs : List ℕ) (v : ℕ) → isArray t r ≡ true → isArray t s ≡ false
         → arrayValue t (withScalar t bs s v) r ≡ arrayValue t bs r
-    other-array-scalar bs v a b = other-array t bs s (withScalar t bs s v) (scalar-write t bs s v) ok hs r hr n
+    other-array-scalar bs v a b = array-own t (withScalar t bs s v) bs r (other-bit t bs s (withScalar t bs s v) (scalar-write t bs s v) ok hs r hr n)
 
     -- a write of an array changes no scalar
     pub other-scalar-array : (bs vs : List ℕ) → isArray t r ≡ false → isArray t s ≡ true → arrayFits t s vs ≡ true
         → scalarValue t (withArray t bs s vs) r ≡ scalarValue t bs r
-    other-scalar-array bs vs a b h = other-scalar t bs s (withArray t bs s vs) (array-write t bs s vs h) ok hs r hr n
+    other-scalar-array bs vs a b h = scalar-own t (withArray t bs s vs) bs r (other-bit t bs s (withArray t bs s vs) (array-write t bs s vs h) ok hs r hr n)
 
     -- a write of an array changes no other array
     pub other-array-array : (bs vs : List ℕ) → isArray t r ≡ true → isArray t s ≡ true → arrayFits t s vs ≡ true
         → arrayValue t (withArray t bs s vs) r ≡ arrayValue t bs r
-    other-array-array bs vs a b h = other-array t bs s (withArray t bs s vs) (array-write t bs s vs h) ok hs r hr n
+    other-array-array bs vs a b h = array-own t (withArray t bs s vs) bs r (other-bit t bs s (withArray t bs s vs) (array-write t bs s vs h) ok hs r hr n)

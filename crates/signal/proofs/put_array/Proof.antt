@@ -41,5 +41,5 @@ returns c = let e : c .before .loop .i ≡ length (c .before .before .before .be
 pub put-array-spec : {M : Type 1} → statement M
 put-array-spec =
     tie.close
-    (tie.spec Inv-loop μ-loop loop-holds (λ c. search needs) (λ c. search needs) (λ c. search needs)
-    cast-put-at-2 (λ c κs. search needs) (λ c. search needs) (λ c. search needs) loop-again same-length returns)
+    (tie.spec Inv-loop μ-loop loop-holds (λ c. search needs) (λ c. search needs) (λ c. search needs) cast-put-at-2
+    (λ c κs. search needs) (λ c. search needs) (λ c. search needs) loop-again same-length returns)

@@ -42,5 +42,5 @@ returns-2 c = sym (c .before .loop .inv .1 ∙ ended _ _ _ (c .loop-test .left))
 pub first-spec : {M : Type 1} → statement M
 first-spec =
     tie.close
-    (tie.spec Inv-loop μ-loop (λ c κs. search needs) loop-holds (λ c κs. search needs) returns
-    (λ c. search needs) (λ c. search needs) loop-again returns-2)
+    (tie.spec Inv-loop μ-loop (λ c κs. search needs) loop-holds (λ c κs. search needs) returns (λ c. search needs)
+    (λ c. search needs) loop-again returns-2)
