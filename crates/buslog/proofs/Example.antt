@@ -41,7 +41,8 @@ example = refl
 
 -- the built-in table is accepted
 pub built-in-right : RightTable builtIn
-unfolding builtIn judged faults surplus wordsRight records headerRight headerColumns frameRight frameColumns anyBelow table.word table.frameCount table.signalCount table.memberCount table.entryCount table.size table.identifier table.frameLength table.flags
+unfolding builtIn judged faults surplus wordsRight records headerRight headerColumns frameRight frameColumns anyBelow table.word
+    table.frameCount table.signalCount table.memberCount table.entryCount table.size table.identifier table.frameLength table.flags
 built-in-right = refl
 
 -- and taken, so no part of a log is refused under it

@@ -42,7 +42,10 @@ pub fn write(t: &[u16], number: u64, text: &[u8], out: &mut [u8]) -> Written
 // Reports under an accepted table.
 fn rows(t: &[u16], number: u64, text: &[u8], out: &mut [u8]) -> Written
     requires { ⌜ RightTable (now t) ⌝ }
-    ensures { λ r. ⌜ Leaves (reporting (now (t .entry)) number (reportedLines (now (t .entry)) number (length (now (out .entry))) (now (text .entry)))) (now (out .entry)) r (now (out .exit)) ⌝ }
+    ensures { λ r. ⌜
+        Leaves (reporting (now (t .entry)) number (reportedLines (now (t .entry)) number (length (now (out .entry))) (now (text .entry))))
+        (now (out .entry)) r (now (out .exit))
+        ⌝ }
 {
     let mut lines: usize = 0;
     let mut used: usize = 0;
