@@ -39,7 +39,8 @@ use Rattle.master.specs.Write.{marked, writeVerdict, writeOf}
 use Rattle.master.specs.Read.{readVerdict, readScalarOf, readArrayOf}
 use Rattle.master.specs.Select.{selectVerdict, selectOf}
 use Rattle.master.specs.Tick.{tickEffect, tickVerdict, tickOf}
-use Rattle.master.specs.Byte.{accepted, withByte, byteEffect, byteVerdict, byteOf}
+use Rattle.master.specs.Closing.{failed, sent, received}
+use Rattle.master.specs.Byte.{passed, accepted, withByte, byteEffect, byteVerdict, byteOf}
 use Rattle.master.specs.Status.{statusOf}
 use Rattle.master.specs.Message.{sendVerdict, sendOf, told, messageOf}
 use Rattle.master.specs.Ahead.{aheadVerdict, aheadOf}
@@ -49,12 +50,12 @@ use Rattle.master.specs.Run.{Held, held, answerOf, leftBy}
 use Rattle.master.specs.Step.{verdictOf, effectOf, refusalOf, numberTold}
 use Rattle.master.proofs.Admitted.{unless-test, admitted-table, admitted-size, admitted-fits, Fits, fits-clauses, fits-all}
 use Rattle.master.proofs.Answered.{by-verdict, writable-signal}
-use Rattle.master.proofs.Cases.{ticked-by, taken-by}
+use Rattle.master.proofs.Cases.{ticked-by, taken-by, accepted-state}
 use Rattle.master.proofs.FitsKept.{marked-fits, asking-fits, status-fits, send-fits}
 use Rattle.master.proofs.SlotFits.{ticked-fits}
 use Rattle.master.proofs.Keeps.{taken-fits}
 use Rattle.master.proofs.Lengths.{taken-length}
-use Rattle.master.proofs.PendingLength.{ticked-pending}
+use Rattle.master.proofs.PendingLength.{ticked-pending, marked-length, sent-length}
 use Rattle.master.proofs.ReadBack.{value-length}
 use Rattle.master.specs.Write.{isBytes, fitsSignal}
 
@@ -308,3 +309,24 @@ effect-pending t x (call.numberAhead f) n = refl
 -- no call but a write and a byte in changes a pending bit, also not a tick that closes a transfer
 pub keeps-pending : (t : List ℕ) (x : Held) (c : Call) → changesBits c ≡ false → leftBy t x c .state .pending ≡ x .state .pending
 keeps-pending t x c n = kept t x c (λ y. y .state .pending ≡ x .state .pending) refl (λ a. effect-pending t x c n)
+
+-- how many pending bits there are after each effect
+effect-bits : (t : List ℕ) (x : Held) (c : Call) → length (effectOf t x c .state .pending) ≡ length (x .state .pending)
+unfolding effectOf marked passed failed sent received
+effect-bits t x (call.write w) = marked-length t (w .signal) 0 (x .state .pending)
+effect-bits t x (call.read s) = refl
+effect-bits t x (call.readArray s) = refl
+effect-bits t x (call.select n) = refl
+effect-bits t x (call.tick m) = ap length (ticked-pending t (x .bytes) m (x .state))
+effect-bits t x (call.byteIn b) =
+    taken-by t (x .state) (x .bytes) b (λ w. length (w .given .state .pending) ≡ length (x .state .pending)) (λ nine e. refl) refl
+    (λ y. sent-length (x .state .transfer .opened) (x .state .transfer .written) (x .state .pending))
+    (λ n. rw (accepted-state t (x .state) (x .state .transfer .opened) (withByte (x .state .transfer) b) (x .bytes)))
+effect-bits t x call.readStatus = refl
+effect-bits t x (call.send nad n) = refl
+effect-bits t x call.messageState = refl
+effect-bits t x (call.numberAhead f) = refl
+
+-- a call keeps the number of pending bits
+pub keeps-bits : (t : List ℕ) (x : Held) (c : Call) → length (leftBy t x c .state .pending) ≡ length (x .state .pending)
+keeps-bits t x c = kept t x c (λ y. length (y .state .pending) ≡ length (x .state .pending)) refl (λ a. effect-bits t x c)
