@@ -19,7 +19,7 @@ use Rattle.master.specs.Run.{Held}
 use Rattle.master.specs.History.{Pending}
 use Rattle.master.specs.Replies.{AheadReply}
 use Rattle.master.proofs.Admitted.{admits}
-use Rattle.master.proofs.AheadLaws.{ahead-parts, same-ahead, listed-member}
+use Rattle.cluster.proofs.MemberOf.{ahead-parts, same-ahead, listed-member}
 use Rattle.master.proofs.History.Computed.{pendingAfter}
 use Rattle.master.proofs.History.PendingLaw.{pending-iff}
 use Rattle.master.proofs.History.Counting.{countIf, counted}
@@ -43,7 +43,7 @@ module _ (t : List ℕ) (is-taken : TakenTable t) (ok : RightTable t) (h : Seq S
   ahead-replies = record {
     listed = λ l ahead behind p.
         let w = listed-member t ok l f ahead behind p in
-        let same = same-ahead t ok (x .state .pending) f (w .0) ahead behind (rw (w .1) p) in (
+        let same = same-ahead t ok f (w .0) ahead behind (rw (w .1) p) in (
           countIf (pendingAfter t h) ahead,
           counts (w .0) ∙ rw same,
           counted (pendingAfter t h) (Pending t h) (pending-iff t h) ahead,

@@ -35,7 +35,7 @@ use Rattle.master.specs.Answering.{messageAfter}
 use Rattle.master.specs.Replies.{Takes, takes, leaves, EntryReply, SlotReply, lentRight, TickReply, Count, AheadReply, Replies}
 use Rattle.master.specs.Claim.{recordOf}
 use Rattle.master.proofs.Admitted.{fits-clauses}
-use Rattle.master.proofs.AheadLaws.{ahead-parts, listed-member}
+use Rattle.cluster.proofs.MemberOf.{ahead-parts, listed-member}
 use Rattle.master.proofs.SlotOpens.{due-there, entry-below}
 use Rattle.master.proofs.History.Computed.{pendingAfter}
 use Rattle.master.proofs.History.PendingLaw.{pending-iff}
