@@ -71,26 +71,11 @@ impl Opened {
         }
     }
 
-    // Its identifier.
-    pub fn identifier(self, t: &[u16]) -> u16
-        ensures { λ r. ⌜ r ≡ openIdentifier (now (t .entry)) self ⌝ }
-    {
-        self.format(t).identifier
-    }
-
     // Its data bytes.
     pub fn length(self, t: &[u16]) -> u16
         ensures { λ r. ⌜ r ≡ openLength (now (t .entry)) self ⌝ }
     {
         self.format(t).length
-    }
-
-    // Its checksum model.
-    pub fn model(self, t: &[u16]) -> Model
-        ensures { λ r. ⌜ r ≡ openModel (now (t .entry)) self ⌝ }
-    {
-        let format = self.format(t);
-        format.model
     }
 
     // Whether the master sends its response.
@@ -105,7 +90,7 @@ impl Opened {
         requires { ⌜ openIdentifier (now t) self < 64 ⌝ }
         ensures { λ r. ⌜ r ≡ openProtected (now (t .entry)) self ⌝ }
     {
-        protected_byte(self.identifier(t) as u8)
+        protected_byte(self.format(t).identifier as u8)
     }
 
     // Its checksum over some data.
@@ -113,7 +98,9 @@ impl Opened {
         requires { ⌜ (openIdentifier (now t) self < 64) × (1 ≤ length (now bytes)) × (length (now bytes) ≤ 8) ⌝ }
         ensures { λ r. ⌜ r ≡ openChecksum (now (t .entry)) self (now (bytes .entry)) ⌝ }
     {
-        checksum_byte(self.identifier(t) as u8, self.model(t), bytes)
+        let format = self.format(t);
+        let model = format.model;
+        checksum_byte(format.identifier as u8, model, bytes)
     }
 
     // Data and checksum, the unused ones of the nine bytes 255.
