@@ -1,4 +1,5 @@
--- `judge::of_bytes` meets its contract.
+-- `judge::of_bytes` meets its contract: arm by arm, with what the calls answer put in.
+-- What a call asks follows from what is asked here and from the tests before it.
 use mathlib.Core.Path.{refl, sym, _∙_}
 use borrow.Author.Needs.{needs}
 use Rattle.buslog.proofs.Judging.{wrong-parity, by-identifier, read-below}

@@ -1,4 +1,5 @@
--- `judge::of_identifier` meets its contract.
+-- `judge::of_identifier` meets its contract: each way out has the tests that led to it, and what the calls answer is put in.
+-- What a call asks follows from what is asked here and from the tests before it.
 use Prim.Native.Nat.{_<_}
 use mathlib.Core.Logic.{⊎-elim}
 use mathlib.Core.Path.{_∙_}

@@ -1,4 +1,5 @@
--- `judge::of_line` meets its contract.
+-- `judge::of_line` meets its contract: each way out has the tests that led to it, and what the calls answer is put in.
+-- What a call asks follows from what is asked here and from the tests before it.
 use mathlib.Core.Path.{sym, _∙_}
 use native.Mathlib.Omega.{arith}
 use borrow.Author.Needs.{needs}

@@ -1,4 +1,4 @@
--- `pairs::pair` meets its contract.
+-- `pairs::pair` meets its contract: each way out has the tests that led to it, and what the calls answer is put in.
 use native.Mathlib.Omega.{arith}
 use borrow.Author.Needs.{needs}
 use Rattle.buslog.proofs.Reading.{no-high, no-low, pair-there}

@@ -1,4 +1,4 @@
--- `report::kept_length` meets its contract.
+-- `report::kept_length` meets its contract: each way out has the tests that led to it.
 use Prim.Native.Nat.{_-_}
 use mathlib.Core.Path.{_≡_, sym}
 use native.Mathlib.Nat.{min-eq-left, min-eq-right}

@@ -1,4 +1,4 @@
--- `report::reported_so_far` meets its contract.
+-- `report::reported_so_far` meets its contract: the definition is opened.
 use mathlib.Core.Path.{refl}
 use Rattle.buslog.specs.Parts.{soFar}
 use Rattle.buslog.proofs.report.reported_so_far.Statement.{statement}

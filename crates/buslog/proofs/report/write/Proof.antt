@@ -1,4 +1,5 @@
--- `report::write` meets its contract.
+-- `report::write` meets its contract: arm by arm, with what the calls answer put in.
+-- What a call asks follows from what is asked here and from the tests before it.
 use mathlib.Core.Path.{sym, _∙_}
 use borrow.Author.Needs.{needs}
 use Rattle.cluster.proofs.TakenLaws.{taken-right}

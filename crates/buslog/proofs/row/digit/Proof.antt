@@ -1,4 +1,4 @@
--- `row::digit` meets its contract.
+-- `row::digit` meets its contract: each way out has the tests that led to it.
 use borrow.Author.Needs.{needs}
 use borrow.Author.Tests.{lt-ltb, le-ltb}
 use Rattle.buslog.specs.Pairs.{digitCharacter}

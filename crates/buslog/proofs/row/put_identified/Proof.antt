@@ -1,4 +1,4 @@
--- `row::put_identified` meets its contract.
+-- `row::put_identified` meets its contract: the definition is opened, with what the calls answer put in.
 use mathlib.Core.List.{_∷_, []}
 use mathlib.Core.Path.{refl}
 use borrow.Author.Needs.{needs}

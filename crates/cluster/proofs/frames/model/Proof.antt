@@ -1,4 +1,4 @@
--- `cluster::frames::model` meets its contract.
+-- `cluster::frames::model` meets its contract: each way out has the tests that led to it, and what the calls answer is put in.
 use borrow.Author.Needs.{needs}
 use Rattle.cluster.proofs.frames.model.Statement.{statement}
 use Rattle.cluster.proofs.frames.model.Tie as tie

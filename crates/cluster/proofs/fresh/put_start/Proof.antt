@@ -1,4 +1,4 @@
--- `fresh::put_start` meets its contract.
+-- `fresh::put_start` meets its contract: each way out has the tests that led to it, and what the calls answer is put in.
 use mathlib.Core.Path.{sym}
 use borrow.Author.Needs.{needs}
 use lib.Seq.{length-take-le}

@@ -1,4 +1,4 @@
--- `admit::buffer_size` meets its contract.
+-- `admit::buffer_size` meets its contract: the definition is opened, with what the calls answer put in.
 use borrow.Author.Needs.{needs}
 use Rattle.master.specs.Admit.{bufferSize}
 use Rattle.master.proofs.admit.buffer_size.Statement.{statement}

@@ -1,4 +1,4 @@
--- `pending::bit_fits` meets its contract.
+-- `pending::bit_fits` meets its contract: each way out has the tests that led to it, and what the calls answer is put in.
 use borrow.Author.Needs.{needs}
 use borrow.Author.Tests.{le-ltb, lt-ltb, not-false, not-true}
 use Rattle.master.specs.Fits.{bitFits}

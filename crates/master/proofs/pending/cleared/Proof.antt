@@ -1,4 +1,4 @@
--- `pending::cleared` meets its contract.
+-- `pending::cleared` meets its contract: each way out has the tests that led to it.
 use borrow.Author.Needs.{needs}
 use Rattle.master.specs.Closing.{clearedBit}
 use Rattle.master.proofs.pending.cleared.Statement.{statement}

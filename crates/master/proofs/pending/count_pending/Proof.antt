@@ -1,4 +1,4 @@
--- `pending::count_pending` meets its contract.
+-- `pending::count_pending` meets its contract: what was counted and what is left to count are the whole.
 use Prim.Native.Nat.{_+_, _-_, _≤_}
 use borrow.Author.Needs.{needs}
 use mathlib.Core.Path.{_≡_, ap}

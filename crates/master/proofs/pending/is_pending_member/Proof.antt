@@ -1,4 +1,4 @@
--- `pending::is_pending_member` meets its contract.
+-- `pending::is_pending_member` meets its contract: each way out has the tests that led to it, and what the calls answer is put in.
 use borrow.Author.Needs.{needs}
 use borrow.Author.Tests.{eq-eqb, ne-eqb}
 use native.Mathlib.Omega.{arith}

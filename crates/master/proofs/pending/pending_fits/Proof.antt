@@ -1,4 +1,4 @@
--- `pending::pending_fits` meets its contract.
+-- `pending::pending_fits` meets its contract: the bits before fit, so the whole fits where those left do.
 use Prim.Native.Nat.{_-_, _≤_}
 use borrow.Author.Needs.{needs}
 use borrow.Author.Tests.{not-false, not-true}

@@ -1,4 +1,4 @@
--- `tick::request_slot` meets its contract.
+-- `tick::request_slot` meets its contract: each way out has the tests that led to it, and what the calls answer is put in.
 use borrow.Author.Needs.{needs}
 use Rattle.master.proofs.tick.request_slot.Statement.{statement}
 use Rattle.master.proofs.tick.request_slot.Tie as tie

@@ -1,4 +1,4 @@
--- `transfer::fill` meets its contract.
+-- `transfer::fill` meets its contract: the first bytes are copied, the others are as they were.
 use Prim.Native.Nat.{_-_, _≤_}
 use borrow.Author.Needs.{needs}
 use lib.ListN.{drop, length, length-set, take}

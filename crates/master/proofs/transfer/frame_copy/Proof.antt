@@ -1,4 +1,5 @@
--- `transfer::frame_copy` meets its contract.
+-- `transfer::frame_copy` meets its contract: each way out has the tests that led to it, and what the calls answer is put in.
+-- What a call asks follows from what is asked here and from the tests before it.
 use borrow.Author.Needs.{needs}
 use borrow.Author.Tests.{not-false, not-true}
 use mathlib.Core.Path.{ap}

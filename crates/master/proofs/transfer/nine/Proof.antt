@@ -1,4 +1,4 @@
--- `transfer::nine` meets its contract.
+-- `transfer::nine` meets its contract: the first bytes are copied, the others are 255, and then the checksum is put behind them.
 use Prim.Native.Nat.{_-_, _≤_}
 use borrow.Author.Needs.{needs}
 use lib.ListN.{drop, length, replicate, take}

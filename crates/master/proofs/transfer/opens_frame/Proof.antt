@@ -1,4 +1,4 @@
--- `transfer::opens_frame` meets its contract.
+-- `transfer::opens_frame` meets its contract: each way out has the tests that led to it, and what the calls answer is put in.
 use borrow.Author.Needs.{needs}
 use borrow.Author.Tests.{eq-eqb, ne-eqb}
 use Rattle.master.specs.Fits.{entryOpens}

@@ -1,4 +1,4 @@
--- `transfer::protected_byte` meets its contract.
+-- `transfer::protected_byte` meets its contract: arm by arm, with what the calls answer put in.
 use borrow.Author.Needs.{needs}
 use mathlib.Core.Path.{_∙_, sym}
 use Rattle.wire.proofs.AnswerLaws.{built, not-refused}

@@ -1,4 +1,5 @@
--- `transfer::request_copy` meets its contract.
+-- `transfer::request_copy` meets its contract: the definition is opened, with what the calls answer put in.
+-- What a call asks follows from what is asked here and from the tests before it.
 use borrow.Author.Needs.{needs}
 use lib.ListN.{length}
 use mathlib.Core.Path.{_∙_, _≡_, ap}

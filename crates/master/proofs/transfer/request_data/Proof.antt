@@ -1,4 +1,4 @@
--- `transfer::request_data` meets its contract.
+-- `transfer::request_data` meets its contract: arm by arm, with what the calls answer put in.
 use borrow.Author.Needs.{needs}
 use Rattle.master.proofs.transfer.request_data.Statement.{statement}
 use Rattle.master.proofs.transfer.request_data.Tie as tie

@@ -1,4 +1,5 @@
--- `transfer::store` meets its contract.
+-- `transfer::store` meets its contract: the definition is opened, with what the calls answer put in.
+-- What a call asks follows from what is asked here and from the tests before it.
 use Prim.Native.Nat.{_*_}
 use borrow.Author.Needs.{needs}
 use lib.ListN.{drop, length, length-drop}

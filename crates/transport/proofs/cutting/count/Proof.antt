@@ -1,4 +1,4 @@
--- `cutting::count` meets its contract.
+-- `cutting::count` meets its contract: each way out has the tests that led to it, and what the calls answer is put in.
 use borrow.Author.Tests.{lt-leb}
 use Rattle.transport.specs.Cutting.{countOf}
 use borrow.Author.Tests.{le-leb, leb-true}

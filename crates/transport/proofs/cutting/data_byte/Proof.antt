@@ -1,4 +1,4 @@
--- `cutting::data_byte` meets its contract.
+-- `cutting::data_byte` meets its contract: each way out has the tests that led to it.
 use mathlib.Core.Path.{sym}
 use borrow.Author.Needs.{needs}
 use lib.ListN.{List·getD-eq-default}

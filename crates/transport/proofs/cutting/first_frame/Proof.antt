@@ -1,4 +1,4 @@
--- `cutting::first_frame` meets its contract.
+-- `cutting::first_frame` meets its contract: the definition is opened, with what the calls answer put in.
 use borrow.Author.Needs.{needs}
 use Rattle.transport.specs.Cutting.{firstFrame, dataBytes}
 use Rattle.transport.proofs.cutting.first_frame.Statement.{statement}

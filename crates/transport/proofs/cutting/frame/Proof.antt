@@ -1,4 +1,5 @@
--- `cutting::frame` meets its contract.
+-- `cutting::frame` meets its contract: arm by arm, with what the calls answer put in.
+-- What a call asks follows from what is asked here and from the tests before it.
 use mathlib.Core.Path.{sym, _∙_}
 use Rattle.transport.proofs.Counting.{counted-high, cut-refused, cut-frame, cut-missing}
 use borrow.Author.Needs.{needs}

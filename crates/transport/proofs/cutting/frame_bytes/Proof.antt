@@ -1,4 +1,4 @@
--- `cutting::frame_bytes` meets its contract.
+-- `cutting::frame_bytes` meets its contract: each way out has the tests that led to it, and what the calls answer is put in.
 use native.Mathlib.Omega.{arith}
 use mathlib.Core.Path.{_≡_, sym, _∙_}
 use borrow.Author.Needs.{needs}

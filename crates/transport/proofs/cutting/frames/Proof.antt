@@ -1,4 +1,4 @@
--- `cutting::frames` meets its contract.
+-- `cutting::frames` meets its contract: each way out has the tests that led to it.
 use mathlib.Core.Path.{sym}
 use borrow.Author.Needs.{needs}
 use Rattle.transport.proofs.CuttingLaws.{frames-one, frames-more}

@@ -1,4 +1,4 @@
--- `cutting::next_frame` meets its contract.
+-- `cutting::next_frame` meets its contract: the definition is opened, with what the calls answer put in.
 use borrow.Author.Needs.{needs}
 use Rattle.transport.specs.Cutting.{nextFrame}
 use Rattle.transport.proofs.cutting.next_frame.Statement.{statement}

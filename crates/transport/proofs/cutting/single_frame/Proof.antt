@@ -1,4 +1,4 @@
--- `cutting::single_frame` meets its contract.
+-- `cutting::single_frame` meets its contract: the definition is opened, with what the calls answer put in.
 use borrow.Author.Needs.{needs}
 use Rattle.transport.specs.Cutting.{singleFrame}
 use Rattle.transport.proofs.cutting.single_frame.Statement.{statement}

@@ -1,4 +1,4 @@
--- `cutting::with_six` meets its contract.
+-- `cutting::with_six` meets its contract: the definition is opened, with what the calls answer put in.
 use borrow.Author.Needs.{needs}
 use Rattle.transport.proofs.Bytes.{six}
 use Rattle.transport.proofs.cutting.with_six.Statement.{statement}

@@ -1,4 +1,4 @@
--- `reassembly::deliver` meets its contract.
+-- `reassembly::deliver` meets its contract: the definition is opened, with what the calls answer put in.
 use borrow.Author.Needs.{needs}
 use Rattle.transport.proofs.Bytes.{delivered}
 use Rattle.transport.proofs.reassembly.deliver.Statement.{statement}

@@ -1,4 +1,4 @@
--- `state::Current::delay` meets its contract.
+-- `state::Current::delay` meets its contract: arm by arm, with what the calls answer put in.
 use borrow.Author.Needs.{needs}
 use Rattle.master.proofs.state.Current.delay.Statement.{statement}
 use Rattle.master.proofs.state.Current.delay.Tie as tie

@@ -1,4 +1,4 @@
--- `state::Current::next` meets its contract.
+-- `state::Current::next` meets its contract: arm by arm, with what the calls answer put in.
 use borrow.Author.Needs.{needs}
 use Rattle.master.proofs.state.Current.next.Statement.{statement}
 use Rattle.master.proofs.state.Current.next.Tie as tie

@@ -1,4 +1,4 @@
--- `state::Message::fits` meets its contract.
+-- `state::Message::fits` meets its contract: arm by arm, with what the calls answer put in.
 use borrow.Author.Needs.{needs}
 use Rattle.master.specs.Fits.{messageFits}
 use Rattle.master.proofs.state.Message.fits.Statement.{statement}

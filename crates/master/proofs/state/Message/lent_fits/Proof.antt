@@ -1,4 +1,4 @@
--- `state::Message::lent_fits` meets its contract.
+-- `state::Message::lent_fits` meets its contract: arm by arm.
 use borrow.Author.Needs.{needs}
 use Rattle.master.proofs.state.Message.lent_fits.Statement.{statement}
 use Rattle.master.proofs.state.Message.lent_fits.Tie as tie

@@ -1,4 +1,5 @@
--- `state::Message::moved` meets its contract.
+-- `state::Message::moved` meets its contract: arm by arm, with what the calls answer put in.
+-- What a call asks follows from what is asked here and from the tests before it.
 use borrow.Author.Needs.{needs}
 use Rattle.master.specs.Message.{moved}
 use Rattle.master.proofs.state.Message.moved.Statement.{statement}

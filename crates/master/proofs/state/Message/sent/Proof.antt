@@ -1,4 +1,4 @@
--- `state::Message::sent` meets its contract.
+-- `state::Message::sent` meets its contract: arm by arm, with what the calls answer put in.
 use borrow.Author.Needs.{needs}
 use Rattle.master.proofs.state.Message.sent.Statement.{statement}
 use Rattle.master.proofs.state.Message.sent.Tie as tie

@@ -1,4 +1,5 @@
--- `state::Opened::checksum_right` meets its contract.
+-- `state::Opened::checksum_right` meets its contract: the definition is opened, with what the calls answer put in.
+-- What a call asks follows from what is asked here and from the tests before it.
 use borrow.Author.Needs.{needs}
 use lib.ListN.{length}
 use mathlib.Core.Path.{_≡_}

@@ -1,4 +1,4 @@
--- `state::Opened::copied` meets its contract.
+-- `state::Opened::copied` meets its contract: the definition is opened, with what the calls answer put in.
 use borrow.Author.Needs.{needs}
 use Rattle.master.specs.Transfers.{copied}
 use Rattle.master.proofs.state.Opened.copied.Statement.{statement}

@@ -1,4 +1,5 @@
--- `state::Opened::first_bytes` meets its contract.
+-- `state::Opened::first_bytes` meets its contract: arm by arm, with what the calls answer put in.
+-- What a call asks follows from what is asked here and from the tests before it.
 use borrow.Author.Needs.{needs}
 use Rattle.master.specs.Transfers.{formatOf, opening, sentData}
 use Rattle.master.proofs.state.Opened.first_bytes.Statement.{statement}

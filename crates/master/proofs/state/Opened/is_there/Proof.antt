@@ -1,4 +1,4 @@
--- `state::Opened::is_there` meets its contract.
+-- `state::Opened::is_there` meets its contract: arm by arm, with what the calls answer put in.
 use borrow.Author.Needs.{needs}
 use Rattle.master.proofs.state.Opened.is_there.Statement.{statement}
 use Rattle.master.proofs.state.Opened.is_there.Tie as tie

@@ -1,4 +1,4 @@
--- `state::Opened::of_entry` meets its contract.
+-- `state::Opened::of_entry` meets its contract: arm by arm, with what the calls answer put in.
 use borrow.Author.Needs.{needs}
 use Rattle.master.specs.Fits.{entryOpens}
 use Rattle.master.proofs.state.Opened.of_entry.Statement.{statement}

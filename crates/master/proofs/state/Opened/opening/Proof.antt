@@ -1,4 +1,4 @@
--- `state::Opened::opening` meets its contract.
+-- `state::Opened::opening` meets its contract: the definition is opened, with what the calls answer put in.
 use borrow.Author.Needs.{needs}
 use Rattle.master.specs.Transfers.{opening}
 use Rattle.master.proofs.state.Opened.opening.Statement.{statement}

@@ -1,4 +1,5 @@
--- `state::Opened::sent_pending` meets its contract.
+-- `state::Opened::sent_pending` meets its contract: arm by arm, with what the calls answer put in.
+-- What a call asks follows from what is asked here and from the tests before it.
 use borrow.Author.Needs.{needs}
 use native.Mathlib.Omega.{arith}
 use Rattle.cluster.proofs.HeaderLaws.{frame-count}

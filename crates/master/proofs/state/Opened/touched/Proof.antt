@@ -1,4 +1,4 @@
--- `state::Opened::touched` meets its contract.
+-- `state::Opened::touched` meets its contract: arm by arm, with what the calls answer put in.
 use borrow.Author.Needs.{needs}
 use Rattle.master.proofs.state.Opened.touched.Statement.{statement}
 use Rattle.master.proofs.state.Opened.touched.Tie as tie

@@ -1,4 +1,4 @@
--- `state::Plan::begun` meets its contract.
+-- `state::Plan::begun` meets its contract: the definition is opened, with what the calls answer put in.
 use borrow.Author.Needs.{needs}
 use Rattle.master.proofs.state.Plan.begun.Statement.{statement}
 use Rattle.master.proofs.state.Plan.begun.Tie as tie

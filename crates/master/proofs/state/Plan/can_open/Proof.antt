@@ -1,4 +1,4 @@
--- `state::Plan::can_open` meets its contract.
+-- `state::Plan::can_open` meets its contract: arm by arm, with what the calls answer put in.
 use borrow.Author.Needs.{needs}
 use Rattle.master.specs.Fits.{canOpen}
 use Rattle.master.proofs.state.Plan.can_open.Statement.{statement}

@@ -1,4 +1,4 @@
--- `state::Plan::due` meets its contract.
+-- `state::Plan::due` meets its contract: arm by arm, with what the calls answer put in.
 use borrow.Author.Needs.{needs}
 use Rattle.master.proofs.state.Plan.due.Statement.{statement}
 use Rattle.master.proofs.state.Plan.due.Tie as tie

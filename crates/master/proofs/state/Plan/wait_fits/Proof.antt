@@ -1,4 +1,4 @@
--- `state::Plan::wait_fits` meets its contract.
+-- `state::Plan::wait_fits` meets its contract: the definition is opened, with what the calls answer put in.
 use borrow.Author.Needs.{needs}
 use Rattle.master.specs.Fits.{waitFits}
 use Rattle.master.proofs.state.Plan.wait_fits.Statement.{statement}

@@ -1,4 +1,4 @@
--- `state::Plan::waited` meets its contract.
+-- `state::Plan::waited` meets its contract: the definition is opened.
 use borrow.Author.Tests.{ltb-true}
 use mathlib.Core.Path.{refl}
 use native.Mathlib.Omega.{arith}

@@ -1,4 +1,4 @@
--- `state::Sending::at` meets its contract.
+-- `state::Sending::at` meets its contract: each way out has the tests that led to it.
 use borrow.Author.Tests.{le-ltb, lt-ltb}
 use Rattle.master.proofs.state.Sending.at.Statement.{statement}
 use Rattle.master.proofs.state.Sending.at.Tie as tie

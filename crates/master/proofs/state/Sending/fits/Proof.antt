@@ -1,4 +1,4 @@
--- `state::Sending::fits` meets its contract.
+-- `state::Sending::fits` meets its contract: arm by arm, with what the calls answer put in.
 use borrow.Author.Needs.{needs}
 use mathlib.Core.Path.{_∙_, sym}
 use Rattle.master.proofs.Counted.{counted-frames, counted-refused}

@@ -1,4 +1,4 @@
--- `state::Sending::moved` meets its contract.
+-- `state::Sending::moved` meets its contract: arm by arm, with what the calls answer put in.
 use borrow.Author.Needs.{needs}
 use mathlib.Core.Path.{_∙_, sym}
 use native.Mathlib.Omega.{arith}

@@ -1,4 +1,4 @@
--- `state::State::abandoned` meets its contract.
+-- `state::State::abandoned` meets its contract: each way out has the tests that led to it, and what the calls answer is put in.
 use borrow.Author.Needs.{needs}
 use Rattle.master.specs.Tick.{abandoned}
 use Rattle.master.proofs.state.State.abandoned.Statement.{statement}

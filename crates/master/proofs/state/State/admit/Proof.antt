@@ -1,4 +1,4 @@
--- `state::State::admit` meets its contract.
+-- `state::State::admit` meets its contract: each way out has the tests that led to it, and what the calls answer is put in.
 use borrow.Author.Needs.{needs}
 use borrow.Author.Tests.{eq-eqb, ne-eqb, not-false, not-true}
 use Rattle.master.specs.Admit.{admitted}

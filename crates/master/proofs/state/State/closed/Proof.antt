@@ -1,4 +1,4 @@
--- `state::State::closed` meets its contract.
+-- `state::State::closed` meets its contract: the definition is opened, with what the calls answer put in.
 use borrow.Author.Needs.{needs}
 use Rattle.master.proofs.state.State.closed.Statement.{statement}
 use Rattle.master.proofs.state.State.closed.Tie as tie

@@ -1,4 +1,4 @@
--- `state::State::failed` meets its contract.
+-- `state::State::failed` meets its contract: the definition is opened, with what the calls answer put in.
 use borrow.Author.Needs.{needs}
 use Rattle.master.specs.Closing.{failed}
 use Rattle.master.proofs.state.State.failed.Statement.{statement}

@@ -1,4 +1,4 @@
--- `state::State::fresh` meets its contract.
+-- `state::State::fresh` meets its contract: the definition is opened, with what the calls answer put in.
 use borrow.Author.Needs.{needs}
 use Rattle.master.specs.Fresh.{fresh}
 use Rattle.master.proofs.state.State.fresh.Statement.{statement}

@@ -1,4 +1,4 @@
--- `state::State::judge_read` meets its contract.
+-- `state::State::judge_read` meets its contract: each way out has the tests that led to it, and what the calls answer is put in.
 use borrow.Author.Needs.{needs}
 use borrow.Author.Tests.{le-ltb, lt-ltb, not-false, not-true}
 use mathlib.Core.Bool.{Bool·beq}

@@ -1,4 +1,4 @@
--- `state::State::judge_scalar` meets its contract.
+-- `state::State::judge_scalar` meets its contract: each way out has the tests that led to it, and what the calls answer is put in.
 use borrow.Author.Needs.{needs}
 use Rattle.master.proofs.state.State.judge_scalar.Statement.{statement}
 use Rattle.master.proofs.state.State.judge_scalar.Tie as tie

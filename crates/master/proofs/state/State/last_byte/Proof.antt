@@ -1,4 +1,5 @@
--- `state::State::last_byte` meets its contract.
+-- `state::State::last_byte` meets its contract: arm by arm, with what the calls answer put in.
+-- What a call asks follows from what is asked here and from the tests before it.
 use borrow.Author.Needs.{needs}
 use borrow.Author.Tests.{not-false, not-true}
 use lib.ListN.{length}

@@ -1,4 +1,4 @@
--- `state::State::marked` meets its contract.
+-- `state::State::marked` meets its contract: the definition is opened, with what the calls answer put in.
 use borrow.Author.Needs.{needs}
 use Rattle.master.specs.Write.{marked}
 use Rattle.master.proofs.state.State.marked.Statement.{statement}

@@ -1,4 +1,4 @@
--- `state::State::message_state` meets its contract.
+-- `state::State::message_state` meets its contract: each way out has the tests that led to it, and what the calls answer is put in.
 use borrow.Author.Needs.{needs}
 use Rattle.master.specs.Message.{messageOf}
 use Rattle.master.proofs.state.State.message_state.Statement.{statement}

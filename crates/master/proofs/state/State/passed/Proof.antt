@@ -1,4 +1,4 @@
--- `state::State::passed` meets its contract.
+-- `state::State::passed` meets its contract: the definition is opened, with what the calls answer put in.
 use borrow.Author.Needs.{needs}
 use Rattle.master.specs.Byte.{passed}
 use Rattle.master.proofs.state.State.passed.Statement.{statement}

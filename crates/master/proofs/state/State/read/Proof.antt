@@ -1,4 +1,4 @@
--- `state::State::read` meets its contract.
+-- `state::State::read` meets its contract: each way out has the tests that led to it, and what the calls answer is put in.
 use borrow.Author.Needs.{needs}
 use Rattle.master.specs.Read.{readScalarOf}
 use Rattle.master.proofs.state.State.read.Statement.{statement}

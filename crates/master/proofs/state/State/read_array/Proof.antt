@@ -1,4 +1,4 @@
--- `state::State::read_array` meets its contract.
+-- `state::State::read_array` meets its contract: each way out has the tests that led to it, and what the calls answer is put in.
 use borrow.Author.Needs.{needs}
 use Rattle.master.specs.Read.{readArrayOf}
 use Rattle.master.proofs.state.State.read_array.Statement.{statement}

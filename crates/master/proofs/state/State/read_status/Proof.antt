@@ -1,4 +1,4 @@
--- `state::State::read_status` meets its contract.
+-- `state::State::read_status` meets its contract: each way out has the tests that led to it, and what the calls answer is put in.
 use borrow.Author.Needs.{needs}
 use Rattle.master.specs.Status.{statusOf}
 use Rattle.master.proofs.state.State.read_status.Statement.{statement}

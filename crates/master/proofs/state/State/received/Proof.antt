@@ -1,4 +1,4 @@
--- `state::State::received` meets its contract.
+-- `state::State::received` meets its contract: the definition is opened, with what the calls answer put in.
 use borrow.Author.Needs.{needs}
 use Rattle.master.specs.Closing.{received}
 use Rattle.master.proofs.state.State.received.Statement.{statement}

@@ -1,4 +1,4 @@
--- `state::State::responding` meets its contract.
+-- `state::State::responding` meets its contract: the definition is opened, with what the calls answer put in.
 use borrow.Author.Needs.{needs}
 use Rattle.master.proofs.state.State.responding.Statement.{statement}
 use Rattle.master.proofs.state.State.responding.Tie as tie

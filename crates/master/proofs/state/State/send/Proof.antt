@@ -1,4 +1,4 @@
--- `state::State::send` meets its contract.
+-- `state::State::send` meets its contract: each way out has the tests that led to it, and what the calls answer is put in.
 use borrow.Author.Needs.{needs}
 use mathlib.Core.Path.{_∙_, sym}
 use native.Mathlib.Omega.{arith}

@@ -1,4 +1,5 @@
--- `state::State::sent` meets its contract.
+-- `state::State::sent` meets its contract: the definition is opened, with what the calls answer put in.
+-- What a call asks follows from what is asked here and from the tests before it.
 use borrow.Author.Needs.{needs}
 use Rattle.master.proofs.Admitted.{open-identifier}
 use Rattle.master.specs.Closing.{sent}

@@ -1,4 +1,5 @@
--- `state::State::slot` meets its contract.
+-- `state::State::slot` meets its contract: arm by arm, with what the calls answer put in.
+-- What a call asks follows from what is asked here and from the tests before it.
 use borrow.Author.Needs.{needs}
 use lib.ListN.{length}
 use Rattle.master.proofs.SlotOpens.{due-there, entry-below, slot-opens}

@@ -1,4 +1,5 @@
--- `state::State::tick` meets its contract.
+-- `state::State::tick` meets its contract: each way out has the tests that led to it, and what the calls answer is put in.
+-- What a call asks follows from what is asked here and from the tests before it.
 use borrow.Author.Needs.{needs}
 use mathlib.Core.Path.{_∙_, sym}
 use Rattle.master.specs.Tick.{tickOf, tickEffect}

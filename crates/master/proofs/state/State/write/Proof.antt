@@ -1,4 +1,5 @@
--- `state::State::write` meets its contract.
+-- `state::State::write` meets its contract: each way out has the tests that led to it, and what the calls answer is put in.
+-- What a call asks follows from what is asked here and from the tests before it.
 use borrow.Author.Needs.{needs}
 use lib.ListN.{length}
 use mathlib.Core.Bool.{false}

@@ -1,4 +1,4 @@
--- `state::Status::after` meets its contract.
+-- `state::Status::after` meets its contract: each way out has the tests that led to it, and what the calls answer is put in.
 use borrow.Author.Needs.{needs}
 use Rattle.master.proofs.state.Status.after.Statement.{statement}
 use Rattle.master.proofs.state.Status.after.Tie as tie

@@ -1,4 +1,4 @@
--- `state::Status::counted` meets its contract.
+-- `state::Status::counted` meets its contract: each way out has the tests that led to it, and what the calls answer is put in.
 use borrow.Author.Needs.{needs}
 use Rattle.master.proofs.Tests.{or-false, or-true}
 use Rattle.master.specs.Status.{withCounted}

@@ -1,4 +1,4 @@
--- `state::Status::word` meets its contract.
+-- `state::Status::word` meets its contract: the definition is opened, with what the calls answer put in.
 use borrow.Author.Needs.{needs}
 use Rattle.master.specs.Status.{statusWord}
 use Rattle.master.proofs.state.Status.word.Statement.{statement}

@@ -1,4 +1,4 @@
--- `state::Transfer::count_fits` meets its contract.
+-- `state::Transfer::count_fits` meets its contract: each way out has the tests that led to it, and what the calls answer is put in.
 use borrow.Author.Needs.{needs}
 use Rattle.master.specs.Fits.{countFits}
 use Rattle.master.proofs.state.Transfer.count_fits.Statement.{statement}

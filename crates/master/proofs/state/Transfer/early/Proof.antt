@@ -1,4 +1,4 @@
--- `state::Transfer::early` meets its contract.
+-- `state::Transfer::early` meets its contract: the definition is opened, with what the calls answer put in.
 use borrow.Author.Needs.{needs}
 use Rattle.master.proofs.state.Transfer.early.Statement.{statement}
 use Rattle.master.proofs.state.Transfer.early.Tie as tie

@@ -1,4 +1,4 @@
--- `Assembly::bytes_due` meets its contract.
+-- `Assembly::bytes_due` meets its contract: each way out has the tests that led to it.
 use native.Mathlib.Omega.{arith}
 use borrow.Author.Needs.{needs}
 use Rattle.transport.specs.Reassembly.{bytesDue}

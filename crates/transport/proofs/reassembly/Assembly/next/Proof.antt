@@ -1,4 +1,5 @@
--- `Assembly::next` meets its contract.
+-- `Assembly::next` meets its contract: each way out has the tests that led to it, and what the calls answer is put in.
+-- What a call asks follows from what is asked here and from the tests before it.
 use native.Mathlib.Omega.{arith}
 use borrow.Author.Needs.{needs}
 use Rattle.transport.proofs.FitLaws.{fits-exactly}

@@ -1,4 +1,4 @@
--- `Assembly::reached` meets its contract.
+-- `Assembly::reached` meets its contract: each way out has the tests that led to it, and what the calls answer is put in.
 use borrow.Author.Tests.{lt-ltb, le-ltb}
 use borrow.Author.Needs.{needs}
 use Rattle.transport.specs.Reassembly.{reached}

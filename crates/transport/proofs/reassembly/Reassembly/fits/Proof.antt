@@ -1,4 +1,4 @@
--- `Reassembly::fits` meets its contract.
+-- `Reassembly::fits` meets its contract: arm by arm, with what the calls answer put in.
 use mathlib.Core.Path.{_∙_}
 use borrow.Author.Needs.{needs}
 use Rattle.transport.specs.Reassembly.{fits}

@@ -1,4 +1,4 @@
--- `Reassembly::listens` meets its contract.
+-- `Reassembly::listens` meets its contract: arm by arm.
 use borrow.Author.Tests.{eq-eqb, ne-eqb}
 use borrow.Author.Needs.{needs}
 use Rattle.transport.specs.Reassembly.{listens}

@@ -1,4 +1,5 @@
--- `Reassembly::next` meets its contract.
+-- `Reassembly::next` meets its contract: arm by arm, with what the calls answer put in.
+-- What a call asks follows from what is asked here and from the tests before it.
 use borrow.Author.Needs.{needs}
 use Rattle.transport.specs.Parts.{nextOutcome}
 use Rattle.transport.specs.Reassembly.{fits}

@@ -1,4 +1,4 @@
--- `Reassembly::refused` meets its contract.
+-- `Reassembly::refused` meets its contract: the definition is opened, with what the calls answer put in.
 use mathlib.Core.Path.{_∙_}
 use borrow.Author.Needs.{needs}
 use Rattle.transport.proofs.reassembly.Reassembly.refused.Statement.{statement}

@@ -1,4 +1,4 @@
--- `Reassembly::single` meets its contract.
+-- `Reassembly::single` meets its contract: each way out has the tests that led to it, and what the calls answer is put in.
 use mathlib.Core.Path.{refl}
 use borrow.Author.Needs.{needs}
 use Rattle.transport.specs.Reassembly.{singleStep}
