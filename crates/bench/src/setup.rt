@@ -50,7 +50,7 @@ fn frame_bytes(t: &[u16]) -> u32 {
         return 0;
     }
     let frames = t[0];
-    if Limits::FRAMES < frames as usize {
+    if (Limits::FRAMES as u16) < frames {
         return 0;
     }
     8 * frames as u32
