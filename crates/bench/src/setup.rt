@@ -41,7 +41,7 @@ fn lay(desk: &mut Desk, t: &[u16]) -> Reply {
     desk::put(desk, State::fresh());
     desk[WORDS_USED] = (t.len() % 65536) as u32;
     desk[FRAMES_USED] = frame_bytes(t);
-    Reply::check(cluster::check(t))
+    Reply::check(cluster::taken(t))
 }
 
 // The frame bytes of a table: eight a frame, and none where the number of frames is missing or too large.

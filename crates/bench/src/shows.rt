@@ -48,9 +48,9 @@ fn sent_count(opened: Opened, t: &[u16]) -> usize {
     opened.length(t) as usize + 1
 }
 
-// Whether a frame is in the table; a table that is not right has none.
+// Whether a frame is in the table; a table that is not taken has none.
 fn is_there(t: &[u16], f: u16) -> bool {
-    match cluster::check(t) {
+    match cluster::taken(t) {
         Verdict::Accepted => f < count(t),
         Verdict::Refused(_) => false,
     }

@@ -62,51 +62,51 @@ left-over begun (c ∷ text) =
 
 -- ---- a line with no newline in it
 
-plain : List ℕ → Bool
-plain [] = true
-plain (c ∷ u) = not (eqb c 10) && plain u
+oneLine : List ℕ → Bool
+oneLine [] = true
+oneLine (c ∷ u) = not (eqb c 10) && oneLine u
 
-module _ (c : ℕ) (u : List ℕ) (h : plain (c ∷ u) ≡ true) where
+module _ (c : ℕ) (u : List ℕ) (h : oneLine (c ∷ u) ≡ true) where
   no-newline : eqb c 10 ≡ false
-  unfolding plain
+  unfolding oneLine
   no-newline = whether (eqb c 10) (λ e. absurd (true≢false (sym h ∙ rw e))) (λ e. e)
 
-  plain-on : plain u ≡ true
-  unfolding plain
-  plain-on = and-right (not (eqb c 10)) (plain u) h
+  one-line-on : oneLine u ≡ true
+  unfolding oneLine
+  one-line-on = and-right (not (eqb c 10)) (oneLine u) h
 
-plain-lines : (begun u b : List ℕ) → plain u ≡ true → wholeLines begun (u ++ b) ≡ wholeLines (begun ++ u) b
-plain-lines begun [] b h = rw append-nil
-plain-lines begun (c ∷ u) b h =
+one-line-lines : (begun u b : List ℕ) → oneLine u ≡ true → wholeLines begun (u ++ b) ≡ wholeLines (begun ++ u) b
+one-line-lines begun [] b h = rw append-nil
+one-line-lines begun (c ∷ u) b h =
     line-goes-on c (u ++ b) begun (no-newline c u h)
-    ∙ plain-lines (begun ++ (c ∷ [])) u b (plain-on c u h)
+    ∙ one-line-lines (begun ++ (c ∷ [])) u b (one-line-on c u h)
     ∙ rw (append-snoc begun c u)
 
-plain-rest : (begun u b : List ℕ) → plain u ≡ true → unfinished begun (u ++ b) ≡ unfinished (begun ++ u) b
-plain-rest begun [] b h = rw append-nil
-plain-rest begun (c ∷ u) b h =
+one-line-rest : (begun u b : List ℕ) → oneLine u ≡ true → unfinished begun (u ++ b) ≡ unfinished (begun ++ u) b
+one-line-rest begun [] b h = rw append-nil
+one-line-rest begun (c ∷ u) b h =
     rest-goes-on c (u ++ b) begun (no-newline c u h)
-    ∙ plain-rest (begun ++ (c ∷ [])) u b (plain-on c u h)
+    ∙ one-line-rest (begun ++ (c ∷ [])) u b (one-line-on c u h)
     ∙ rw (append-snoc begun c u)
 
-plain-take : (k : ℕ) (u : List ℕ) → plain u ≡ true → plain (take k u) ≡ true
-unfolding plain
-plain-take zero u h = refl
-plain-take (suc k) [] h = refl
-plain-take (suc k) (c ∷ u) h = rw (no-newline c u h) (plain-take k u (plain-on c u h))
+one-line-take : (k : ℕ) (u : List ℕ) → oneLine u ≡ true → oneLine (take k u) ≡ true
+unfolding oneLine
+one-line-take zero u h = refl
+one-line-take (suc k) [] h = refl
+one-line-take (suc k) (c ∷ u) h = rw (no-newline c u h) (one-line-take k u (one-line-on c u h))
 
-plain-snoc : (u : List ℕ) (c : ℕ) → plain u ≡ true → eqb c 10 ≡ false → plain (u ++ (c ∷ [])) ≡ true
-unfolding plain
-plain-snoc [] c h e = rw e
-plain-snoc (b ∷ u) c h e = rw (no-newline b u h) (plain-snoc u c (plain-on b u h) e)
+one-line-snoc : (u : List ℕ) (c : ℕ) → oneLine u ≡ true → eqb c 10 ≡ false → oneLine (u ++ (c ∷ [])) ≡ true
+unfolding oneLine
+one-line-snoc [] c h e = rw e
+one-line-snoc (b ∷ u) c h e = rw (no-newline b u h) (one-line-snoc u c (one-line-on b u h) e)
 
-plain-unfinished : (begun text : List ℕ) → plain begun ≡ true → plain (unfinished begun text) ≡ true
-unfolding plain unfinished
-plain-unfinished begun [] h = h
-plain-unfinished begun (c ∷ text) h =
+one-line-unfinished : (begun text : List ℕ) → oneLine begun ≡ true → oneLine (unfinished begun text) ≡ true
+unfolding oneLine unfinished
+one-line-unfinished begun [] h = h
+one-line-unfinished begun (c ∷ text) h =
     whether (eqb c 10)
-    (λ e. rw e (plain-unfinished [] text refl))
-    (λ e. rw e (plain-unfinished (begun ++ (c ∷ [])) text (plain-snoc begun c h e)))
+    (λ e. rw e (one-line-unfinished [] text refl))
+    (λ e. rw e (one-line-unfinished (begun ++ (c ∷ [])) text (one-line-snoc begun c h e)))
 
 -- ---- two lines that begin alike: they are the same, or both are too long for pairs
 
@@ -176,16 +176,16 @@ alike-rest u v (x ∷ c) a =
 -- ---- the report in parts
 
 -- what is kept of a part behind a line of which only the first characters were kept
-kept-rest : (u part : List ℕ) → plain u ≡ true
+kept-rest : (u part : List ℕ) → oneLine u ≡ true
     → keptOf (take keptLength u ++ part) (charactersOf (wholeLines [] (take keptLength u ++ part))) ≡ take keptLength (unfinished u part)
 unfolding keptOf Alike
 kept-rest u part h =
-    rw (left-over [] (take keptLength u ++ part), plain-rest [] (take keptLength u) part (plain-take keptLength u h))
+    rw (left-over [] (take keptLength u ++ part), one-line-rest [] (take keptLength u) part (one-line-take keptLength u h))
     (alike-rest (take keptLength u) u part (alike-cut u))
 
 module _ (t : List ℕ) where
   -- where u is what came of the current line
-  parts-from : (n : ℕ) (u : List ℕ) (parts : List (List ℕ)) → plain u ≡ true
+  parts-from : (n : ℕ) (u : List ℕ) (parts : List (List ℕ)) → oneLine u ≡ true
       → inParts t n (take keptLength u) parts ≡ rowsOf t n (wholeLines u (joined parts) ++ lastLine (unfinished u (joined parts)))
   unfolding inParts joined wholeLines unfinished
   parts-from n u [] h = alike-last t n (take keptLength u) u (alike-cut u)
@@ -194,10 +194,10 @@ module _ (t : List ℕ) where
       let r : List ℕ = unfinished u part in
       rw (
         kept-rest u part h,
-        plain-lines [] (take keptLength u) part (plain-take keptLength u h),
+        one-line-lines [] (take keptLength u) part (one-line-take keptLength u h),
         alike-rows t n (take keptLength u) u part (alike-cut u),
         alike-count (take keptLength u) u part,
-        parts-from m r parts (plain-unfinished u part h),
+        parts-from m r parts (one-line-unfinished u part h),
         lines-append u part (joined parts),
         rest-append u part (joined parts),
       )
@@ -207,15 +207,15 @@ module _ (t : List ℕ) where
 
   -- a log that comes in parts, cut anywhere, gives the report of the whole log
   pub parts-joined : (parts : List (List ℕ)) → header ++ inParts t 1 [] parts ≡ reportOf t (joined parts)
-  unfolding reportOf logLines plain
+  unfolding reportOf logLines oneLine
   parts-joined parts = ap (λ (rows : List ℕ). header ++ rows) (parts-from 1 [] parts refl)
 
 -- what is kept of a text is one line: there is no newline in it
 pub kept-line : (text : List ℕ) → wholeLines [] (keptOf text (charactersOf (wholeLines [] text)) ++ (10 ∷ [])) ≡ keptOf text (charactersOf (wholeLines [] text)) ∷ []
-unfolding keptOf wholeLines plain
+unfolding keptOf wholeLines oneLine
 kept-line text =
     rw (left-over [] text)
-    (plain-lines [] (take keptLength (unfinished [] text)) (10 ∷ []) (plain-take keptLength (unfinished [] text) (plain-unfinished [] text refl)))
+    (one-line-lines [] (take keptLength (unfinished [] text)) (10 ∷ []) (one-line-take keptLength (unfinished [] text) (one-line-unfinished [] text refl)))
 
 -- ---- what document 01 says of lines
 

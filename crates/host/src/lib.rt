@@ -8,7 +8,7 @@ use wire::checksum::Model;
 ghost use mathlib.Core.Path.{_≡_};
 ghost use Rattle.wire.specs.Checksum.{checksumOf};
 ghost use Rattle.wire.specs.Identifier.{protectedOf, readOf};
-ghost use Rattle.cluster.specs.Check.{judged};
+ghost use Rattle.cluster.specs.Check.{takenOf};
 ghost use Rattle.host.specs.Coded.{coded as codedOf, positionOf, wishOf};
 
 // Builds the protected identifier of an identifier.
@@ -42,9 +42,9 @@ pub extern "C" fn lin_checksum(id: u8, model: u8, data: &[u8]) -> u16
 // Checks a cluster table: the position of the first word that is wrong, missing or surplus, or 2^64 - 1 where it is accepted.
 #[no_mangle]
 pub extern "C" fn lin_check(table: &[u16]) -> usize
-    ensures { λ r. ⌜ r ≡ positionOf (judged (now (table .entry))) ⌝ }
+    ensures { λ r. ⌜ r ≡ positionOf (takenOf (now (table .entry))) ⌝ }
 {
-    match cluster::check(table) {
+    match cluster::taken(table) {
         Verdict::Accepted => 18446744073709551615,
         Verdict::Refused(refusal) => refusal.place,
     }

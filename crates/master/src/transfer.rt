@@ -23,7 +23,7 @@ ghost use Rattle.cluster.specs.Check.{RightTable};
 ghost use Rattle.master.specs.Admit.{bufferSize};
 ghost use Rattle.master.specs.Fits.{frameThere, entryOpens, countFits};
 ghost use Rattle.master.specs.declared.state.Opened.the-variants.{Frame, Request};
-ghost use Rattle.master.specs.Transfers.{formatOf, isOpen, openLength, openIdentifier, openModel, sends as sendsOf, openProtected};
+ghost use Rattle.master.specs.Transfers.{formatOf, isOpen, openLength, openIdentifier, sends as sendsOf, openProtected};
 ghost use Rattle.master.specs.Transfers.{openChecksum, frameData, requestData, copied, opening};
 ghost use Rattle.master.specs.Fresh.{noTransfer};
 ghost use Rattle.master.specs.Write.{touchesOpen, rewritten as rewrittenOf};

@@ -22,7 +22,7 @@ use Rattle.master.proofs.Admitted.{admits}
 use Rattle.cluster.proofs.MemberOf.{ahead-parts, same-ahead, listed-member}
 use Rattle.master.proofs.History.Computed.{pendingAfter}
 use Rattle.master.proofs.History.PendingLaw.{pending-iff}
-use Rattle.master.proofs.History.Counting.{countIf, counted}
+use Rattle.master.proofs.History.Counting.{countIf, count-holds}
 use Rattle.master.proofs.History.Agrees.{Agrees}
 
 -- bits that say what p says count what p counts
@@ -46,7 +46,7 @@ module _ (t : List ℕ) (is-taken : TakenTable t) (ok : RightTable t) (h : Seq S
         let same = same-ahead t ok f (w .0) ahead behind (rw (w .1) p) in (
           countIf (pendingAfter t h) ahead,
           counts (w .0) ∙ rw same,
-          counted (pendingAfter t h) (Pending t h) (pending-iff t h) ahead,
+          count-holds (pendingAfter t h) (Pending t h) (pending-iff t h) ahead,
         );
     unlisted = λ none.
         whether (ltb (memberOf t f) (memberCount t))

@@ -21,13 +21,13 @@ module _ (p : ℕ → Bool) (P : ℕ → Type 0) (decides : (f : ℕ) → (p f �
   count-is (one-more {f = f} x c) = rw (decides f .1 x, count-is c)
   count-is (not-this {f = f} x c) = rw (false-unless (p f) (λ t. x (decides f .0 t)), count-is c)
 
-  pub counted : (fs : List ℕ) → Count P fs (countIf p fs)
+  pub count-holds : (fs : List ℕ) → Count P fs (countIf p fs)
   unfolding countIf
-  counted [] = none-left
-  counted (f ∷ fs) =
+  count-holds [] = none-left
+  count-holds (f ∷ fs) =
       whether (p f)
-      (λ b. rw b (one-more (decides f .0 b) (counted fs)))
-      (λ b. rw b (not-this (λ x. never (rw b at (decides f .1 x))) (counted fs)))
+      (λ b. rw b (one-more (decides f .0 b) (count-holds fs)))
+      (λ b. rw b (not-this (λ x. never (rw b at (decides f .1 x))) (count-holds fs)))
 
 -- what has q has p: no more frames have q, and fewer if one has p and not q
 module _ (q p : ℕ → Bool) where
