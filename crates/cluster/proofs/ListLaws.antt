@@ -1,14 +1,18 @@
 -- Laws of the lists of an accepted table, each over `members t l`, the list's frames in priority order.
 use Prim.Native.Nat.{ℕ, zero, suc, _+_, _≤_, _<_}
 use mathlib.Core.Path.{_≡_, refl, sym, _∙_, ap}
-use mathlib.Core.Bool.{true}
-use mathlib.Core.List.{List, _∷_}
+use mathlib.Core.Logic.{_↔_}
+use mathlib.Core.Bool.{true, false, true≢false}
+use mathlib.Core.List.{List, [], _∷_}
 use native.Mathlib.Decide.{ℕ-discrete}
 use native.Mathlib.Nat.{zero-add}
 use native.Mathlib.Omega.{arith}
+use borrow.Author.Tests.{eqb-true, eq-eqb, ne-eqb}
+use lib.Dec.{eqb}
 use lib.ListN.{length, getD}
+use Rattle.wire.proofs.Tests.{whether}
 use Rattle.cluster.specs.Check.{RightTable}
-use Rattle.cluster.specs.Lists.{membersFrom, members}
+use Rattle.cluster.specs.Lists.{membersFrom, members, isOneOf}
 use Rattle.cluster.specs.Table.{frameCount, published, memberCount, memberList, memberFrame, listCount}
 use Rattle.cluster.proofs.ListWalk.{turn-in, turn-out}
 use Rattle.cluster.proofs.MemberLaws.{member-frame-below, member-published, members-distinct, list-member}
@@ -19,6 +23,27 @@ Stands xs x = (i : ℕ) × (i < length xs) × (getD xs i 0 ≡ x)
 
 stands-later : (x y : ℕ) (xs : List ℕ) → Stands xs x → Stands (y ∷ xs) x
 stands-later x y xs w = (suc (w .0), omega (arith, w .1), w .2)
+
+one-of-stands : (f : ℕ) (fs : List ℕ) → isOneOf f fs ≡ true → Stands fs f
+unfolding isOneOf
+one-of-stands f [] e = absurd (true≢false (sym e))
+one-of-stands f (g ∷ gs) e =
+    whether (eqb g f)
+    (λ y. (0, omega arith, eqb-true g f y))
+    (λ n. stands-later f g gs (one-of-stands f gs (rw n at e)))
+
+stands-one-of : (f : ℕ) (fs : List ℕ) → Stands fs f → isOneOf f fs ≡ true
+unfolding isOneOf
+stands-one-of f [] w = absurd (omega (arith, w .1))
+stands-one-of f (g ∷ gs) w =
+    elim (ℕ-discrete g f) [
+      | yes p ↦ rw (eq-eqb g f p)
+      | no p ↦ rw (ne-eqb g f p) (stands-one-of f gs (behind (w .0) (w .1) (w .2) p))
+    ]
+  where
+    behind : (i : ℕ) → i < length (g ∷ gs) → getD (g ∷ gs) i 0 ≡ f → (g ≡ f → ⊥) → Stands gs f
+    behind zero b e p = absurd (p e)
+    behind (suc i) b e p = (i, omega arith, e)
 
 -- the elements of a list are all different
 abbrev pub Different : List ℕ → Type 0
@@ -87,6 +112,17 @@ module _ (t : List ℕ) (l : ℕ) where
   pub member-listed : (m : ℕ) → m < memberCount t → memberList t m ≡ l → Stands (members t l) (memberFrame t m)
   unfolding members
   member-listed m h e = stands 0 (memberCount t) m (omega arith) (omega arith) e
+
+-- a frame is in a list exactly when it is the frame of a member of that list
+pub in-list : (t : List ℕ) (l f : ℕ)
+    → (isOneOf f (members t l) ≡ true) ↔ ((m : ℕ) × (m < memberCount t) × (memberList t m ≡ l) × (memberFrame t m ≡ f))
+in-list t l f = (
+  (λ e.
+      let s = one-of-stands f (members t l) e in
+      let w = listed t l (s .0) (s .1) in
+      (w .member, w .below, w .list, sym (w .same) ∙ s .2)),
+  (λ w. stands-one-of f (members t l) (rw (w .3) at (member-listed t l (w .0) (w .1) (w .2)))),
+)
 
 module _ (t : List ℕ) (ok : RightTable t) (l : ℕ) where
   different : (m n : ℕ) → m + n ≤ memberCount t → Different (membersFrom t l m n)

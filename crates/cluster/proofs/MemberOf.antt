@@ -1,6 +1,7 @@
 -- The member that a frame is, and the frames ahead of a frame in its list.
 use Prim.Native.Nat.{ℕ, zero, suc, _+_, _-_, _≤_, _<_}
 use mathlib.Core.Path.{_≡_, refl, sym, _∙_, ap}
+use mathlib.Core.Logic.{_↔_}
 use mathlib.Core.List.{List, _∷_, _++_}
 use native.Mathlib.Decide.{ℕ-discrete}
 use native.Mathlib.Omega.{arith}
@@ -14,7 +15,7 @@ use Rattle.cluster.specs.Table.{memberCount, memberList, memberFrame}
 use Rattle.cluster.proofs.ListLaws.{listed, listed-distinct}
 use Rattle.cluster.proofs.ListWalk.{turn-in, turn-out}
 use Rattle.cluster.proofs.MemberLaws.{members-distinct}
-use Rattle.cluster.proofs.Searching.{first-holds, first-least}
+use Rattle.cluster.proofs.Searching.{first-holds, first-least, first-within}
 
 -- the members of a list, first some and then the others
 members-parts : (t : List ℕ) (l m a b : ℕ) → membersFrom t l m (a + b) ≡ membersFrom t l m a ++ membersFrom t l (m + a) b
@@ -72,6 +73,19 @@ module _ (t : List ℕ) (ok : RightTable t) (f : ℕ) (h : memberOf t f < member
 found : (t : List ℕ) (f m : ℕ) → memberFrame t m ≡ f → memberOf t f ≤ m
 unfolding memberOf
 found t f m e = first-least (λ k. eqb (memberFrame t k) f) 0 (memberCount t) m (omega arith) (eq-eqb (memberFrame t m) f e)
+
+-- a frame is in a list exactly when it is the frame of some member
+pub member-exactly : (t : List ℕ) (f : ℕ) → (memberOf t f < memberCount t) ↔ ((m : ℕ) × (m < memberCount t) × (memberFrame t m ≡ f))
+member-exactly t f = (λ h. (memberOf t f, h, member-of-frame t f h), λ w. omega (arith, w .1, found t f (w .0) (w .2)))
+
+-- and where it is in none the number of members is told
+pub member-none : (t : List ℕ) (f : ℕ) → (memberOf t f < memberCount t → ⊥) → memberOf t f ≡ memberCount t
+unfolding memberOf
+member-none t f n =
+    elim (ℕ-discrete (memberOf t f) (memberCount t)) [
+      | yes p ↦ p
+      | no p ↦ absurd (n (omega (arith, p, first-within (λ m. eqb (memberFrame t m) f) 0 (memberCount t))))
+    ]
 
 -- each member of the table is found by its frame
 pub member-of : (t : List ℕ) → RightTable t → (m : ℕ) → m < memberCount t → memberOf t (memberFrame t m) ≡ m

@@ -40,6 +40,15 @@ module _ (test : ℕ → Bool) where
       (λ e. omega (arith, turn-right k n e))
       (λ e. omega (arith, turn-wrong k n e, first-from (suc k) n))
 
+  -- nor behind the numbers that are searched
+  pub first-within : (k n : ℕ) → firstFrom test k n ≤ k + n
+  unfolding firstFrom
+  first-within k zero = omega arith
+  first-within k (suc n) =
+      whether (test k)
+      (λ e. omega (arith, turn-right k n e))
+      (λ e. omega (arith, turn-wrong k n e, first-within (suc k) n))
+
   -- the test holds there, where it holds at all
   pub first-holds : (k n : ℕ) → firstFrom test k n < k + n → test (firstFrom test k n) ≡ true
   unfolding firstFrom

@@ -6,9 +6,10 @@ use mathlib.Core.List.{List}
 use native.Mathlib.Omega.{arith}
 use lib.ListN.{length}
 use Rattle.refusal.specs.declared.Refusal.{Refusal}
-use Rattle.cluster.specs.Check.{takenOf}
+use Rattle.cluster.specs.Check.{judged, takenOf}
 use Rattle.cluster.specs.declared.Verdict.the-variants.{Accepted, Refused}
-use Rattle.cluster.proofs.TakenLaws.{taken-place}
+use Rattle.cluster.proofs.FirstFault.{first-fault}
+use Rattle.cluster.proofs.TakenLaws.{right-taken, taken-refused}
 use Rattle.wire.specs.Answer.{refusalOf, valueOf}
 use Rattle.wire.specs.declared.Answer.{Answer}
 use Rattle.host.specs.Coded.{coded, positionOf}
@@ -21,10 +22,11 @@ pub coded-refusal : (answer : Answer) → valueOf answer < 256 → coded answer 
 unfolding coded
 coded-refusal answer h = omega arith
 
-pub position-refused : (t : List ℕ) (r : Refusal) → takenOf t ≡ Refused r → (positionOf (takenOf t) ≡ r .place) × (r .place ≤ length t)
+-- a refused table is told at the position that the table check gives
+pub position-refused : (t : List ℕ) (r : Refusal) → judged t ≡ Refused r → (positionOf (takenOf t) ≡ r .place) × (r .place ≤ length t)
 unfolding positionOf
-position-refused t r h = (rw h, taken-place t r h)
+position-refused t r h = (rw (taken-refused t r .1 h), first-fault t r h .within)
 
-pub position-accepted : (t : List ℕ) → takenOf t ≡ Accepted → positionOf (takenOf t) ≡ 18446744073709551615
+pub position-accepted : (t : List ℕ) → judged t ≡ Accepted → positionOf (takenOf t) ≡ 18446744073709551615
 unfolding positionOf
-position-accepted t h = rw h
+position-accepted t h = rw (right-taken t h)
