@@ -6,6 +6,7 @@ pub mod ByteLaws
 pub mod Cases
 pub mod Counted
 pub mod Filling
+pub mod FitsExactly
 pub mod FitsKept
 pub mod History
 pub mod Keeps
