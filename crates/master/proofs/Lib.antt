@@ -13,6 +13,7 @@ pub mod Keeps
 pub mod LastByte
 pub mod Lengths
 pub mod Marking
+pub mod LowestNumber
 pub mod MessageFits
 pub mod Nine
 pub mod NumberZero
