@@ -199,10 +199,13 @@ module _ (t : List ℕ) (ok : RightTable t) (s : State) where
     where
       opened : (p : Opened) → o ≡ p → isOpen p ≡ true → (e : ℕ) × (c ≡ current.Entry e) × (entryOpens t (s .message) e p ≡ true)
       opened p q y = runs t (s .message) c p y (rw q at (f .can-open))
+
       request-kind : (e : ℕ) → entryOpens t (s .message) e Request ≡ true → entryKind t e ≡ 2
       request-kind e h = eqb-true (entryKind t e) 2 (and-left (eqb (entryKind t e) 2) (isSending (s .message)) h)
+
       request-message : (e : ℕ) → entryOpens t (s .message) e Request ≡ true → isSending (s .message) ≡ true
       request-message e h = and-right (eqb (entryKind t e) 2) (isSending (s .message)) h
+
       response-kind : (e : ℕ) → entryOpens t (s .message) e Response ≡ true → entryKind t e ≡ 3
       response-kind e h = eqb-true (entryKind t e) 3 h
 
@@ -223,19 +226,23 @@ module _ (t : List ℕ) (ok : RightTable t) (s : State) where
       there : (d : Current) → c ≡ d → entryThere t d ≡ true
       there current.None q = refl
       there (current.Entry e) q = lt-ltb e (entryCount t) (w .entry e q)
+
       asked : (r : Requested) → s .plan .requested ≡ r → scheduleThere t r ≡ true
       asked requested.None q = refl
       asked (requested.Schedule n) q =
           let v = w .schedule n q in
           lt-ltb n (scheduleCount t) (rw (v .2) at (schedule-below t ok (v .0) (v .1)))
+
       frame-there : (p : Opened) → o ≡ p → frameThere t p ≡ true
       frame-there Nothing q = refl
       frame-there (Frame f) q = lt-ltb f (frameCount t) (w .frame f q)
       frame-there Request q = refl
       frame-there Response q = refl
+
       waiting : (d : Current) → c ≡ d → waitFits t (s .plan) ≡ true
       waiting current.None q = rw q (le-leb (s .plan .wait) 0 (omega (arith, w .no-wait q)))
       waiting (current.Entry e) q = rw q (le-leb (s .plan .wait) (entryDelay t e) (w .wait e q))
+
       opened : (p : Opened) → o ≡ p → canOpen t (s .message) c o ≡ true
       opened Nothing q = rw q (nothing c)
         where
@@ -248,11 +255,13 @@ module _ (t : List ℕ) (ok : RightTable t) (s : State) where
           let m = w .request-sends q in
           rw (q, v .1, v .2, m .1)
       opened Response q = let v = w .opens-response q in rw (q, v .1, v .2)
+
       counted : (p : Opened) → o ≡ p → countFits t (s .transfer) ≡ true
       counted Nothing q = rw q
       counted (Frame f) q = rw q (le-leb (s .transfer .count) (frameLength t f) (omega (arith, w .frame-bytes f q)))
       counted Request q = rw q (le-leb (s .transfer .count) 8 (omega (arith, w .request-bytes q)))
       counted Response q = rw q (le-leb (s .transfer .count) 8 (omega (arith, w .response-bytes q)))
+
       sending : (m : Message) → s .message ≡ m → messageFits m ≡ true
       sending message.None q = refl
       sending (message.Sending y) q = clauses-sending y (w .length-low y q) (w .length-high y q) (w .frame-left y q)

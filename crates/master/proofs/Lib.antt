@@ -16,7 +16,6 @@ pub mod Marking
 pub mod LowestNumber
 pub mod MessageFits
 pub mod Nine
-pub mod NumberZero
 pub mod OpenLaws
 pub mod Parts
 pub mod PendingFits

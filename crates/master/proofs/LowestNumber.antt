@@ -48,10 +48,9 @@ use Rattle.master.specs.Answers.{verdictNumber}
 use Rattle.master.specs.Calls as call
 use Rattle.master.specs.Calls.{Call}
 use Rattle.master.specs.Run.{Held, answerOf}
-use Rattle.master.specs.Step.{verdictOf, numberTold}
+use Rattle.master.specs.Step.{verdictOf, refusalOf, numberTold}
 use Rattle.master.proofs.FitsExactly.{Clauses, fits-exactly}
-use Rattle.master.proofs.NumberZero.{step-numbered}
-use Rattle.master.proofs.StepLaws.{number-told}
+use Rattle.master.proofs.StepLaws.{number-told, refused-exactly}
 use Rattle.master.proofs.Tests.{never}
 
 -- the calls that are lent the frame buffer
@@ -107,11 +106,6 @@ module _ (R : ℕ → Type 0) where
   abbrev NoneBelow : ℕ → Type 0
   NoneBelow n = (k : ℕ) → k < n → ¬ R k
 
-  -- the row of a refusal is the lowest that applies, and where all is accepted none does
-  abbrev Lowest : Verdict → Type 0
-  Lowest verdict.Accepted = (k : ℕ) → ¬ R k
-  Lowest (verdict.Refused r) = R (r .number) × NoneBelow (r .number)
-
   one-more : (n : ℕ) → NoneBelow n → ¬ R n → NoneBelow (suc n)
   one-more n h here k b r = elim (ℕ-discrete k n) [
     | yes p ↦ here (rw p at r)
@@ -126,10 +120,20 @@ module _ (R : ℕ → Type 0) where
   all-none : (a : ℕ) → NoneBelow a → ((k : ℕ) → R k → k < a) → (k : ℕ) → ¬ R k
   all-none a h high k r = h k (high k r) r
 
+-- a refusal tells no place, or is that of the table check
+abbrev Placed : List ℕ → Refusal → Type 0
+Placed t r = (r .place ≡ 0) ⊎ (judged t ≡ verdict.Refused r)
+
+module _ (t : List ℕ) (x : Held) (c : Call) where
+  -- the row of a refusal is the lowest that applies, and where all is accepted none does
+  abbrev Lowest : Verdict → Type 0
+  Lowest verdict.Accepted = (k : ℕ) → ¬ Row t x c k
+  Lowest (verdict.Refused r) = Row t x c (r .number) × NoneBelow (Row t x c) (r .number) × Placed t r
+
   -- a test in front of a verdict: its row applies where it fails
-  tested : (b : Bool) (n : ℕ) (v : Verdict) → NoneBelow n → (b ≡ false → R n) → (b ≡ true → Lowest v) → Lowest (unless b n v)
+  tested : (b : Bool) (n : ℕ) (v : Verdict) → NoneBelow (Row t x c) n → (b ≡ false → Row t x c n) → (b ≡ true → Lowest v) → Lowest (unless b n v)
   tested true n v h row rest = rest refl
-  tested false n v h row rest = (row refl, h)
+  tested false n v h row rest = (row refl, h, inl refl)
 
 -- ---- tests 1, 2 and 3
 
@@ -156,17 +160,18 @@ module _ (t : List ℕ) (x : Held) where
 
   -- behind tests 1 and 2, and the state's own part of 3, comes the rest; a call that is lent no frame bytes asks with the right number of them
   head : (c : Call) (n : ℕ) (v : Verdict) → (lent c ≡ true → n ≡ length (x .bytes)) → (lent c ≡ false → n ≡ bufferSize t)
-      → (RightTable t → Clauses t (x .state) → NoneBelow (R c) 3 → Lowest (R c) v) → Lowest (R c) (then (admitted t n (x .state)) v)
+      → (RightTable t → Clauses t (x .state) → NoneBelow (R c) 3 → Lowest t x c v) → Lowest t x c (then (admitted t n (x .state)) v)
   unfolding admitted bufferSize
   head c n v given else rest = by (takenOf t) refl
     where
       lends : ¬ (n ≡ 8 * frameCount t) → lent c ≡ true
       lends differs = whether (lent c) (λ y. y) (λ q. absurd (differs (else q)))
-      by : (w : Verdict) → takenOf t ≡ w → Lowest (R c) (then (admitted t n (x .state)) v)
+
+      by : (w : Verdict) → takenOf t ≡ w → Lowest t x c (then (admitted t n (x .state)) v)
       by (verdict.Refused r) e =
           let q = taken-refused t r .0 e in
           let i = first-fault t r q .number in
-          rw (e, i) (table-fault r q, not-0 c)
+          rw e (rw i (table-fault r q), rw i (not-0 c), inr q)
       by verdict.Accepted e =
           let ok = taken-right t e in
           let none-1 = one-more (R c) 1 (not-0 c) (not-1 c ok) in
@@ -176,10 +181,10 @@ module _ (t : List ℕ) (x : Held) where
           let none-2 = one-more (R c) 2 none-1 (not-2 c (λ l. sym (given l) ∙ size)) in
           whether (stateFits t (x .state))
           (λ f. rw (e, y, f) (rest ok (fits-exactly t ok (x .state) .0 f) none-2))
-          (λ f. rw (e, y, f) (state-unfit (λ w. never (sym f ∙ fits-exactly t ok (x .state) .1 w)), none-2)))
+          (λ f. rw (e, y, f) (state-unfit (λ w. never (sym f ∙ fits-exactly t ok (x .state) .1 w)), none-2, inl refl)))
           (λ y.
           let differs = eqb-false n (8 * frameCount t) y in
-          rw (e, y) (buffer-size (lends differs) (λ q. differs (given (lends differs) ∙ q)), none-1))
+          rw (e, y) (buffer-size (lends differs) (λ q. differs (given (lends differs) ∙ q)), none-1, inl refl))
 
 -- ---- the signal of a write or a read
 
@@ -252,22 +257,22 @@ module _ (t : List ℕ) (x : Held) (w : Put) where
   high k (value-too-large v e l) = omega arith
   high k (array-length vs e n) = omega arith
 
-  write-lowest : Lowest (Row t x (call.write w)) (writeVerdict t (length (x .bytes)) (x .state) w)
+  write-lowest : Lowest t x (call.write w) (writeVerdict t (length (x .bytes)) (x .state) w)
   unfolding writable
   write-lowest = head t x (call.write w) (length (x .bytes)) _ (λ l. refl) (λ n. never (sym n)) rest
     where
-      rest : RightTable t → Clauses t (x .state) → NoneBelow (Row t x (call.write w)) 3 → Lowest (Row t x (call.write w)) (writable t s (isBytes (w .value)) (fitsSignal t s (w .value)))
+      rest : RightTable t → Clauses t (x .state) → NoneBelow (Row t x (call.write w)) 3 → Lowest t x (call.write w) (writable t s (isBytes (w .value)) (fitsSignal t s (w .value)))
       rest ok cl n2 =
           let n3 = one-more _ 3 n2 (not-3 t x (call.write w) cl (λ m e. absurd (let z : _≡_ {A = ℕ} 0 1 = cc in omega arith))) in
-          tested _ (ltb s (signalCount t)) 4 _ n3 (λ b. no-signal-to-write (ltb-false s (signalCount t) b)) (λ b.
+          tested t x _ (ltb s (signalCount t)) 4 _ n3 (λ b. no-signal-to-write (ltb-false s (signalCount t) b)) (λ b.
           let below = ltb-true s (signalCount t) b in
           let n4 = one-more _ 4 n3 (no-signal-row below) in
-          tested _ (signalPublished t s) 5 _ n4 published-row (λ p.
+          tested t x _ (signalPublished t s) 5 _ n4 published-row (λ p.
           let n5 = one-more _ 5 n4 (no-published-row p) in
-          tested _ (Bool·beq (isArray t s) (isBytes (w .value))) 6 _ n5 (kind-row (w .value) refl) (λ k.
+          tested t x _ (Bool·beq (isArray t s) (isBytes (w .value))) 6 _ n5 (kind-row (w .value) refl) (λ k.
           let same = beq-true (isArray t s) (isBytes (w .value)) k in
           let n6 = one-more _ 6 n5 (no-kind-row same) in
-          tested _ (fitsSignal t s (w .value)) 7 _ n6 (value-row ok below (w .value) refl same) (λ f.
+          tested t x _ (fitsSignal t s (w .value)) 7 _ n6 (value-row ok below (w .value) refl same) (λ f.
           all-none _ 8 (one-more _ 7 n6 (no-value-row ok below same f)) high))))
 
 -- ---- the other calls
@@ -288,20 +293,21 @@ module _ (t : List ℕ) (x : Held) where
   read-rows s k (no-signal-to-read l) = inl (omega arith)
   read-rows s k (scalar-of-array e) = inr refl
 
-  read-lowest : (s : ℕ) → Lowest (Row t x (call.read s)) (readVerdict t (length (x .bytes)) (x .state) s false)
+  read-lowest : (s : ℕ) → Lowest t x (call.read s) (readVerdict t (length (x .bytes)) (x .state) s false)
   unfolding readVerdict
   read-lowest s =
       head t x (call.read s) (length (x .bytes)) _ (λ l. refl) (λ n. never (sym n)) (λ ok w n2.
       let n3 = behind (call.read s) (λ m e. let z : _≡_ {A = ℕ} 0 1 = cc in omega arith) w n2 in
-      tested _ (ltb s (signalCount t)) 4 _ n3 (λ b. no-signal-to-read (ltb-false s (signalCount t) b)) (λ b.
+      tested t x _ (ltb s (signalCount t)) 4 _ n3 (λ b. no-signal-to-read (ltb-false s (signalCount t) b)) (λ b.
       let n4 = one-more _ 4 n3 (not-4 (ltb-true s (signalCount t) b)) in
       let n5 = skip _ 5 6 n4 (λ k r. ⊎-elim inl (λ e. inr (omega arith)) (read-rows s k r)) in
-      tested _ (Bool·beq (isArray t s) false) 6 _ n5 (λ k. scalar-of-array (is-array t s (beq-false (isArray t s) false k))) (λ k.
+      tested t x _ (Bool·beq (isArray t s) false) 6 _ n5 (λ k. scalar-of-array (is-array t s (beq-false (isArray t s) false k))) (λ k.
       let n6 = one-more _ 6 n5 (not-6 (beq-true (isArray t s) false k)) in
       all-none _ 7 n6 (λ j r. ⊎-elim (λ l. omega arith) (λ e. omega arith) (read-rows s j r)))))
     where
       not-4 : s < signalCount t → ¬ Row t x (call.read s) 4
       not-4 h (no-signal-to-read l) = omega arith
+
       not-6 : isArray t s ≡ false → ¬ Row t x (call.read s) 6
       not-6 a (scalar-of-array e) = no-array t s a e
 
@@ -312,35 +318,38 @@ module _ (t : List ℕ) (x : Held) where
   array-rows s k (no-array-to-read l) = inl (omega arith)
   array-rows s k (array-of-scalar e) = inr refl
 
-  array-lowest : (s : ℕ) → Lowest (Row t x (call.readArray s)) (readVerdict t (length (x .bytes)) (x .state) s true)
+  array-lowest : (s : ℕ) → Lowest t x (call.readArray s) (readVerdict t (length (x .bytes)) (x .state) s true)
   unfolding readVerdict
   array-lowest s =
       head t x (call.readArray s) (length (x .bytes)) _ (λ l. refl) (λ n. never (sym n)) (λ ok w n2.
       let n3 = behind (call.readArray s) (λ m e. let z : _≡_ {A = ℕ} 0 1 = cc in omega arith) w n2 in
-      tested _ (ltb s (signalCount t)) 4 _ n3 (λ b. no-array-to-read (ltb-false s (signalCount t) b)) (λ b.
+      tested t x _ (ltb s (signalCount t)) 4 _ n3 (λ b. no-array-to-read (ltb-false s (signalCount t) b)) (λ b.
       let n4 = one-more _ 4 n3 (not-4 (ltb-true s (signalCount t) b)) in
       let n5 = skip _ 5 6 n4 (λ k r. ⊎-elim inl (λ e. inr (omega arith)) (array-rows s k r)) in
-      tested _ (Bool·beq (isArray t s) true) 6 _ n5 (λ k. array-of-scalar (no-array t s (beq-false (isArray t s) true k))) (λ k.
+      tested t x _ (Bool·beq (isArray t s) true) 6 _ n5 (λ k. array-of-scalar (no-array t s (beq-false (isArray t s) true k))) (λ k.
       let n6 = one-more _ 6 n5 (not-6 (beq-true (isArray t s) true k)) in
       all-none _ 7 n6 (λ j r. ⊎-elim (λ l. omega arith) (λ e. omega arith) (array-rows s j r)))))
     where
       not-4 : s < signalCount t → ¬ Row t x (call.readArray s) 4
       not-4 h (no-array-to-read l) = omega arith
+
       not-6 : isArray t s ≡ true → ¬ Row t x (call.readArray s) 6
       not-6 a (array-of-scalar n) = n (is-array t s a)
 
-  select-lowest : (n : ℕ) → Lowest (Row t x (call.select n)) (selectVerdict t (x .state) n)
+  select-lowest : (n : ℕ) → Lowest t x (call.select n) (selectVerdict t (x .state) n)
   unfolding selectVerdict
   select-lowest n =
       head t x (call.select n) (bufferSize t) _ (λ l. never l) (λ l. refl) (λ ok w n2.
       let n3 = behind (call.select n) (λ m e. let z : _≡_ {A = ℕ} 0 1 = cc in omega arith) w n2 in
-      tested _ (ltb n (scheduleCount t)) 4 _ n3 (λ b. no-schedule (missing ok (ltb-false n (scheduleCount t) b))) (λ b.
+      tested t x _ (ltb n (scheduleCount t)) 4 _ n3 (λ b. no-schedule (missing ok (ltb-false n (scheduleCount t) b))) (λ b.
       all-none _ 5 (one-more _ 4 n3 (not-4 ok (ltb-true n (scheduleCount t) b))) high))
     where
       missing : RightTable t → scheduleCount t ≤ n → (e : ℕ) → e < entryCount t → ¬ (entrySchedule t e ≡ n)
       missing ok l e h q = omega (arith, schedule-below t ok e h)
+
       not-4 : RightTable t → n < scheduleCount t → ¬ Row t x (call.select n) 4
       not-4 ok h (no-schedule none-there) = let e = schedule-entry t ok n h in none-there (e .0) (e .1) (e .2)
+
       high : (k : ℕ) → Row t x (call.select n) k → k < 5
       high k (table-fault r e) = omega arith
       high k (buffer-size l q) = omega arith
@@ -353,11 +362,11 @@ module _ (t : List ℕ) (x : Held) where
   lent-row m message.Completed e h = never (sym h)
   lent-row m message.Failed e h = never (sym h)
 
-  tick-lowest : (m : List ℕ) → Lowest (Row t x (call.tick m)) (tickVerdict t (length (x .bytes)) (length m) (x .state))
+  tick-lowest : (m : List ℕ) → Lowest t x (call.tick m) (tickVerdict t (length (x .bytes)) (length m) (x .state))
   unfolding tickVerdict
   tick-lowest m =
       head t x (call.tick m) (length (x .bytes)) _ (λ l. refl) (λ n. never (sym n)) (λ ok w n2.
-      tested _ (lentFits (x .state .message) (length m)) 3 _ n2 (lent-row m (x .state .message) refl) (λ b.
+      tested t x _ (lentFits (x .state .message) (length m)) 3 _ n2 (lent-row m (x .state .message) refl) (λ b.
       all-none _ 4 (one-more _ 3 n2 (not-3 t x (call.tick m) w (λ k e. let q : k ≡ m = cc in rw q b))) high))
     where
       high : (k : ℕ) → Row t x (call.tick m) k → k < 4
@@ -378,20 +387,20 @@ module _ (t : List ℕ) (x : Held) where
   closed-row b opened.Request e h = never (sym h)
   closed-row b opened.Response e h = never (sym h)
 
-  byte-lowest : (b : ℕ) → Lowest (Row t x (call.byteIn b)) (byteVerdict t (length (x .bytes)) (x .state))
+  byte-lowest : (b : ℕ) → Lowest t x (call.byteIn b) (byteVerdict t (length (x .bytes)) (x .state))
   unfolding byteVerdict
   byte-lowest b =
       head t x (call.byteIn b) (length (x .bytes)) _ (λ l. refl) (λ n. never (sym n)) (λ ok w n2.
       let n3 = behind (call.byteIn b) (λ m e. let z : _≡_ {A = ℕ} 0 1 = cc in omega arith) w n2 in
       let n7 = skip _ 4 8 n3 (λ k r. ⊎-elim inl (λ e. inr (omega arith)) (byte-rows b k r)) in
-      tested _ (isOpen (x .state .transfer .opened)) 8 _ n7 (closed-row b (x .state .transfer .opened) refl) (λ y.
+      tested t x _ (isOpen (x .state .transfer .opened)) 8 _ n7 (closed-row b (x .state .transfer .opened) refl) (λ y.
       all-none _ 9 (one-more _ 8 n7 (not-8 y)) (λ j r. ⊎-elim (λ l. omega arith) (λ e. omega arith) (byte-rows b j r))))
     where
       not-8 : isOpen (x .state .transfer .opened) ≡ true → ¬ Row t x (call.byteIn b) 8
       not-8 y (no-transfer e) = never (rw e at y)
 
   -- a call with no test of its own
-  asking-lowest : (c : Call) → lent c ≡ false → NoTick c → ((k : ℕ) → Row t x c k → k < 4) → Lowest (Row t x c) (admitted t (bufferSize t) (x .state))
+  asking-lowest : (c : Call) → lent c ≡ false → NoTick c → ((k : ℕ) → Row t x c k → k < 4) → Lowest t x c (admitted t (bufferSize t) (x .state))
   asking-lowest c l n high =
       rw (← then-accepted (admitted t (bufferSize t) (x .state)))
       (head t x c (bufferSize t) verdict.Accepted (λ y. never (sym l ∙ y)) (λ y. refl) (λ ok w n2. all-none _ 4 (behind c n w n2) high))
@@ -400,7 +409,7 @@ module _ (t : List ℕ) (x : Held) where
       then-accepted verdict.Accepted = refl
       then-accepted (verdict.Refused r) = refl
 
-  status-lowest : Lowest (Row t x call.readStatus) (admitted t (bufferSize t) (x .state))
+  status-lowest : Lowest t x call.readStatus (admitted t (bufferSize t) (x .state))
   status-lowest = asking-lowest call.readStatus refl (λ m e. let z : _≡_ {A = ℕ} 0 1 = cc in omega arith) high
     where
       high : (k : ℕ) → Row t x call.readStatus k → k < 4
@@ -408,7 +417,7 @@ module _ (t : List ℕ) (x : Held) where
       high k (buffer-size l q) = omega arith
       high k (state-unfit q) = omega arith
 
-  message-lowest : Lowest (Row t x call.messageState) (admitted t (bufferSize t) (x .state))
+  message-lowest : Lowest t x call.messageState (admitted t (bufferSize t) (x .state))
   message-lowest = asking-lowest call.messageState refl (λ m e. let z : _≡_ {A = ℕ} 0 1 = cc in omega arith) high
     where
       high : (k : ℕ) → Row t x call.messageState k → k < 4
@@ -429,40 +438,44 @@ module _ (t : List ℕ) (x : Held) where
       (λ l. message-too-long (leb-false n 4095 (rw (le-leb 1 n l) at h)))
       (λ l. message-empty (omega arith))
 
-  send-lowest : (nad n : ℕ) → Lowest (Row t x (call.send nad n)) (sendVerdict t (x .state) n)
+  send-lowest : (nad n : ℕ) → Lowest t x (call.send nad n) (sendVerdict t (x .state) n)
   unfolding sendVerdict
   send-lowest nad n =
       head t x (call.send nad n) (bufferSize t) _ (λ l. never l) (λ l. refl) (λ ok w n2.
       let n3 = behind (call.send nad n) (λ m e. let z : _≡_ {A = ℕ} 0 1 = cc in omega arith) w n2 in
       let n8 = skip _ 4 9 n3 (λ k r. ⊎-elim inl (λ e. inr (e .0)) (send-rows nad n k r)) in
-      tested _ (isLength n) 9 _ n8 (length-row nad n) (λ y.
+      tested t x _ (isLength n) 9 _ n8 (length-row nad n) (λ y.
       let n9 = one-more _ 9 n8 (not-9 y) in
-      tested _ (not (isSending (x .state .message))) 10 _ n9 (λ q. sending-row (x .state .message) refl q) (λ q.
+      tested t x _ (not (isSending (x .state .message))) 10 _ n9 (λ q. sending-row (x .state .message) refl q) (λ q.
       all-none _ 11 (one-more _ 10 n9 (not-10 q)) (λ j r. ⊎-elim (λ l. omega arith) (λ e. e .1) (send-rows nad n j r)))))
     where
       not-9 : isLength n ≡ true → ¬ Row t x (call.send nad n) 9
       not-9 h (message-empty e) = omega (arith, leb-true 1 n (and-left (leb 1 n) (leb n 4095) h))
       not-9 h (message-too-long l) = omega (arith, leb-true n 4095 (and-right (leb 1 n) (leb n 4095) h))
+
       not-10 : not (isSending (x .state .message)) ≡ true → ¬ Row t x (call.send nad n) 10
       not-10 h (message-sending y e) = never (rw e at h)
+
       sending-row : (m : Message) → x .state .message ≡ m → not (isSending m) ≡ false → Row t x (call.send nad n) 10
       sending-row message.None e h = never (sym h)
       sending-row (message.Sending y) e h = message-sending y e
       sending-row message.Completed e h = never (sym h)
       sending-row message.Failed e h = never (sym h)
 
-  ahead-lowest : (f : ℕ) → Lowest (Row t x (call.numberAhead f)) (aheadVerdict t (x .state) f)
+  ahead-lowest : (f : ℕ) → Lowest t x (call.numberAhead f) (aheadVerdict t (x .state) f)
   unfolding aheadVerdict
   ahead-lowest f =
       head t x (call.numberAhead f) (bufferSize t) _ (λ l. never l) (λ l. refl) (λ ok w n2.
       let n3 = behind (call.numberAhead f) (λ m e. let z : _≡_ {A = ℕ} 0 1 = cc in omega arith) w n2 in
-      tested _ (ltb (memberOf t f) (memberCount t)) 4 _ n3 (λ b. no-member (missing (ltb-false (memberOf t f) (memberCount t) b))) (λ b.
+      tested t x _ (ltb (memberOf t f) (memberCount t)) 4 _ n3 (λ b. no-member (missing (ltb-false (memberOf t f) (memberCount t) b))) (λ b.
       all-none _ 5 (one-more _ 4 n3 (not-4 (ltb-true (memberOf t f) (memberCount t) b))) high))
     where
       missing : memberCount t ≤ memberOf t f → (m : ℕ) → m < memberCount t → ¬ (memberFrame t m ≡ f)
       missing l m h q = let b = member-exactly t f .1 (m, h, q) in omega arith
+
       not-4 : memberOf t f < memberCount t → ¬ Row t x (call.numberAhead f) 4
       not-4 h (no-member none-there) = let e = member-exactly t f .0 h in none-there (e .0) (e .1) (e .2)
+
       high : (k : ℕ) → Row t x (call.numberAhead f) k → k < 5
       high k (table-fault r e) = omega arith
       high k (buffer-size l q) = omega arith
@@ -471,7 +484,7 @@ module _ (t : List ℕ) (x : Held) where
 
   -- ---- every call
 
-  call-lowest : (c : Call) → Lowest (Row t x c) (verdictOf t x c)
+  call-lowest : (c : Call) → Lowest t x c (verdictOf t x c)
   unfolding verdictOf
   call-lowest (call.write w) = write-lowest t x w
   call-lowest (call.read s) = read-lowest s
@@ -484,30 +497,73 @@ module _ (t : List ℕ) (x : Held) where
   call-lowest call.messageState = message-lowest
   call-lowest (call.numberAhead f) = ahead-lowest f
 
+abbrev First : List ℕ → Held → Call → ℕ → Type 0
+First t x c n = Row t x c n × ((k : ℕ) → k < n → ¬ Row t x c k)
+
 -- a number is given if and only if its row applies and none of a lower number does
 pub lowest-number : (t : List ℕ) (x : Held) (c : Call) (n : ℕ)
     → (numberTold c (answerOf t x c) ≡ suc n) ↔ (Row t x c (suc n) × ((k : ℕ) → k < suc n → ¬ Row t x c k))
 lowest-number t x c n = rw (number-told t x c) (by (verdictOf t x c) (call-lowest t x c))
   where
-    by : (v : Verdict) → Lowest (Row t x c) v → (verdictNumber v ≡ suc n) ↔ (Row t x c (suc n) × ((k : ℕ) → k < suc n → ¬ Row t x c k))
+    one : (m : ℕ) → First t x c m → First t x c (suc n) → m ≡ suc n
+    one m l w =
+        order m n (λ b. absurd (w .1 m (omega arith) (l .0))) (λ b.
+        elim (ℕ-discrete m (suc n)) [
+          | yes p ↦ p
+          | no p ↦ absurd (l .1 (suc n) (omega arith) (w .0))
+        ])
+
+    by : (v : Verdict) → Lowest t x c v → (verdictNumber v ≡ suc n) ↔ First t x c (suc n)
     by verdict.Accepted l = (λ e. absurd (omega arith), λ w. absurd (l (suc n) (w .0)))
-    by (verdict.Refused r) l = (λ e. rw e at l, λ w. one (r .number) l w)
-      where
-        one : (m : ℕ) → Row t x c m × ((k : ℕ) → k < m → ¬ Row t x c k) → Row t x c (suc n) × ((k : ℕ) → k < suc n → ¬ Row t x c k) → m ≡ suc n
-        one m l w =
-            order m n (λ b. absurd (w .1 m (omega arith) (l .0))) (λ b.
-            elim (ℕ-discrete m (suc n)) [
-              | yes p ↦ p
-              | no p ↦ absurd (l .1 (suc n) (omega arith) (w .0))
-            ])
+    by (verdict.Refused r) l = (λ e. let w : First t x c (r .number) = (l .0, l .1) in rw e at w, λ w. one (r .number) (l .0, l .1) w)
 
 -- none is given if and only if no row applies
 pub no-number : (t : List ℕ) (x : Held) (c : Call) → (numberTold c (answerOf t x c) ≡ 0) ↔ ((k : ℕ) → ¬ Row t x c k)
-no-number t x c = rw (number-told t x c) (by (verdictOf t x c) (call-lowest t x c) (step-numbered t x c))
+no-number t x c = rw (number-told t x c) (by (verdictOf t x c) (call-lowest t x c))
   where
-    by : (v : Verdict) → Lowest (Row t x c) v → (verdictNumber v ≡ 0 → v ≡ verdict.Accepted) → (verdictNumber v ≡ 0) ↔ ((k : ℕ) → ¬ Row t x c k)
-    by verdict.Accepted l n = (λ e. l, λ w. refl)
-    by (verdict.Refused r) l n = (
-      (λ e. let z : _≡_ {A = ℕ} 0 1 = let q = n e in cc in absurd (omega arith)),
-      (λ w. absurd (w (r .number) (l .0))),
-    )
+    by : (v : Verdict) → Lowest t x c v → (verdictNumber v ≡ 0) ↔ ((k : ℕ) → ¬ Row t x c k)
+    by verdict.Accepted l = (λ e. l, λ w. refl)
+    by (verdict.Refused r) l = (λ e. absurd (not-0 t x c (r .number) (omega arith) (l .0)), λ w. absurd (w (r .number) (l .0)))
+
+-- ---- "return only the number (1 also the position)"
+
+-- a call refuses a table as the table check does
+table-refused : (t : List ℕ) (x : Held) (c : Call) (r : Refusal) → judged t ≡ verdict.Refused r → verdictOf t x c ≡ verdict.Refused r
+unfolding verdictOf readVerdict selectVerdict tickVerdict byteVerdict sendVerdict aheadVerdict admitted
+table-refused t x c r e = by c
+  where
+    f : takenOf t ≡ verdict.Refused r
+    f = taken-refused t r .1 e
+
+    by : (c : Call) → verdictOf t x c ≡ verdict.Refused r
+    by (call.write w) = rw f
+    by (call.read s) = rw f
+    by (call.readArray s) = rw f
+    by (call.select n) = rw f
+    by (call.tick m) = rw f
+    by (call.byteIn b) = rw f
+    by call.readStatus = rw f
+    by (call.send nad n) = rw f
+    by call.messageState = rw f
+    by (call.numberAhead f') = rw f
+
+-- a refusal with 1 is the table check's, with its position, and every other has place 0
+pub place-told : (t : List ℕ) (x : Held) (c : Call) (r : Refusal) → answerOf t x c ≡ refusalOf c r
+    → (r .number ≡ 1 → judged t ≡ verdict.Refused r) × (¬ (r .number ≡ 1) → r .place ≡ 0)
+place-told t x c r a = by (verdictOf t x c) refl (call-lowest t x c)
+  where
+    v : verdictOf t x c ≡ verdict.Refused r
+    v = refused-exactly t x c r .0 a
+
+    fault : Row t x c 1 → judged t ≡ verdict.Refused r
+    fault (table-fault q e) = e ∙ sym (table-refused t x c q e) ∙ v
+
+    by : (w : Verdict) → verdictOf t x c ≡ w → Lowest t x c w → (r .number ≡ 1 → judged t ≡ verdict.Refused r) × (¬ (r .number ≡ 1) → r .place ≡ 0)
+    by verdict.Accepted e l = let u = v in let z : _≡_ {A = ℕ} 0 1 = cc in absurd (omega arith)
+    by (verdict.Refused q) e l =
+        let u = v in
+        let same : q ≡ r = cc in
+        let k = rw same at l in (
+          (λ i. fault (rw i at (k .0))),
+          (λ n. ⊎-elim (λ p. p) (λ j. absurd (n (first-fault t r j .number))) (k .2)),
+        )
