@@ -11,6 +11,7 @@ pub mod Counting
 pub mod First
 pub mod Progress
 pub mod Words
+pub mod Worked
 pub mod Named
 pub mod Quiet
 pub mod StatusOver
