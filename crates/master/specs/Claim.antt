@@ -11,12 +11,13 @@ use Rattle.master.specs.declared.state.Opened.the-variants.{Nothing, Fra
 use Rattle.master.specs.declared.tick.TickAnswer.{TickAnswer}
 use Rattle.master.specs.declared.byte.ByteAnswer.the-variants as byte
 use Rattle.master.specs.declared.ahead.AheadAnswer.{AheadAnswer}
-use Rattle.master.specs.Seq.{Seq, _▹_, _⋈_, Each}
-use Rattle.master.specs.Calls.{Call, tick, byteIn, numberAhead, Answer, Reply, _⇒_}
+use Rattle.master.specs.Seq.{Seq, ∅, _▹_, _⋈_, Each}
+use Rattle.master.specs.Calls.{Call, tick, byteIn, numberAhead, Answer, Reply, Event, _⇒_}
 use Rattle.master.specs.Run.{answerOf, heldAfter, historyOf}
 use Rattle.master.specs.Acts.{nothing, actOf}
 use Rattle.master.specs.Schedule.{Slot, entry, Scheduled, scheduled}
 use Rattle.master.specs.History.{writes, opens, closes, openAfter, Succeeded, Pending, successes, writtenBytes, eightOf, responseOf, gotAfter}
+use Rattle.master.specs.Answering.{bytesAfter}
 use Rattle.master.specs.Replies.{Takes, Count, AheadReply, Replies}
 
 -- the history of some calls after a fresh call, each event with its slots
@@ -43,6 +44,11 @@ pub record Claim (t bs : List ℕ) (cs : Seq Call) : Type 0 where
       cs ≡ before ⋈ after →
       (f : ℕ) → f < frameCount t → published t f ≡ true →
       eightOf (heldAfter t bs before .bytes) f ≡ eightOf (writtenBytes t (recordOf t bs before)) f
+  -- (a) and all frame bytes are as fresh, the accepted writes and the frames received with success left them
+  pub all-bytes :
+      (before after : Seq Call) →
+      cs ≡ before ⋈ after →
+      heldAfter t bs before .bytes ≡ bytesAfter t (recordOf t bs before)
   -- (b) a slot of a list opens the first member that is pending just before its tick, and is silent exactly when there is none
   pub slots :
       (before after : Seq Scheduled) (m : List ℕ) (a : TickAnswer) (e : ℕ) (k : Slot) →
@@ -85,3 +91,15 @@ pub record Claim (t bs : List ℕ) (cs : Seq Call) : Type 0 where
       cs ≡ before ▹ c ⋈ after →
       actOf (c ⇒ answerOf t (heldAfter t bs before) c) ≡ nothing →
       heldAfter t bs (before ▹ c) ≡ heldAfter t bs before
+
+-- ---- whatever the core
+
+-- the calls of some events
+abbrev pub callsOf : Seq Event → Seq Call
+callsOf ∅ = ∅
+callsOf (h ▹ (c ⇒ a)) = callsOf h ▹ c
+
+-- events of any core: what (f) says of each answer, after the events before it
+abbrev pub Meets : List ℕ → Seq Event → Type 0
+Meets t ∅ = Unit {0}
+Meets t (h ▹ (c ⇒ a)) = Meets t h × Replies t (scheduled t h) c a

@@ -66,6 +66,7 @@ demand-3 t bs accepted cs =
       bytes = λ before after p f b q.
           let is = agrees t bs accepted before .frames in
           same-eight t _ _ (is .size) (is .written-are) f q;
+      all-bytes = λ before after p. agrees t bs accepted before .frames .bytes-are;
       slots = λ before after m a e s p k. list-slot t before m a e s (good before _ after p) k;
       success = λ before start during after b r s k f p o q d. sent-exactly t before start during b r s k f (good _ _ after p) o q d;
       ahead = λ before after f a s k p. good before _ after p .replies;

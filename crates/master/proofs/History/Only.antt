@@ -7,7 +7,7 @@ use mathlib.Core.List.{List, [], _∷_, _++_, List·Memᴰ, List·Memᴰ·head, 
 use native.Mathlib.Decide.{ℕ-discrete}
 use native.Mathlib.Omega.{arith}
 use lib.Dec.{ltb}
-use lib.ListN.{length}
+use lib.ListN.{length, replicate, length-replicate}
 use borrow.Author.Tests.{ltb-true, ltb-false}
 use Rattle.wire.specs.Identifier.{protectedByte}
 use Rattle.cluster.specs.Check.{RightTable}
@@ -25,15 +25,17 @@ use Rattle.master.specs.declared.ahead.AheadAnswer.the-variants as count
 use Rattle.master.specs.Start.{freshOf}
 use Rattle.master.specs.Plan.{waits, entryDue}
 use Rattle.cluster.specs.Lists.{memberOf, framesAhead}
-use Rattle.master.specs.Seq.{Seq}
+use Rattle.master.specs.Seq.{Seq, ∅, _▹_}
 use Rattle.master.specs.Calls as call
-use Rattle.master.specs.Calls.{Call, Answer}
-use Rattle.master.specs.Run.{Held, answerOf, heldAfter}
+use Rattle.master.specs.Calls.{Call, Answer, Event, _⇒_}
+use Rattle.master.specs.Run.{Held, answerOf, heldAfter, historyOf}
 use Rattle.master.specs.Schedule.{Slot, none, unscheduled, entry, Scheduled, slotDue, planAfter}
 use Rattle.master.specs.History.{Pending}
 use Rattle.master.specs.Answering.{messageAfter}
 use Rattle.master.specs.Replies.{Takes, takes, leaves, EntryReply, SlotReply, lentRight, TickReply, Count, AheadReply, Replies}
-use Rattle.master.specs.Claim.{recordOf}
+use Rattle.master.specs.Claim.{recordOf, callsOf, Meets}
+use Rattle.master.specs.Admit.{bufferSize}
+use Rattle.cluster.proofs.TakenLaws.{right-taken}
 use Rattle.master.proofs.Admitted.{fits-clauses}
 use Rattle.cluster.proofs.MemberOf.{ahead-parts, listed-member}
 use Rattle.master.proofs.SlotOpens.{due-there, entry-below}
@@ -43,7 +45,7 @@ use Rattle.master.proofs.History.Counting.{count-is}
 use Rattle.master.proofs.History.Words.{slotWith, slot-due}
 use Rattle.master.proofs.History.Agrees.{Agrees}
 use Rattle.master.proofs.History.Steps.{steps}
-use Rattle.master.proofs.History.Runs.{table-taken, fresh-table, agrees}
+use Rattle.master.proofs.History.Runs.{fresh-taken, table-taken, fresh-table, agrees}
 
 -- ---- a list slot
 
@@ -161,3 +163,23 @@ only-answer t bs accepted cs c a r =
     let is = agrees t bs accepted cs in
     one-reply t (fresh-table t bs accepted) (recordOf t bs cs) (heldAfter t bs cs) is c a (answerOf t (heldAfter t bs cs) c) r
     (steps t (table-taken t bs accepted) (recordOf t bs cs) (heldAfter t bs cs) is c .replies)
+
+-- ---- whatever the core
+
+-- events that meet (f) are those of the core on the same calls
+core-meets : (t bs : List ℕ) → freshOf t bs .given .answer ≡ Fresh → (h : Seq Event) → Meets t h → h ≡ historyOf t bs (callsOf h)
+unfolding historyOf
+core-meets t bs accepted ∅ m = refl
+core-meets t bs accepted (h ▹ (c ⇒ a)) m =
+    let e = core-meets t bs accepted h (m .0) in
+    let r : Replies t (recordOf t bs (callsOf h)) c a = rw e at (m .1) in
+    let q = only-answer t bs accepted (callsOf h) c a r in
+    cc
+
+-- the claim decides every answer, whatever the core: two sequences of events with the same calls, each of whose answers meets `Replies` after the
+-- events before it, are equal
+pub claim-decides : (t : List ℕ) → RightTable t → (g h : Seq Event) → callsOf g ≡ callsOf h → Meets t g → Meets t h → g ≡ h
+claim-decides t ok g h e m n =
+    let bs : List ℕ = replicate (bufferSize t) 0 in
+    let accepted = fresh-taken t bs (right-taken t ok) (length-replicate (bufferSize t) 0) in
+    core-meets t bs accepted g m ∙ ap (historyOf t bs) e ∙ sym (core-meets t bs accepted h n)

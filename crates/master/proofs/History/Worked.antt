@@ -51,6 +51,7 @@ use Rattle.master.specs.Calls as call
 use Rattle.master.specs.Calls.{Call, Event, _⇒_}
 use Rattle.master.specs.Run.{answerOf, leftBy, heldAfter, historyOf}
 use Rattle.master.specs.Replies.{plain}
+use Rattle.master.specs.Claim.{callsOf}
 use Rattle.master.specs.Put.{put, scalar, array}
 
 -- frames: 8, three bytes, published; 24, four bytes, published and classic; 1, two bytes, received; 35, one byte, published. Signals: 7 bits at 5 of
@@ -235,10 +236,6 @@ ending =
 
 abbrev history : Seq Event
 history = starting ⋈ inFlight ⋈ receiving ⋈ requesting ⋈ failing ⋈ responding ⋈ again ⋈ completing ⋈ ending
-
-abbrev callsOf : Seq Event → Seq Call
-callsOf ∅ = ∅
-callsOf (h ▹ (c ⇒ a)) = callsOf h ▹ c
 
 abbrev calls : Seq Call
 calls = callsOf history
