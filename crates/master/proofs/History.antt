@@ -35,4 +35,5 @@ pub mod Sent
 pub mod Claimed
 pub mod Only
 pub mod InWords
+pub mod LastWrite
 pub mod Example

@@ -100,7 +100,7 @@ unfolding scheduled schedule slotBegun slotAfter planAfter planBy planWith slotD
     protectedByte withCarry sum covered modelOf inverted checksumByte stateFits waitFits bitFits pendingFits isOneOf
     entryOpens canOpen countFits messageFits openProtected openChecksum frameData sentData copied opening selectVerdict
     selectOf writable markedFrom rewritten marked writeOf tick.firstPending tick.slotOpens tick.abandoned tick.opensOrSilent
-    tick.slotAt tick.slot tick.tickEffect tick.tickVerdict tick.tickOf status.withCounted status.statusAfter clearedBit
+    tick.slotAt tick.slot tick.tickEffect tick.tickVerdict tick.tickOf status.withCounted clearedBit
     pendingSent sent received passed sentByte byteEffect byteVerdict byteOf formatOf entryColumns follows frameColumns
     headerColumns memberColumns occupies signalColumns
 record-is = refl

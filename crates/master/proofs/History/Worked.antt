@@ -36,7 +36,7 @@ use Rattle.master.specs.Admit.{bufferSize, admitted}
 use Rattle.master.specs.Start.{freshVerdict, freshOf}
 use Rattle.master.specs.Fresh.{fresh}
 use Rattle.master.specs.Fits.{waitFits, bitFits, pendingFits, entryOpens, canOpen, countFits, messageFits, stateFits}
-use Rattle.master.specs.Transfers.{formatOf, openProtected, openChecksum, frameData, requestData, sentData, copied, opening}
+use Rattle.master.specs.Transfers.{formatOf, openProtected, openChecksum, frameData, sentData, copied, opening}
 use Rattle.master.specs.Select.{selectVerdict, selectOf}
 use Rattle.master.specs.Write.{writable, markedFrom, rewritten, marked, writeOf}
 use Rattle.master.specs.Read.{readVerdict, readScalarOf, readArrayOf}
@@ -264,9 +264,9 @@ unfolding historyOf heldAfter leftBy answerOf freshOf freshVerdict fresh bufferS
     framesAhead firstEntry nextEntry signalPlace arrayLength putStart filled freshBytes touches signalPublished valueFits arrayFits scalarValue
     arrayValue withScalar withArray arrayRead bitAt number bytesOf inside replaced putBits putScalar putArray getScalar getArray bit p0 p1 xor
     protectedByte withCarry sum covered modelOf inverted checksumByte stateFits waitFits bitFits pendingFits isOneOf entryOpens canOpen countFits
-    messageFits openProtected openChecksum frameData requestData sentData copied opening selectVerdict selectOf writable markedFrom rewritten marked writeOf
+    messageFits openProtected openChecksum frameData sentData copied opening selectVerdict selectOf writable markedFrom rewritten marked writeOf
     readVerdict readScalarOf readArrayOf ticks.firstPending ticks.slotOpens ticks.abandoned ticks.opensOrSilent ticks.slotAt ticks.slot ticks.tickEffect
-    ticks.tickVerdict ticks.tickOf reading.withCounted reading.statusAfter reading.statusWord reading.statusOf messages.moved messages.sendVerdict
+    ticks.tickVerdict ticks.tickOf reading.withCounted reading.statusWord reading.statusOf messages.moved messages.sendVerdict
     messages.sendOf messages.messageOf pendingCount aheadVerdict aheadOf clearedBit pendingSent failed sent received passed sentByte checksumRight accepted
     lastByte receivedByte byteEffect byteVerdict byteOf formatOf entryColumns follows frameColumns headerColumns memberColumns occupies signalColumns
     cutting.messageFrames cutting.dataBytes cutting.singleFrame cutting.firstFrame cutting.nextFrame cutting.messageFrame cutting.cutOf lent.written
