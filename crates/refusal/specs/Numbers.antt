@@ -1,6 +1,8 @@
 -- Document 01, "Refusal numbers": each number by name, and the refusal that an answer carries.
 use Prim.Native.Nat.{ℕ}
+use mathlib.Core.Bool.{Bool}
 use mathlib.Core.List.{List, [], _∷_}
+use lib.Dec.{eqb}
 use Rattle.refusal.specs.declared.Refusal.{Refusal}
 
 -- 1: the table check finds a fault
@@ -70,3 +72,7 @@ refused n = record { number = n; place = 0 }
 -- "1 also the position": a refusal at a place
 abbrev pub refusedAt : ℕ → ℕ → Refusal
 refusedAt n p = record { number = n; place = p }
+
+-- "1 also the position": the numbers that are given with a position
+unfoldable pub tellsPlace : ℕ → Bool
+tellsPlace n = eqb n 1

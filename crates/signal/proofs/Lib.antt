@@ -1,5 +1,6 @@
 pub mod Arrays
 pub mod BytesOf
+pub mod Exactly
 pub mod Field
 pub mod Inside
 pub mod Laws

@@ -2,6 +2,7 @@ pub mod AnswerLaws
 pub mod AnswersDue
 pub mod Bytes
 pub mod Counting
+pub mod CutExactly
 pub mod CuttingLaws
 pub mod Filled
 pub mod FitLaws
@@ -14,6 +15,7 @@ pub mod Outcomes
 pub mod Received
 pub mod RoundTrip
 pub mod StepCases
+pub mod StepExactly
 pub mod StepLaws
 pub mod Steps
 pub mod Tests

@@ -23,7 +23,7 @@ module _ (id : ℕ) where
   not-refused r h e = let q : Refused r ≡ Byte (protectedByte id) = sym e ∙ gives h in let z : _≡_ {A = ℕ} 0 1 = cc in omega arith
 
 module _ (id : ℕ) (wish : Model) (bs : List ℕ) where
-  sums : (id < 64) × (1 ≤ length bs) × (length bs ≤ 8) → checksumOf id wish bs ≡ Byte (checksumByte id wish bs)
+  pub sums : (id < 64) × (1 ≤ length bs) × (length bs ≤ 8) → checksumOf id wish bs ≡ Byte (checksumByte id wish bs)
   unfolding checksumOf
   sums h = rw (lt-ltb id 64 (h .0), le-leb 1 (length bs) (h .1), le-leb (length bs) 8 (h .2))
 
