@@ -44,13 +44,13 @@ use Rattle.master.specs.Tick.{tickVerdict}
 use Rattle.master.specs.Byte.{byteVerdict}
 use Rattle.master.specs.Message.{sendVerdict}
 use Rattle.master.specs.Ahead.{aheadVerdict}
-use Rattle.master.specs.Answers.{verdictNumber}
+use Rattle.master.specs.Told.{toldAs, valuesOf}
 use Rattle.master.specs.Calls as call
 use Rattle.master.specs.Calls.{Call}
 use Rattle.master.specs.Run.{Held, answerOf}
-use Rattle.master.specs.Step.{verdictOf, refusalOf, numberTold}
+use Rattle.master.specs.Step.{verdictOf, refusalOf, toldOf}
 use Rattle.master.proofs.FitsExactly.{Clauses, fits-exactly}
-use Rattle.master.proofs.StepLaws.{number-told, refused-exactly}
+use Rattle.master.proofs.StepLaws.{verdict-told, refused-exactly}
 use Rattle.master.proofs.Tests.{never}
 
 -- the calls that are lent the frame buffer
@@ -502,8 +502,8 @@ First t x c n = Row t x c n × ((k : ℕ) → k < n → ¬ Row t x c k)
 
 -- a number is given if and only if its row applies and none of a lower number does
 pub lowest-number : (t : List ℕ) (x : Held) (c : Call) (n : ℕ)
-    → (numberTold c (answerOf t x c) ≡ suc n) ↔ (Row t x c (suc n) × ((k : ℕ) → k < suc n → ¬ Row t x c k))
-lowest-number t x c n = rw (number-told t x c) (by (verdictOf t x c) (call-lowest t x c))
+    → (toldOf c (answerOf t x c) .number ≡ suc n) ↔ (Row t x c (suc n) × ((k : ℕ) → k < suc n → ¬ Row t x c k))
+lowest-number t x c n = rw (verdict-told t x c) (by (verdictOf t x c) (call-lowest t x c))
   where
     one : (m : ℕ) → First t x c m → First t x c (suc n) → m ≡ suc n
     one m l w =
@@ -513,15 +513,15 @@ lowest-number t x c n = rw (number-told t x c) (by (verdictOf t x c) (call-lowes
           | no p ↦ absurd (l .1 (suc n) (omega arith) (w .0))
         ])
 
-    by : (v : Verdict) → Lowest t x c v → (verdictNumber v ≡ suc n) ↔ First t x c (suc n)
+    by : (v : Verdict) → Lowest t x c v → (toldAs v (valuesOf t x c) .number ≡ suc n) ↔ First t x c (suc n)
     by verdict.Accepted l = (λ e. absurd (omega arith), λ w. absurd (l (suc n) (w .0)))
     by (verdict.Refused r) l = (λ e. let w : First t x c (r .number) = (l .0, l .1) in rw e at w, λ w. one (r .number) (l .0, l .1) w)
 
 -- none is given if and only if no row applies
-pub no-number : (t : List ℕ) (x : Held) (c : Call) → (numberTold c (answerOf t x c) ≡ 0) ↔ ((k : ℕ) → ¬ Row t x c k)
-no-number t x c = rw (number-told t x c) (by (verdictOf t x c) (call-lowest t x c))
+pub no-number : (t : List ℕ) (x : Held) (c : Call) → (toldOf c (answerOf t x c) .number ≡ 0) ↔ ((k : ℕ) → ¬ Row t x c k)
+no-number t x c = rw (verdict-told t x c) (by (verdictOf t x c) (call-lowest t x c))
   where
-    by : (v : Verdict) → Lowest t x c v → (verdictNumber v ≡ 0) ↔ ((k : ℕ) → ¬ Row t x c k)
+    by : (v : Verdict) → Lowest t x c v → (toldAs v (valuesOf t x c) .number ≡ 0) ↔ ((k : ℕ) → ¬ Row t x c k)
     by verdict.Accepted l = (λ e. l, λ w. refl)
     by (verdict.Refused r) l = (λ e. absurd (not-0 t x c (r .number) (omega arith) (l .0)), λ w. absurd (w (r .number) (l .0)))
 

@@ -19,7 +19,7 @@ use Rattle.master.specs.declared.start.FreshAnswer.{FreshAnswer}
 use Rattle.master.specs.declared.start.FreshAnswer.the-variants as start
 use Rattle.master.specs.declared.start.Started.{Started}
 use Rattle.master.specs.Admit.{bufferSize, Step}
-use Rattle.master.specs.Answers.{freshRefusal}
+use Rattle.master.specs.Answers.{freshTold}
 use Rattle.master.specs.Start.{freshVerdict, freshOf}
 use Rattle.master.proofs.Answered.{by-verdict}
 
@@ -34,7 +34,7 @@ fresh-refused t bs =
 -- "Refusal numbers", of the fresh call: 1 if and only if the table check finds a fault, and then as it tells it; else 2 if and only if the buffer
 -- isn't 8F bytes; else none
 pub record FreshRows (t bs : List ℕ) (a : FreshAnswer) : Type 0 where
-  pub fault : (r : Refusal) → (judged t ≡ verdict.Refused r) ↔ ((freshRefusal a ≡ 1) × (a ≡ start.Refused r))
+  pub fault : (r : Refusal) → (judged t ≡ verdict.Refused r) ↔ ((freshTold a .number ≡ 1) × (a ≡ start.Refused r))
   pub size : (RightTable t × ¬ (length bs ≡ 8 * frameCount t)) ↔ (a ≡ start.Refused (record { number = 2; place = 0 }))
   pub none : (RightTable t × (length bs ≡ 8 * frameCount t)) ↔ (a ≡ start.Fresh)
 

@@ -4,12 +4,13 @@ use Prim.Native.Nat.{ℕ}
 use mathlib.Core.Path.{_≡_, refl, sym, _∙_, ap}
 use mathlib.Core.Logic.{_↔_}
 use mathlib.Core.Bool.{Bool, true, false}
-use mathlib.Core.List.{List}
+use mathlib.Core.List.{List, []}
 use native.Mathlib.Omega.{arith}
 use borrow.Author.Tests.{ltb-true}
 use lib.Dec.{ltb}
 use lib.ListN.{length}
 use Rattle.refusal.specs.declared.Refusal.{Refusal}
+use Rattle.refusal.specs.Answers.{Told, gives, refuses as refusing}
 use Rattle.refusal.specs.Numbers as number
 use Rattle.cluster.specs.declared.Verdict.{Verdict}
 use Rattle.cluster.specs.declared.Verdict.the-variants.{Accepted, Refused}
@@ -34,7 +35,8 @@ use Rattle.master.specs.declared.send.Sent.{Sent}
 use Rattle.master.specs.declared.send.MessageAnswer.the-variants as tells
 use Rattle.master.specs.Fits.{stateFits}
 use Rattle.master.specs.Admit.{Step, admitted, answered, bufferSize}
-use Rattle.master.specs.Answers.{verdictNumber, readRefusal, writeRefusal, arrayRefusal, selectRefusal, tickRefusal, byteRefusal, statusRefusal, sendRefusal, messageRefusal, aheadRefusal}
+use Rattle.master.specs.Answers.{readTold, writeTold, arrayTold, selectTold, tickTold, byteTold, statusTold, sendTold, messageTold, aheadTold}
+use Rattle.master.specs.Told.{toldAs, valuesOf}
 use Rattle.master.specs.Write.{marked, writeVerdict, writeOf}
 use Rattle.master.specs.Read.{readVerdict, readScalarOf, readArrayOf}
 use Rattle.master.specs.Select.{selectVerdict, selectOf}
@@ -47,7 +49,7 @@ use Rattle.master.specs.Ahead.{aheadVerdict, aheadOf}
 use Rattle.master.specs.Calls as call
 use Rattle.master.specs.Calls.{Call, Reply}
 use Rattle.master.specs.Run.{Held, held, answerOf, leftBy}
-use Rattle.master.specs.Step.{verdictOf, effectOf, refusalOf, numberTold}
+use Rattle.master.specs.Step.{verdictOf, effectOf, refusalOf, toldOf}
 use Rattle.master.proofs.Admitted.{unless-test, admitted-table, admitted-size, admitted-fits, Fits, fits-clauses, fits-all}
 use Rattle.master.proofs.Answered.{by-verdict, writable-signal}
 use Rattle.master.proofs.Cases.{ticked-by, taken-by, accepted-state}
@@ -171,42 +173,43 @@ refused-exactly t x c r = (by (verdictOf t x c) refl, refused-answer t x c r)
 pub refused-changes-nothing : (t : List ℕ) (x : Held) (c : Call) (r : Refusal) → answerOf t x c ≡ refusalOf c r → leftBy t x c ≡ x
 refused-changes-nothing t x c r k = left-by-verdict t x c ∙ rw (refused-exactly t x c r .0 k)
 
--- the number told is the verdict's, and 0 stands for none
-numbered : {A : Type 0} (number : A → ℕ) (v : Verdict) (refuse : Refusal → A) (go : A) → ((r : Refusal) → number (refuse r) ≡ r .number)
-    → number go ≡ 0 → number (answered v refuse go) ≡ verdictNumber v
-numbered number Accepted refuse go other rest = rest
-numbered number (Refused r) refuse go other rest = other r
+-- what is told is the verdict, and the values where it accepts
+telling : {A : Type 0} (tell : A → Told) (v : Verdict) (refuse : Refusal → A) (go : A) (vs : List ℕ) → ((r : Refusal) → tell (refuse r) ≡ refusing r)
+    → tell go ≡ gives vs → tell (answered v refuse go) ≡ toldAs v vs
+telling tell Accepted refuse go vs other rest = rest
+telling tell (Refused r) refuse go vs other rest = other r
 
-accepted-number : (t : List ℕ) (s : State) (o : Opened) (nine bs : List ℕ) → byteRefusal (accepted t s o nine bs .given .answer) ≡ 0
+accepted-told : (t : List ℕ) (s : State) (o : Opened) (nine bs : List ℕ) → byteTold (accepted t s o nine bs .given .answer) ≡ gives []
 unfolding accepted
-accepted-number t s opened.Nothing nine bs = refl
-accepted-number t s (opened.Frame f) nine bs = refl
-accepted-number t s opened.Request nine bs = refl
-accepted-number t s opened.Response nine bs = refl
+accepted-told t s opened.Nothing nine bs = refl
+accepted-told t s (opened.Frame f) nine bs = refl
+accepted-told t s opened.Request nine bs = refl
+accepted-told t s opened.Response nine bs = refl
 
-told-number : (x : Message) → messageRefusal (told x) ≡ 0
-told-number None = refl
-told-number (Sending x) = refl
-told-number Completed = refl
-told-number Failed = refl
+message-told : (x : Message) → messageTold (told x) ≡ gives []
+message-told None = refl
+message-told (Sending x) = refl
+message-told Completed = refl
+message-told Failed = refl
 
-pub number-told : (t : List ℕ) (x : Held) (c : Call) → numberTold c (answerOf t x c) ≡ verdictNumber (verdictOf t x c)
-unfolding numberTold answerOf verdictOf writeOf readScalarOf readArrayOf selectOf tickOf byteOf statusOf sendOf messageOf aheadOf
-number-told t x (call.write w) = numbered (λ (z : Step Wrote). writeRefusal (z .given .answer)) (writeVerdict t (length (x .bytes)) (x .state) w) _ _ (λ r. refl) refl
-number-told t x (call.read s) = numbered readRefusal (readVerdict t (length (x .bytes)) (x .state) s false) _ _ (λ r. refl) refl
-number-told t x (call.readArray s) = numbered (λ (z : ReadArray). arrayRefusal (z .answer)) (readVerdict t (length (x .bytes)) (x .state) s true) _ _ (λ r. refl) refl
-number-told t x (call.select n) = numbered (λ (z : Chosen). selectRefusal (z .answer)) (selectVerdict t (x .state) n) _ _ (λ r. refl) refl
-number-told t x (call.tick m) =
-    numbered (λ (z : Ticked). tickRefusal (z .answer)) (tickVerdict t (length (x .bytes)) (length m) (x .state)) _ _ (λ r. refl)
-    (ticked-by t (x .bytes) m (λ w. tickRefusal (w .answer) ≡ 0) (x .state) (λ y. refl) (λ n c. refl) (λ e n c q. refl) (λ e o n c p y. refl))
-number-told t x (call.byteIn b) =
-    numbered (λ (z : Step Took). byteRefusal (z .given .answer)) (byteVerdict t (length (x .bytes)) (x .state)) _ _ (λ r. refl)
-    (taken-by t (x .state) (x .bytes) b (λ w. byteRefusal (w .given .answer) ≡ 0) (λ nine e. refl) refl (λ y. refl)
-    (λ n. accepted-number t (x .state) (x .state .transfer .opened) (withByte (x .state .transfer) b) (x .bytes)))
-number-told t x call.readStatus = numbered (λ (z : StatusRead). statusRefusal (z .answer)) (admitted t (bufferSize t) (x .state)) _ _ (λ r. refl) refl
-number-told t x (call.send nad n) = numbered (λ (z : Sent). sendRefusal (z .answer)) (sendVerdict t (x .state) n) _ _ (λ r. refl) refl
-number-told t x call.messageState = numbered messageRefusal (admitted t (bufferSize t) (x .state)) _ _ (λ r. refl) (told-number (x .state .message))
-number-told t x (call.numberAhead f) = numbered aheadRefusal (aheadVerdict t (x .state) f) _ _ (λ r. refl) refl
+pub verdict-told : (t : List ℕ) (x : Held) (c : Call) → toldOf c (answerOf t x c) ≡ toldAs (verdictOf t x c) (valuesOf t x c)
+unfolding toldOf answerOf verdictOf valuesOf writeOf readScalarOf readArrayOf selectOf tickOf byteOf statusOf sendOf messageOf aheadOf
+verdict-told t x (call.write w) = telling (λ (z : Step Wrote). writeTold (z .given .answer)) (writeVerdict t (length (x .bytes)) (x .state) w) _ _ _ (λ r. refl) refl
+verdict-told t x (call.read s) = telling readTold (readVerdict t (length (x .bytes)) (x .state) s false) _ _ _ (λ r. refl) refl
+verdict-told t x (call.readArray s) = telling (λ (z : ReadArray). arrayTold (z .answer)) (readVerdict t (length (x .bytes)) (x .state) s true) _ _ _ (λ r. refl) refl
+verdict-told t x (call.select n) = telling (λ (z : Chosen). selectTold (z .answer)) (selectVerdict t (x .state) n) _ _ _ (λ r. refl) refl
+verdict-told t x (call.tick m) =
+    telling (λ (z : Ticked). tickTold (z .answer)) (tickVerdict t (length (x .bytes)) (length m) (x .state)) _ _ _ (λ r. refl)
+    (ticked-by t (x .bytes) m (λ w. tickTold (w .answer) ≡ gives (tickTold (w .answer) .values)) (x .state) (λ y. refl) (λ n c. refl) (λ e n c q. refl)
+    (λ e o n c p y. refl))
+verdict-told t x (call.byteIn b) =
+    telling (λ (z : Step Took). byteTold (z .given .answer)) (byteVerdict t (length (x .bytes)) (x .state)) _ _ _ (λ r. refl)
+    (taken-by t (x .state) (x .bytes) b (λ w. byteTold (w .given .answer) ≡ gives []) (λ nine e. refl) refl (λ y. refl)
+    (λ n. accepted-told t (x .state) (x .state .transfer .opened) (withByte (x .state .transfer) b) (x .bytes)))
+verdict-told t x call.readStatus = telling (λ (z : StatusRead). statusTold (z .answer)) (admitted t (bufferSize t) (x .state)) _ _ _ (λ r. refl) refl
+verdict-told t x (call.send nad n) = telling (λ (z : Sent). sendTold (z .answer)) (sendVerdict t (x .state) n) _ _ _ (λ r. refl) refl
+verdict-told t x call.messageState = telling messageTold (admitted t (bufferSize t) (x .state)) _ _ _ (λ r. refl) (message-told (x .state .message))
+verdict-told t x (call.numberAhead f) = telling aheadTold (aheadVerdict t (x .state) f) _ _ _ (λ r. refl) refl
 
 -- ---- what every call keeps
 

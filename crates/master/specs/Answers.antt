@@ -1,6 +1,7 @@
--- The answers in the paper's terms: the refusal number of each case, and 0 where it refuses nothing.
-use Prim.Native.Nat.{ℕ}
+-- The answers in the paper's terms: of each case the refusal number, 0 where it refuses nothing, the place and the values.
 use mathlib.Core.Bool.{Bool, true, false}
+use mathlib.Core.List.{[], _∷_}
+use Rattle.refusal.specs.Answers.{Told, gives, refuses}
 use Rattle.cluster.specs.declared.Verdict.{Verdict}
 use Rattle.cluster.specs.declared.Verdict.the-variants as verdict
 use Rattle.master.specs.declared.start.FreshAnswer.{FreshAnswer}
@@ -26,74 +27,74 @@ use Rattle.master.specs.declared.send.MessageAnswer.the-variants as mess
 use Rattle.master.specs.declared.ahead.AheadAnswer.{AheadAnswer}
 use Rattle.master.specs.declared.ahead.AheadAnswer.the-variants as ahead
 
--- the number of a verdict
-abbrev pub verdictNumber : Verdict → ℕ
-verdictNumber verdict.Accepted = 0
-verdictNumber (verdict.Refused r) = r .number
+-- of a verdict
+abbrev pub verdictTold : Verdict → Told
+verdictTold verdict.Accepted = gives []
+verdictTold (verdict.Refused r) = refuses r
 
 -- of fresh
-abbrev pub freshRefusal : FreshAnswer → ℕ
-freshRefusal start.Fresh = 0
-freshRefusal (start.Refused r) = r .number
+abbrev pub freshTold : FreshAnswer → Told
+freshTold start.Fresh = gives []
+freshTold (start.Refused r) = refuses r
 
 -- of a write
-abbrev pub writeRefusal : WriteAnswer → ℕ
-writeRefusal write.Written = 0
-writeRefusal (write.Refused r) = r .number
+abbrev pub writeTold : WriteAnswer → Told
+writeTold write.Written = gives []
+writeTold (write.Refused r) = refuses r
 
--- of a read of a scalar
-abbrev pub readRefusal : ReadAnswer → ℕ
-readRefusal (read.Value v) = 0
-readRefusal (read.Refused r) = r .number
+-- of a read of a scalar: its value
+abbrev pub readTold : ReadAnswer → Told
+readTold (read.Value v) = gives (v ∷ [])
+readTold (read.Refused r) = refuses r
 
--- of a read of an array
-abbrev pub arrayRefusal : ArrayAnswer → ℕ
-arrayRefusal (array.Bytes n) = 0
-arrayRefusal (array.Refused r) = r .number
+-- of a read of an array: how many bytes it has, which stand beside the answer
+abbrev pub arrayTold : ArrayAnswer → Told
+arrayTold (array.Bytes n) = gives (n ∷ [])
+arrayTold (array.Refused r) = refuses r
 
 -- of select
-abbrev pub selectRefusal : SelectAnswer → ℕ
-selectRefusal select.Selected = 0
-selectRefusal (select.Refused r) = r .number
+abbrev pub selectTold : SelectAnswer → Told
+selectTold select.Selected = gives []
+selectTold (select.Refused r) = refuses r
 
--- of tick
-abbrev pub tickRefusal : TickAnswer → ℕ
-tickRefusal tick.Waiting = 0
-tickRefusal tick.Idle = 0
-tickRefusal tick.Silent = 0
-tickRefusal (tick.Opened p) = 0
-tickRefusal (tick.Refused r) = r .number
+-- of tick: the protected identifier of what is opened
+abbrev pub tickTold : TickAnswer → Told
+tickTold tick.Waiting = gives []
+tickTold tick.Idle = gives []
+tickTold tick.Silent = gives []
+tickTold (tick.Opened p) = gives (p ∷ [])
+tickTold (tick.Refused r) = refuses r
 
--- of byte in
-abbrev pub byteRefusal : ByteAnswer → ℕ
-byteRefusal byte.More = 0
-byteRefusal byte.Success = 0
-byteRefusal byte.Failure = 0
-byteRefusal byte.Response = 0
-byteRefusal (byte.Refused r) = r .number
+-- of byte in; the eight bytes of a response stand beside the answer
+abbrev pub byteTold : ByteAnswer → Told
+byteTold byte.More = gives []
+byteTold byte.Success = gives []
+byteTold byte.Failure = gives []
+byteTold byte.Response = gives []
+byteTold (byte.Refused r) = refuses r
 
--- of a status reading
-abbrev pub statusRefusal : StatusAnswer → ℕ
-statusRefusal (status.Word w) = 0
-statusRefusal (status.Refused r) = r .number
+-- of a status reading: the word
+abbrev pub statusTold : StatusAnswer → Told
+statusTold (status.Word w) = gives (w ∷ [])
+statusTold (status.Refused r) = refuses r
 
 -- of send
-abbrev pub sendRefusal : SendAnswer → ℕ
-sendRefusal send.Sending = 0
-sendRefusal (send.Refused r) = r .number
+abbrev pub sendTold : SendAnswer → Told
+sendTold send.Sending = gives []
+sendTold (send.Refused r) = refuses r
 
 -- of the message state
-abbrev pub messageRefusal : MessageAnswer → ℕ
-messageRefusal message.None = 0
-messageRefusal message.Sending = 0
-messageRefusal message.Completed = 0
-messageRefusal message.Failed = 0
-messageRefusal (message.Refused r) = r .number
+abbrev pub messageTold : MessageAnswer → Told
+messageTold message.None = gives []
+messageTold message.Sending = gives []
+messageTold message.Completed = gives []
+messageTold message.Failed = gives []
+messageTold (message.Refused r) = refuses r
 
--- of number ahead
-abbrev pub aheadRefusal : AheadAnswer → ℕ
-aheadRefusal (ahead.Count n) = 0
-aheadRefusal (ahead.Refused r) = r .number
+-- of number ahead: the number
+abbrev pub aheadTold : AheadAnswer → Told
+aheadTold (ahead.Count n) = gives (n ∷ [])
+aheadTold (ahead.Refused r) = refuses r
 
 -- byte in answered success: "success", or the bytes of a response
 abbrev pub successful : ByteAnswer → Bool

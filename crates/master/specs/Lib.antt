@@ -13,6 +13,7 @@ pub mod Status
 pub mod Message
 pub mod Closing
 pub mod Tick
+pub mod Told
 pub mod Byte
 pub mod Ahead
 pub mod Answers

@@ -5,6 +5,7 @@ use mathlib.Core.Bool.{true, false}
 use mathlib.Core.List.{List}
 use lib.ListN.{length, replicate}
 use Rattle.refusal.specs.declared.Refusal.{Refusal}
+use Rattle.refusal.specs.Answers.{Told}
 use Rattle.cluster.specs.declared.Verdict.{Verdict}
 use Rattle.master.specs.declared.state.Message.the-variants.{Sending}
 use Rattle.master.specs.declared.write.WriteAnswer.the-variants as write
@@ -28,8 +29,7 @@ use Rattle.master.specs.Tick.{tickEffect, tickVerdict}
 use Rattle.master.specs.Byte.{byteEffect, byteVerdict}
 use Rattle.master.specs.Message.{sendVerdict}
 use Rattle.master.specs.Ahead.{aheadVerdict}
-use Rattle.master.specs.Answers.{writeRefusal, readRefusal, arrayRefusal, selectRefusal, tickRefusal, byteRefusal, statusRefusal, sendRefusal}
-use Rattle.master.specs.Answers.{messageRefusal, aheadRefusal}
+use Rattle.master.specs.Answers.{writeTold, readTold, arrayTold, selectTold, tickTold, byteTold, statusTold, sendTold, messageTold, aheadTold}
 use Rattle.master.specs.Calls as call
 use Rattle.master.specs.Calls.{Call, Answer}
 use Rattle.master.specs.Run.{Held, held}
@@ -74,15 +74,15 @@ refusalOf (call.send nad n) r = send.Refused r
 refusalOf call.messageState r = message.Refused r
 refusalOf (call.numberAhead f) r = ahead.Refused r
 
--- the number that an answer tells, and 0 where it refuses nothing
-unfoldable pub numberTold : (c : Call) → Answer c → ℕ
-numberTold (call.write w) a = writeRefusal a
-numberTold (call.read s) a = readRefusal a
-numberTold (call.readArray s) a = arrayRefusal (a .answer)
-numberTold (call.select n) a = selectRefusal a
-numberTold (call.tick m) a = tickRefusal a
-numberTold (call.byteIn b) a = byteRefusal (a .answer)
-numberTold call.readStatus a = statusRefusal a
-numberTold (call.send nad n) a = sendRefusal a
-numberTold call.messageState a = messageRefusal a
-numberTold (call.numberAhead f) a = aheadRefusal a
+-- what an answer tells in the paper's terms
+unfoldable pub toldOf : (c : Call) → Answer c → Told
+toldOf (call.write w) a = writeTold a
+toldOf (call.read s) a = readTold a
+toldOf (call.readArray s) a = arrayTold (a .answer)
+toldOf (call.select n) a = selectTold a
+toldOf (call.tick m) a = tickTold a
+toldOf (call.byteIn b) a = byteTold (a .answer)
+toldOf call.readStatus a = statusTold a
+toldOf (call.send nad n) a = sendTold a
+toldOf call.messageState a = messageTold a
+toldOf (call.numberAhead f) a = aheadTold a

@@ -1,0 +1,102 @@
+-- Document 01, "Refusal numbers": what each call tells. "Each call tests those that concern it; the lowest number is given."; where every test holds, its
+-- values. Every public call has a clause that says so by these definitions.
+use Prim.Native.Nat.{ℕ, _*_}
+use mathlib.Core.Bool.{true, false, not, Bool·beq}
+use mathlib.Core.List.{List, [], _∷_}
+use lib.Dec.{ltb, eqb}
+use lib.ListN.{length}
+use Rattle.refusal.specs.Answers.{Told, Test, test, gives, refuses, firstFailing}
+use Rattle.cluster.specs.declared.Verdict.{Verdict}
+use Rattle.cluster.specs.declared.Verdict.the-variants.{Accepted, Refused}
+use Rattle.cluster.specs.Check.{takenOf}
+use Rattle.cluster.specs.Table.{frameCount, signalCount, isArray, memberCount, scheduleCount}
+use Rattle.cluster.specs.Lists.{memberOf, framesAhead}
+use Rattle.cluster.specs.Values.{signalPublished, scalarValue, arrayRead}
+use Rattle.transport.specs.Cutting.{isLength}
+use Rattle.master.specs.declared.state.State.{State}
+use Rattle.master.specs.Fits.{stateFits, isSending, lentFits}
+use Rattle.master.specs.Transfers.{isOpen}
+use Rattle.master.specs.Write.{isBytes, fitsSignal}
+use Rattle.master.specs.Tick.{tickEffect}
+use Rattle.master.specs.Status.{statusWord}
+use Rattle.master.specs.Ahead.{pendingCount}
+use Rattle.master.specs.Answers.{tickTold}
+use Rattle.master.specs.Calls as call
+use Rattle.master.specs.Calls.{Call}
+use Rattle.master.specs.Run.{Held}
+
+-- a verdict, and the values where it accepts
+abbrev pub toldAs : Verdict → List ℕ → Told
+toldAs Accepted vs = gives vs
+toldAs (Refused r) vs = refuses r
+
+-- 1 "the table check finds a fault", with its position; then the other tests
+abbrev pub toldAfter : Verdict → List Test → List ℕ → Told
+toldAfter Accepted tests vs = firstFailing tests vs
+toldAfter (Refused r) tests vs = refuses r
+
+-- "the frame buffer isn't 8F bytes"
+abbrev pub sizeTest : List ℕ → ℕ → Test
+sizeTest t size = test 2 (eqb size (8 * frameCount t))
+
+-- "the state doesn't fit the table"
+abbrev pub stateTest : List ℕ → State → Test
+stateTest t s = test 3 (stateFits t s)
+
+-- the tests of a call behind 1, in the order of their numbers
+unfoldable pub testsOf : List ℕ → Held → Call → List Test
+testsOf t x (call.write w) =
+    sizeTest t (length (x .bytes))
+    ∷ stateTest t (x .state)
+    ∷ test 4 (ltb (w .signal) (signalCount t))
+    ∷ test 5 (signalPublished t (w .signal))
+    ∷ test 6 (Bool·beq (isArray t (w .signal)) (isBytes (w .value)))
+    ∷ test 7 (fitsSignal t (w .signal) (w .value))
+    ∷ []
+testsOf t x (call.read s) =
+    sizeTest t (length (x .bytes))
+    ∷ stateTest t (x .state)
+    ∷ test 4 (ltb s (signalCount t))
+    ∷ test 6 (Bool·beq (isArray t s) false)
+    ∷ []
+testsOf t x (call.readArray s) =
+    sizeTest t (length (x .bytes))
+    ∷ stateTest t (x .state)
+    ∷ test 4 (ltb s (signalCount t))
+    ∷ test 6 (Bool·beq (isArray t s) true)
+    ∷ []
+testsOf t x (call.select n) = stateTest t (x .state) ∷ test 4 (ltb n (scheduleCount t)) ∷ []
+testsOf t x (call.tick m) =
+    sizeTest t (length (x .bytes)) ∷ stateTest t (x .state) ∷ test 3 (lentFits (x .state .message) (length m)) ∷ []
+testsOf t x (call.byteIn b) =
+    sizeTest t (length (x .bytes)) ∷ stateTest t (x .state) ∷ test 8 (isOpen (x .state .transfer .opened)) ∷ []
+testsOf t x call.readStatus = stateTest t (x .state) ∷ []
+testsOf t x (call.send nad n) =
+    stateTest t (x .state) ∷ test 9 (isLength n) ∷ test 10 (not (isSending (x .state .message))) ∷ []
+testsOf t x call.messageState = stateTest t (x .state) ∷ []
+testsOf t x (call.numberAhead f) = stateTest t (x .state) ∷ test 4 (ltb (memberOf t f) (memberCount t)) ∷ []
+
+-- the values that an accepted call tells
+unfoldable pub valuesOf : List ℕ → Held → Call → List ℕ
+valuesOf t x (call.write w) = []
+valuesOf t x (call.read s) = scalarValue t (x .bytes) s ∷ []
+valuesOf t x (call.readArray s) = arrayRead t (x .bytes) s .count ∷ []
+valuesOf t x (call.select n) = []
+valuesOf t x (call.tick m) = tickTold (tickEffect t (x .bytes) m (x .state) .answer) .values
+valuesOf t x (call.byteIn b) = []
+valuesOf t x call.readStatus = statusWord (x .state .status) ∷ []
+valuesOf t x (call.send nad n) = []
+valuesOf t x call.messageState = []
+valuesOf t x (call.numberAhead f) = pendingCount (x .state .pending) (framesAhead t f) ∷ []
+
+-- what a call tells
+unfoldable pub callTold : List ℕ → Held → Call → Told
+callTold t x c = toldAfter (takenOf t) (testsOf t x c) (valuesOf t x c)
+
+-- what fresh tells, which is lent some frame bytes
+unfoldable pub freshCallTold : List ℕ → ℕ → Told
+freshCallTold t size = toldAfter (takenOf t) (sizeTest t size ∷ []) []
+
+-- what the tests at the head of the calls tell
+unfoldable pub admitTold : List ℕ → ℕ → State → Told
+admitTold t size s = toldAfter (takenOf t) (sizeTest t size ∷ stateTest t s ∷ []) []
