@@ -22,19 +22,31 @@ use Rattle.master.specs.Fresh.{fresh}
 use Rattle.master.specs.declared.state.State.{State}
 use Rattle.master.specs.Fits.{stateFits, isSending, lentFits}
 use Rattle.master.specs.Transfers.{isOpen}
-use Rattle.master.specs.Admit.{unless, bufferSize, admitted, answered, Step}
+use Rattle.master.specs.Admit.{unless, bufferSize, admitted, answered, Step, Leaves}
 use Rattle.master.specs.Start.{freshVerdict, freshOf}
-use Rattle.master.specs.Write.{isBytes, fitsSignal, writable}
-use Rattle.master.specs.Read.{readVerdict}
-use Rattle.master.specs.Select.{selectVerdict}
-use Rattle.master.specs.Tick.{tickVerdict}
-use Rattle.master.specs.Byte.{byteVerdict}
-use Rattle.master.specs.Message.{sendVerdict}
-use Rattle.master.specs.Ahead.{aheadVerdict}
-use Rattle.master.specs.Answers.{verdictTold, freshTold}
+use Rattle.master.specs.Write.{isBytes, fitsSignal, writable, writeOf}
+use Rattle.master.specs.Put.{Put}
+use Rattle.master.specs.Read.{readVerdict, readScalarOf, readArrayOf}
+use Rattle.master.specs.Select.{selectVerdict, selectOf}
+use Rattle.master.specs.declared.select.Chosen.{Chosen}
+use Rattle.master.specs.declared.write.Wrote.{Wrote}
+use Rattle.master.specs.declared.read.ReadAnswer.{ReadAnswer}
+use Rattle.master.specs.declared.read.ReadArray.{ReadArray}
+use Rattle.master.specs.declared.read.StatusRead.{StatusRead}
+use Rattle.master.specs.declared.tick.Ticked.{Ticked}
+use Rattle.master.specs.declared.byte.Took.{Took}
+use Rattle.master.specs.declared.send.Sent.{Sent}
+use Rattle.master.specs.declared.send.MessageAnswer.{MessageAnswer}
+use Rattle.master.specs.declared.ahead.AheadAnswer.{AheadAnswer}
+use Rattle.master.specs.Tick.{tickVerdict, tickOf}
+use Rattle.master.specs.Byte.{byteVerdict, byteOf}
+use Rattle.master.specs.Message.{sendVerdict, sendOf, messageOf}
+use Rattle.master.specs.Ahead.{aheadVerdict, aheadOf}
+use Rattle.master.specs.Status.{statusOf}
+use Rattle.master.specs.Answers.{verdictTold, freshTold, writeTold, readTold, arrayTold, selectTold, tickTold, byteTold, statusTold, sendTold, messageTold, aheadTold}
 use Rattle.master.specs.Calls as call
 use Rattle.master.specs.Calls.{Call}
-use Rattle.master.specs.Run.{Held, answerOf}
+use Rattle.master.specs.Run.{Held, held, answerOf}
 use Rattle.master.specs.Step.{verdictOf, toldOf}
 use Rattle.master.specs.Told.{toldAs, toldAfter, sizeTest, stateTest, testsOf, valuesOf, callTold, freshCallTold, admitTold}
 use Rattle.master.proofs.StepLaws.{verdict-told}
@@ -134,6 +146,7 @@ fresh-told t bs =
   where
     refuse : Refusal → Step Started
     refuse r = record { given = record { state = fresh; answer = start.Refused r }; left = bs }
+
     by : (v : Verdict) → freshTold (answered v refuse (record { given = record { state = fresh; answer = start.Fresh }; left = freshBytes t }) .given .answer) ≡ toldAs v []
     by Accepted = refl
     by (Refused r) = refl
@@ -148,3 +161,61 @@ admit-told t n s =
     by : (v : Verdict) → verdictTold v ≡ toldAs v []
     by Accepted = refl
     by (Refused r) = refl
+
+-- ---- what the contract of each call says beside the answer, from the answer alone
+
+pub select-told : (t : List ℕ) (x : State) (n : ℕ) (r : Chosen) → r ≡ selectOf t x n → (r ≡ selectOf t x n) × (selectTold (r .answer) ≡ callTold t (held x []) (call.select n))
+unfolding answerOf toldOf
+select-told t x n r e = (e, rw e (call-told t (held x []) (call.select n)))
+
+pub read-told : (t : List ℕ) (x : State) (bs : List ℕ) (s : ℕ) (r : ReadAnswer) → r ≡ readScalarOf t x bs s
+    → (r ≡ readScalarOf t x bs s) × (readTold r ≡ callTold t (held x bs) (call.read s))
+unfolding answerOf toldOf
+read-told t x bs s r e = (e, rw e (call-told t (held x bs) (call.read s)))
+
+pub read-array-told : (t : List ℕ) (x : State) (bs : List ℕ) (s : ℕ) (r : ReadArray) → r ≡ readArrayOf t x bs s
+    → (r ≡ readArrayOf t x bs s) × (arrayTold (r .answer) ≡ callTold t (held x bs) (call.readArray s))
+unfolding answerOf toldOf
+read-array-told t x bs s r e = (e, rw e (call-told t (held x bs) (call.readArray s)))
+
+pub tick-told : (t bs m : List ℕ) (x : State) (r : Ticked) → r ≡ tickOf t bs m x
+    → (r ≡ tickOf t bs m x) × (tickTold (r .answer) ≡ callTold t (held x bs) (call.tick m))
+unfolding answerOf toldOf
+tick-told t bs m x r e = (e, rw e (call-told t (held x bs) (call.tick m)))
+
+pub status-told : (t : List ℕ) (x : State) (r : StatusRead) → r ≡ statusOf t x
+    → (r ≡ statusOf t x) × (statusTold (r .answer) ≡ callTold t (held x []) call.readStatus)
+unfolding answerOf toldOf
+status-told t x r e = (e, rw e (call-told t (held x []) call.readStatus))
+
+pub send-told : (t : List ℕ) (x : State) (nad n : ℕ) (r : Sent) → r ≡ sendOf t x nad n
+    → (r ≡ sendOf t x nad n) × (sendTold (r .answer) ≡ callTold t (held x []) (call.send nad n))
+unfolding answerOf toldOf
+send-told t x nad n r e = (e, rw e (call-told t (held x []) (call.send nad n)))
+
+pub message-told : (t : List ℕ) (x : State) (r : MessageAnswer) → r ≡ messageOf t x
+    → (r ≡ messageOf t x) × (messageTold r ≡ callTold t (held x []) call.messageState)
+unfolding answerOf toldOf
+message-told t x r e = (e, rw e (call-told t (held x []) call.messageState))
+
+pub ahead-told : (t : List ℕ) (x : State) (f : ℕ) (r : AheadAnswer) → r ≡ aheadOf t x f
+    → (r ≡ aheadOf t x f) × (aheadTold r ≡ callTold t (held x []) (call.numberAhead f))
+unfolding answerOf toldOf
+ahead-told t x f r e = (e, rw e (call-told t (held x []) (call.numberAhead f)))
+
+pub write-told : (t : List ℕ) (x : State) (bs : List ℕ) (w : Put) (r : Wrote) (after : List ℕ) → Leaves (writeOf t x bs w) r after
+    → Leaves (writeOf t x bs w) r after × (writeTold (r .answer) ≡ callTold t (held x bs) (call.write w))
+unfolding answerOf toldOf
+write-told t x bs w r after e = (e, rw (e .handed) (call-told t (held x bs) (call.write w)))
+
+pub byte-told : (t : List ℕ) (x : State) (bs : List ℕ) (b : ℕ) (r : Took) (after : List ℕ) → Leaves (byteOf t x bs b) r after
+    → Leaves (byteOf t x bs b) r after × (byteTold (r .answer) ≡ callTold t (held x bs) (call.byteIn b))
+unfolding answerOf toldOf
+byte-told t x bs b r after e = (e, rw (e .handed) (call-told t (held x bs) (call.byteIn b)))
+
+pub start-told : (t bs : List ℕ) (r : Started) (after : List ℕ) → Leaves (freshOf t bs) r after
+    → Leaves (freshOf t bs) r after × (freshTold (r .answer) ≡ freshCallTold t (length bs))
+start-told t bs r after e = (e, rw (e .handed) (fresh-told t bs))
+
+pub head-told : (t : List ℕ) (n : ℕ) (s : State) (r : Verdict) → r ≡ admitted t n s → (r ≡ admitted t n s) × (verdictTold r ≡ admitTold t n s)
+head-told t n s r e = (e, rw e (admit-told t n s))

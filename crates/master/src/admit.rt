@@ -10,11 +10,14 @@ ghost use Rattle.master.specs.Admit.{bufferSize, admitted};
 ghost use Rattle.refusal.specs.Numbers.{refused as refusedWith};
 ghost use Rattle.cluster.specs.declared.Verdict.the-variants as verdict;
 ghost use Rattle.master.specs.Fits.{stateFits};
+ghost use Rattle.master.specs.Answers.{verdictTold};
+ghost use Rattle.master.specs.Told.{admitTold};
 
 impl State {
     // Judges the table, the number of frame bytes, and the state; a call that is lent no frame bytes asks with the right number.
     pub fn admit(self, t: &[u16], size: usize) -> Verdict
         ensures { λ r. ⌜ r ≡ admitted (now (t .entry)) size self ⌝ }
+        ensures told { λ r. ⌜ verdictTold r ≡ admitTold (now (t .entry)) size self ⌝ }
     {
         if let Verdict::Refused(refusal) = taken(t) {
             return Verdict::Refused(refusal);

@@ -8,6 +8,11 @@ use cluster::members;
 use refusal::Refusal;
 ghost use mathlib.Core.Path.{_≡_};
 ghost use Rattle.master.specs.Ahead.{aheadVerdict, aheadOf};
+ghost use mathlib.Core.List.{[]};
+ghost use Rattle.master.specs.Answers.{aheadTold};
+ghost use Rattle.master.specs.Calls as call;
+ghost use Rattle.master.specs.Run.{held};
+ghost use Rattle.master.specs.Told.{callTold};
 
 // What number ahead answers.
 pub enum AheadAnswer {
@@ -19,6 +24,7 @@ impl State {
     // Tells the number of pending members ahead of a frame in its list.
     pub fn number_ahead(self, t: &[u16], f: u16) -> AheadAnswer
         ensures { λ r. ⌜ r ≡ aheadOf (now (t .entry)) self f ⌝ }
+        ensures told { λ r. ⌜ aheadTold r ≡ callTold (now (t .entry)) (held self []) (call.numberAhead f) ⌝ }
     {
         if let Verdict::Refused(refusal) = self.judge_ahead(t, f) {
             return AheadAnswer::Refused(refusal);

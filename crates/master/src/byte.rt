@@ -14,6 +14,10 @@ ghost use Rattle.master.specs.Admit.{bufferSize, Leaves};
 ghost use Rattle.cluster.specs.declared.Verdict.the-variants.{Accepted};
 ghost use Rattle.master.specs.Byte.{noResponse as plainOf, passed as passedOf, sentByte, responding as respondingOf, lastByte};
 ghost use Rattle.master.specs.Byte.{receivedByte, byteVerdict, byteOf};
+ghost use Rattle.master.specs.Answers.{byteTold};
+ghost use Rattle.master.specs.Calls as call;
+ghost use Rattle.master.specs.Run.{held};
+ghost use Rattle.master.specs.Told.{callTold};
 
 // What a byte in answers; response says that the response's eight bytes are there.
 pub enum ByteAnswer {
@@ -35,6 +39,7 @@ impl State {
     // One byte of the open transfer.
     pub fn byte_in(self, t: &[u16], bytes: &mut [u8], b: u8) -> Took
         ensures { λ r. ⌜ Leaves (byteOf (now (t .entry)) self (now (bytes .entry)) b) r (now (bytes .exit)) ⌝ }
+        ensures told { λ r. ⌜ byteTold (r .answer) ≡ callTold (now (t .entry)) (held self (now (bytes .entry))) (call.byteIn b) ⌝ }
     {
         if let Verdict::Refused(refusal) = self.judge_byte(t, bytes.len()) {
             return self.answering(ByteAnswer::Refused(refusal));

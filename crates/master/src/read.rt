@@ -10,6 +10,11 @@ use refusal::Refusal;
 ghost use mathlib.Core.Path.{_≡_};
 ghost use Rattle.master.specs.Read.{readVerdict, readScalarOf, readArrayOf};
 ghost use Rattle.master.specs.Status.{statusOf};
+ghost use mathlib.Core.List.{[]};
+ghost use Rattle.master.specs.Answers.{readTold, arrayTold, statusTold};
+ghost use Rattle.master.specs.Calls as call;
+ghost use Rattle.master.specs.Run.{held};
+ghost use Rattle.master.specs.Told.{callTold};
 
 // What a read of a scalar answers.
 pub enum ReadAnswer {
@@ -45,6 +50,7 @@ impl State {
     // Reads a scalar.
     pub fn read(self, t: &[u16], bytes: &[u8], s: u16) -> ReadAnswer
         ensures { λ r. ⌜ r ≡ readScalarOf (now (t .entry)) self (now (bytes .entry)) s ⌝ }
+        ensures told { λ r. ⌜ readTold r ≡ callTold (now (t .entry)) (held self (now (bytes .entry))) (call.read s) ⌝ }
     {
         if let Verdict::Refused(refusal) = self.judge_read(t, bytes.len(), s, false) {
             return ReadAnswer::Refused(refusal);
@@ -55,6 +61,7 @@ impl State {
     // Reads an array.
     pub fn read_array(self, t: &[u16], bytes: &[u8], s: u16) -> ReadArray
         ensures { λ r. ⌜ r ≡ readArrayOf (now (t .entry)) self (now (bytes .entry)) s ⌝ }
+        ensures told { λ r. ⌜ arrayTold (r .answer) ≡ callTold (now (t .entry)) (held self (now (bytes .entry))) (call.readArray s) ⌝ }
     {
         if let Verdict::Refused(refusal) = self.judge_read(t, bytes.len(), s, true) {
             return ReadArray {
@@ -89,6 +96,7 @@ impl State {
     // Reads the status and sets it to 0.
     pub fn read_status(self, t: &[u16]) -> StatusRead
         ensures { λ r. ⌜ r ≡ statusOf (now (t .entry)) self ⌝ }
+        ensures told { λ r. ⌜ statusTold (r .answer) ≡ callTold (now (t .entry)) (held self []) call.readStatus ⌝ }
     {
         if let Verdict::Refused(refusal) = self.admit(t, buffer_size(t)) {
             return StatusRead {

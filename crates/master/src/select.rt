@@ -7,6 +7,11 @@ use cluster::entries;
 use refusal::Refusal;
 ghost use mathlib.Core.Path.{_≡_};
 ghost use Rattle.master.specs.Select.{selectVerdict, selectOf};
+ghost use mathlib.Core.List.{[]};
+ghost use Rattle.master.specs.Answers.{selectTold};
+ghost use Rattle.master.specs.Calls as call;
+ghost use Rattle.master.specs.Run.{held};
+ghost use Rattle.master.specs.Told.{callTold};
 
 // What select answers.
 pub enum SelectAnswer {
@@ -24,6 +29,7 @@ impl State {
     // Asks for a schedule, which begins at the next slot start.
     pub fn select(self, t: &[u16], n: u16) -> Chosen
         ensures { λ r. ⌜ r ≡ selectOf (now (t .entry)) self n ⌝ }
+        ensures told { λ r. ⌜ selectTold (r .answer) ≡ callTold (now (t .entry)) (held self []) (call.select n) ⌝ }
     {
         if let Verdict::Refused(refusal) = self.judge_select(t, n) {
             return Chosen {

@@ -9,6 +9,11 @@ use refusal::Refusal;
 use transport::reassembly::Assembly;
 ghost use mathlib.Core.Path.{_≡_};
 ghost use Rattle.master.specs.Message.{sendVerdict, sendOf, messageOf};
+ghost use mathlib.Core.List.{[]};
+ghost use Rattle.master.specs.Answers.{sendTold, messageTold};
+ghost use Rattle.master.specs.Calls as call;
+ghost use Rattle.master.specs.Run.{held};
+ghost use Rattle.master.specs.Told.{callTold};
 
 // What send answers.
 pub enum SendAnswer {
@@ -35,6 +40,7 @@ impl State {
     // Begins to send a message of a length to a NAD; its bytes are lent to the ticks.
     pub fn send(self, t: &[u16], nad: u8, size: u32) -> Sent
         ensures { λ r. ⌜ r ≡ sendOf (now (t .entry)) self nad size ⌝ }
+        ensures told { λ r. ⌜ sendTold (r .answer) ≡ callTold (now (t .entry)) (held self []) (call.send nad size) ⌝ }
     {
         if let Verdict::Refused(refusal) = self.judge_send(t, size) {
             return Sent {
@@ -55,6 +61,7 @@ impl State {
     // Tells none, sending, completed or failed.
     pub fn message_state(self, t: &[u16]) -> MessageAnswer
         ensures { λ r. ⌜ r ≡ messageOf (now (t .entry)) self ⌝ }
+        ensures told { λ r. ⌜ messageTold r ≡ callTold (now (t .entry)) (held self []) call.messageState ⌝ }
     {
         if let Verdict::Refused(refusal) = self.admit(t, buffer_size(t)) {
             return MessageAnswer::Refused(refusal);

@@ -9,6 +9,9 @@ use refusal::Refusal;
 ghost use mathlib.Core.Path.{_≡_};
 ghost use Rattle.master.specs.Admit.{Leaves};
 ghost use Rattle.master.specs.Start.{freshVerdict, freshOf};
+ghost use lib.ListN.{length};
+ghost use Rattle.master.specs.Answers.{freshTold};
+ghost use Rattle.master.specs.Told.{freshCallTold};
 
 // What fresh answers.
 pub enum FreshAnswer {
@@ -26,6 +29,7 @@ impl State {
     // Fills the frame bytes, 255 everywhere and then the start values, and gives the fresh state.
     pub fn start(t: &[u16], bytes: &mut [u8]) -> Started
         ensures { λ r. ⌜ Leaves (freshOf (now (t .entry)) (now (bytes .entry))) r (now (bytes .exit)) ⌝ }
+        ensures told { λ r. ⌜ freshTold (r .answer) ≡ freshCallTold (now (t .entry)) (length (now (bytes .entry))) ⌝ }
     {
         if let Verdict::Refused(refusal) = judge(t, bytes.len()) {
             return Started {

@@ -21,6 +21,10 @@ ghost use Rattle.master.specs.declared.state.Opened.the-variants.{Reques
 ghost use Rattle.master.specs.Transfers.{openIdentifier};
 ghost use Rattle.cluster.specs.declared.Verdict.the-variants.{Accepted};
 ghost use Rattle.master.specs.Tick.{slotOpens, abandoned as abandonedOf, opensOrSilent, slot as slotOf, tickVerdict, tickOf};
+ghost use Rattle.master.specs.Answers.{tickTold};
+ghost use Rattle.master.specs.Calls as call;
+ghost use Rattle.master.specs.Run.{held};
+ghost use Rattle.master.specs.Told.{callTold};
 
 // What a tick answers; opened tells the protected identifier.
 pub enum TickAnswer {
@@ -41,6 +45,7 @@ impl State {
     // One tick: the wait falls, or a slot starts.
     pub fn tick(self, t: &[u16], bytes: &[u8], lent: &[u8]) -> Ticked
         ensures { λ r. ⌜ r ≡ tickOf (now (t .entry)) (now (bytes .entry)) (now (lent .entry)) self ⌝ }
+        ensures told { λ r. ⌜ tickTold (r .answer) ≡ callTold (now (t .entry)) (held self (now (bytes .entry))) (call.tick (now (lent .entry))) ⌝ }
     {
         if let Verdict::Refused(refusal) = self.judge_tick(t, bytes.len(), lent.len()) {
             return Ticked {

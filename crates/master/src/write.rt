@@ -14,6 +14,10 @@ ghost use Rattle.master.specs.Admit.{Leaves};
 ghost use Rattle.cluster.specs.Table.{signalCount};
 ghost use Rattle.master.specs.Write.{writable as writableOf, marked as markedOf, refusedWrite, writeVerdict, writeOf};
 ghost use Rattle.master.specs.Put.{scalar, array, put};
+ghost use Rattle.master.specs.Answers.{writeTold};
+ghost use Rattle.master.specs.Calls as call;
+ghost use Rattle.master.specs.Run.{held};
+ghost use Rattle.master.specs.Told.{callTold};
 
 // What a write answers.
 pub enum WriteAnswer {
@@ -31,6 +35,7 @@ impl State {
     // Writes a scalar and marks its frame as written.
     pub fn write(self, t: &[u16], bytes: &mut [u8], s: u16, v: u32) -> Wrote
         ensures { λ r. ⌜ Leaves (writeOf (now (t .entry)) self (now (bytes .entry)) (put s (scalar v))) r (now (bytes .exit)) ⌝ }
+        ensures told { λ r. ⌜ writeTold (r .answer) ≡ callTold (now (t .entry)) (held self (now (bytes .entry))) (call.write (put s (scalar v))) ⌝ }
     {
         if let Verdict::Refused(refusal) = self.judge_scalar(t, bytes.len(), s, v) {
             return self.not_written(refusal);
@@ -45,6 +50,7 @@ impl State {
     // Writes an array and marks its frame as written.
     pub fn write_array(self, t: &[u16], bytes: &mut [u8], s: u16, values: &[u8]) -> Wrote
         ensures { λ r. ⌜ Leaves (writeOf (now (t .entry)) self (now (bytes .entry)) (put s (array (now (values .entry))))) r (now (bytes .exit)) ⌝ }
+        ensures told { λ r. ⌜ writeTold (r .answer) ≡ callTold (now (t .entry)) (held self (now (bytes .entry))) (call.write (put s (array (now (values .entry))))) ⌝ }
     {
         if let Verdict::Refused(refusal) = self.judge_array(t, bytes.len(), s, values) {
             return self.not_written(refusal);

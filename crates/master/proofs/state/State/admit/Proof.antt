@@ -2,18 +2,19 @@
 use borrow.Author.Needs.{needs}
 use borrow.Author.Tests.{eq-eqb, ne-eqb, not-false, not-true}
 use Rattle.master.specs.Admit.{admitted}
+use Rattle.master.proofs.ToldLaws.{head-told}
 use Rattle.master.proofs.state.State.admit.Statement.{statement}
 use Rattle.master.proofs.state.State.admit.Tie as tie
 
 returns : tie.Need-returns
 unfolding admitted
-returns c = rw (← c .before .before .before .taken .ensures, c .before .refusal .given .1)
+returns c = head-told _ _ _ _ (rw (← c .before .before .before .taken .ensures, c .before .refusal .given .1))
 
 returns-2 : tie.Need-returns-2
 unfolding admitted
 returns-2 c =
     let taken = c .before .before .before .before .before .taken in
-    rw (← taken .ensures, c .before .before .before .enum-told .given .1, ← c .before .before .buffer-size .ensures, ne-eqb _ _ (c .before .if1 .taken), c .refused .ensures)
+    head-told _ _ _ _ (rw (← taken .ensures, c .before .before .before .enum-told .given .1, ← c .before .before .buffer-size .ensures, ne-eqb _ _ (c .before .if1 .taken), c .refused .ensures))
 
 returns-3 : tie.Need-returns-3
 unfolding admitted
@@ -22,7 +23,7 @@ returns-3 c =
     let enum-told = c .before .before .before .before .before .enum-told in
     let buffer-size = c .before .before .before .before .buffer-size in
     let fits2 = c .before .before .fits2 in
-    rw (
+    head-told _ _ _ _ (rw (
       ← taken .ensures,
       enum-told .given .1,
       ← buffer-size .ensures,
@@ -31,14 +32,14 @@ returns-3 c =
           fits2 .ensures,
       not-true (fits2 .result) (c .before .if2 .taken),
       c .refused2 .ensures,
-    )
+    ))
 
 returns-4 : tie.Need-returns-4
 unfolding admitted
 returns-4 c =
     let taken = c .before .before .before .before .before .before .taken in
     let enum-told = c .before .before .before .before .enum-told in
-    rw (
+    head-told _ _ _ _ (rw (
       ← taken .ensures,
       enum-told .given .1,
       ← c .before .before .before .buffer-size .ensures,
@@ -46,7 +47,7 @@ returns-4 c =
           (c .before .before .if1 .left),
       ← c .before .fits2 .ensures,
       not-false (c .before .fits2 .result) (c .if2 .left),
-    )
+    ))
 
 pub admit-spec : {M : Type 1} → statement M
 admit-spec =

@@ -5,6 +5,7 @@ use lib.ListN.{length}
 use mathlib.Core.Path.{_∙_, sym}
 use Rattle.master.proofs.Verdicts.{byte-size}
 use Rattle.master.specs.Byte.{byteOf, byteEffect}
+use Rattle.master.proofs.ToldLaws.{byte-told}
 use Rattle.master.proofs.state.State.byte_in.Statement.{statement}
 use Rattle.master.proofs.state.State.byte_in.Tie as tie
 
@@ -12,7 +13,7 @@ returns : tie.Need-returns
 unfolding byteOf byteEffect
 returns c =
     let e = (sym (c .before .before .before .before .judge-byte .ensures) ∙ c .before .before .refusal .given .1) in
-    record { handed = rw (e, c .answering .ensures); kept = rw e }
+    byte-told _ _ _ _ _ _ (record { handed = rw (e, c .answering .ensures); kept = rw e })
 
 sent-byte-requires : tie.Need-sent-byte-requires
 sent-byte-requires c κs =
@@ -28,7 +29,7 @@ returns-2 c =
     let enum-told = c .before .before .before .before .enum-told in
     let sends = c .before .before .sends in
     let e = (sym (judge-byte .ensures) ∙ enum-told .given .1) in
-    record { handed = rw (e, ← sends .ensures, c .before .if1 .taken, c .sent-byte .ensures); kept = rw (e, ← sends .ensures, c .before .if1 .taken) }
+    byte-told _ _ _ _ _ _ (record { handed = rw (e, ← sends .ensures, c .before .if1 .taken, c .sent-byte .ensures); kept = rw (e, ← sends .ensures, c .before .if1 .taken) })
 
 received-byte-requires : tie.Need-received-byte-requires
 received-byte-requires c κs =
@@ -45,7 +46,7 @@ returns-3 c =
     let if1 = c .before .before .before .before .if1 in
     let e = (sym (judge-byte .ensures) ∙ enum-told .given .1) in
     let l = c .before .before .received-byte .ensures in
-    record { handed = rw (e, ← sends .ensures, if1 .left) (l .handed); kept = rw (e, ← sends .ensures, if1 .left) (l .kept) }
+    byte-told _ _ _ _ _ _ (record { handed = rw (e, ← sends .ensures, if1 .left) (l .handed); kept = rw (e, ← sends .ensures, if1 .left) (l .kept) })
 
 pub byte-in-spec : {M : Type 1} → statement M
 byte-in-spec =

@@ -9,7 +9,7 @@ returns : tie.Need-returns
 unfolding aheadVerdict
 returns c =
     let buffer-size = c .before .before .before .before .buffer-size in
-    rw (← buffer-size .ensures, ← c .before .before .before .admit .ensures, c .before .refusal .given .1)
+    rw (← buffer-size .ensures, ← c .before .before .before .admit .ensures .0, c .before .refusal .given .1)
 
 returns-2 : tie.Need-returns-2
 unfolding aheadVerdict
@@ -19,7 +19,7 @@ returns-2 c =
     let enum-told = c .before .before .before .before .enum-told in
     rw (
       ← buffer-size .ensures,
-      ← admit .ensures,
+      ← admit .ensures .0,
       enum-told .given .1,
       ← c .before .before .before .count .ensures,
       ←
@@ -33,7 +33,7 @@ unfolding aheadVerdict
 returns-3 c =
     let buffer-size = c .before .before .before .before .before .before .buffer-size in
     let admit = c .before .before .before .before .before .admit in
-    rw (← buffer-size .ensures, ← admit .ensures, c .before .before .before .enum-told .given .1, ← c .before .before .count .ensures, ← c .before .of-frame .ensures, lt-ltb _ _ (c .if1 .left))
+    rw (← buffer-size .ensures, ← admit .ensures .0, c .before .before .before .enum-told .given .1, ← c .before .before .count .ensures, ← c .before .of-frame .ensures, lt-ltb _ _ (c .if1 .left))
 
 pub judge-ahead-spec : {M : Type 1} → statement M
 judge-ahead-spec =

@@ -7,7 +7,7 @@ use Rattle.master.proofs.state.State.judge_byte.Tie as tie
 
 returns : tie.Need-returns
 unfolding byteVerdict
-returns c = rw (← c .before .before .before .admit .ensures, c .before .refusal .given .1)
+returns c = rw (← c .before .before .before .admit .ensures .0, c .before .refusal .given .1)
 
 returns-2 : tie.Need-returns-2
 unfolding byteVerdict
@@ -15,13 +15,13 @@ returns-2 c =
     let admit = c .before .before .before .before .before .before .admit in
     let enum-told = c .before .before .before .before .enum-told in
     let is-open = c .before .before .is-open in
-    rw (← admit .ensures, enum-told .given .1, ← is-open .ensures, not-true (is-open .result) (c .before .if1 .taken), c .refused .ensures)
+    rw (← admit .ensures .0, enum-told .given .1, ← is-open .ensures, not-true (is-open .result) (c .before .if1 .taken), c .refused .ensures)
 
 returns-3 : tie.Need-returns-3
 unfolding byteVerdict
 returns-3 c =
     let admit = c .before .before .before .before .before .admit in
-    rw (← admit .ensures, c .before .before .before .enum-told .given .1, ← c .before .is-open .ensures, not-false (c .before .is-open .result) (c .if1 .left))
+    rw (← admit .ensures .0, c .before .before .before .enum-told .given .1, ← c .before .is-open .ensures, not-false (c .before .is-open .result) (c .if1 .left))
 
 pub judge-byte-spec : {M : Type 1} → statement M
 judge-byte-spec =

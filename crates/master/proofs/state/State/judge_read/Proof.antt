@@ -8,13 +8,13 @@ use Rattle.master.proofs.state.State.judge_read.Tie as tie
 
 returns : tie.Need-returns
 unfolding readVerdict
-returns c = rw (← c .before .before .before .admit .ensures, c .before .refusal .given .1)
+returns c = rw (← c .before .before .before .admit .ensures .0, c .before .refusal .given .1)
 
 returns-2 : tie.Need-returns-2
 unfolding readVerdict
 returns-2 c =
     let admit = c .before .before .before .before .before .admit in
-    rw (← admit .ensures, c .before .before .before .enum-told .given .1, ← c .before .before .count .ensures, le-ltb _ _ (c .before .if1 .taken), c .refused .ensures)
+    rw (← admit .ensures .0, c .before .before .before .enum-told .given .1, ← c .before .before .count .ensures, le-ltb _ _ (c .before .if1 .taken), c .refused .ensures)
 
 returns-3 : tie.Need-returns-3
 unfolding readVerdict
@@ -25,7 +25,7 @@ returns-3 c =
     let count = c .before .before .before .before .count in
     let is-array = c .before .before .is-array in
     rw (
-      ← admit .ensures,
+      ← admit .ensures .0,
       enum-told .given .1,
       ← count .ensures,
       lt-ltb _ _ (c .before .before .before .if1 .left),
@@ -42,7 +42,7 @@ returns-4 c =
     let admit = c .before .before .before .before .before .before .admit in
     let enum-told = c .before .before .before .before .enum-told in
     rw (
-      ← admit .ensures,
+      ← admit .ensures .0,
       enum-told .given .1,
       ← c .before .before .before .count .ensures,
       lt-ltb _ _

@@ -4,10 +4,10 @@ use Rattle.master.proofs.state.State.judge_scalar.Statement.{statement}
 use Rattle.master.proofs.state.State.judge_scalar.Tie as tie
 
 returns : tie.Need-returns
-returns c = rw (← c .before .before .before .admit .ensures, c .before .refusal .given .1)
+returns c = rw (← c .before .before .before .admit .ensures .0, c .before .refusal .given .1)
 
 returns-2 : tie.Need-returns-2
-returns-2 c = rw (← c .before .before .before .before .admit .ensures, c .before .before .enum-told .given .1, c .writable .ensures, c .before .scalar-fits .ensures)
+returns-2 c = rw (← c .before .before .before .before .admit .ensures .0, c .before .before .enum-told .given .1, c .writable .ensures, c .before .scalar-fits .ensures)
 
 pub judge-scalar-spec : {M : Type 1} → statement M
 judge-scalar-spec =

@@ -9,21 +9,21 @@ returns : tie.Need-returns
 unfolding selectVerdict
 returns c =
     let buffer-size = c .before .before .before .before .buffer-size in
-    rw (← buffer-size .ensures, ← c .before .before .before .admit .ensures, c .before .refusal .given .1)
+    rw (← buffer-size .ensures, ← c .before .before .before .admit .ensures .0, c .before .refusal .given .1)
 
 returns-2 : tie.Need-returns-2
 unfolding selectVerdict
 returns-2 c =
     let buffer-size = c .before .before .before .before .before .before .buffer-size in
     let admit = c .before .before .before .before .before .admit in
-    rw (← buffer-size .ensures, ← admit .ensures, c .before .before .before .enum-told .given .1, ← c .before .before .schedules .ensures .0, le-ltb _ _ (c .before .if1 .taken), c .refused .ensures)
+    rw (← buffer-size .ensures, ← admit .ensures .0, c .before .before .before .enum-told .given .1, ← c .before .before .schedules .ensures .0, le-ltb _ _ (c .before .if1 .taken), c .refused .ensures)
 
 returns-3 : tie.Need-returns-3
 unfolding selectVerdict
 returns-3 c =
     let buffer-size = c .before .before .before .before .before .buffer-size in
     let admit = c .before .before .before .before .admit in
-    rw (← buffer-size .ensures, ← admit .ensures, c .before .before .enum-told .given .1, ← c .before .schedules .ensures .0, lt-ltb _ _ (c .if1 .left))
+    rw (← buffer-size .ensures, ← admit .ensures .0, c .before .before .enum-told .given .1, ← c .before .schedules .ensures .0, lt-ltb _ _ (c .if1 .left))
 
 pub judge-select-spec : {M : Type 1} → statement M
 judge-select-spec =

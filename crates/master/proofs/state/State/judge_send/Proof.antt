@@ -9,21 +9,21 @@ returns : tie.Need-returns
 unfolding sendVerdict
 returns c =
     let buffer-size = c .before .before .before .before .buffer-size in
-    rw (← buffer-size .ensures, ← c .before .before .before .admit .ensures, c .before .refusal .given .1)
+    rw (← buffer-size .ensures, ← c .before .before .before .admit .ensures .0, c .before .refusal .given .1)
 
 returns-2 : tie.Need-returns-2
 unfolding sendVerdict
 returns-2 c =
     let buffer-size = c .before .before .before .before .before .buffer-size in
     let admit = c .before .before .before .before .admit in
-    rw (← buffer-size .ensures, ← admit .ensures, c .before .before .enum-told .given .1, lt-leb _ _ (c .before .if1 .taken), c .refused .ensures)
+    rw (← buffer-size .ensures, ← admit .ensures .0, c .before .before .enum-told .given .1, lt-leb _ _ (c .before .if1 .taken), c .refused .ensures)
 
 returns-3 : tie.Need-returns-3
 unfolding sendVerdict
 returns-3 c =
     let buffer-size = c .before .before .before .before .before .before .buffer-size in
     let admit = c .before .before .before .before .before .admit in
-    rw (← buffer-size .ensures, ← admit .ensures, c .before .before .before .enum-told .given .1, le-leb _ _ (c .before .before .if1 .left), lt-leb _ _ (c .before .if2 .taken), c .refused2 .ensures)
+    rw (← buffer-size .ensures, ← admit .ensures .0, c .before .before .before .enum-told .given .1, le-leb _ _ (c .before .before .if1 .left), lt-leb _ _ (c .before .if2 .taken), c .refused2 .ensures)
 
 returns-4 : tie.Need-returns-4
 unfolding sendVerdict
@@ -33,7 +33,7 @@ returns-4 c =
     let enum-told = c .before .before .before .before .before .enum-told in
     rw (
       ← buffer-size .ensures,
-      ← admit .ensures,
+      ← admit .ensures .0,
       enum-told .given .1,
       le-leb _ _ (c .before .before .before .before .if1 .left),
       le-leb _ _ (c .before .before .before .if2 .left),
@@ -50,7 +50,7 @@ returns-5 c =
     let enum-told = c .before .before .before .before .enum-told in
     rw (
       ← buffer-size .ensures,
-      ← admit .ensures,
+      ← admit .ensures .0,
       enum-told .given .1,
       le-leb _ _ (c .before .before .before .if1 .left),
       le-leb _

@@ -6,12 +6,13 @@ use native.Mathlib.Omega.{arith}
 use Rattle.master.proofs.Verdicts.{ahead-member, ahead-table}
 use Rattle.master.specs.Ahead.{aheadOf}
 use Rattle.cluster.specs.Lists.{framesAhead}
+use Rattle.master.proofs.ToldLaws.{ahead-told}
 use Rattle.master.proofs.state.State.number_ahead.Statement.{statement}
 use Rattle.master.proofs.state.State.number_ahead.Tie as tie
 
 returns : tie.Need-returns
 unfolding aheadOf framesAhead
-returns c = rw (← c .before .before .before .judge-ahead .ensures, c .before .refusal .given .1)
+returns c = ahead-told _ _ _ _ (rw (← c .before .before .before .judge-ahead .ensures, c .before .refusal .given .1))
 
 count-pending-requires : tie.Need-count-pending-requires
 count-pending-requires c κs =
@@ -25,7 +26,7 @@ unfolding aheadOf framesAhead
 returns-2 c =
     let judge-ahead = c .before .before .before .before .before .before .judge-ahead in
     let enum-told = c .before .before .before .before .enum-told in
-    rw (← judge-ahead .ensures, enum-told .given .1, c .count-pending .ensures, c .before .list .ensures, c .before .before .of-frame .ensures)
+    ahead-told _ _ _ _ (rw (← judge-ahead .ensures, enum-told .given .1, c .count-pending .ensures, c .before .list .ensures, c .before .before .of-frame .ensures))
 
 pub number-ahead-spec : {M : Type 1} → statement M
 number-ahead-spec =

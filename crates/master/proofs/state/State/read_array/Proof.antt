@@ -1,16 +1,17 @@
 -- `state::State::read_array` meets its contract: each way out has the tests that led to it, and what the calls answer is put in.
 use borrow.Author.Needs.{needs}
 use Rattle.master.specs.Read.{readArrayOf}
+use Rattle.master.proofs.ToldLaws.{read-array-told}
 use Rattle.master.proofs.state.State.read_array.Statement.{statement}
 use Rattle.master.proofs.state.State.read_array.Tie as tie
 
 returns : tie.Need-returns
 unfolding readArrayOf
-returns c = rw (← c .before .before .before .judge-read .ensures, c .before .refusal .given .1)
+returns c = read-array-told _ _ _ _ _ (rw (← c .before .before .before .judge-read .ensures, c .before .refusal .given .1))
 
 returns-2 : tie.Need-returns-2
 unfolding readArrayOf
-returns-2 c = rw (← c .before .before .before .before .judge-read .ensures, c .before .before .enum-told .given .1, c .before .get-array .ensures)
+returns-2 c = read-array-told _ _ _ _ _ (rw (← c .before .before .before .before .judge-read .ensures, c .before .before .enum-told .given .1, c .before .get-array .ensures))
 
 pub read-array-spec : {M : Type 1} → statement M
 read-array-spec =

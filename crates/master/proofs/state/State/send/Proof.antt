@@ -4,12 +4,13 @@ use mathlib.Core.Path.{_∙_, sym}
 use native.Mathlib.Omega.{arith}
 use Rattle.master.proofs.Verdicts.{send-length}
 use Rattle.master.specs.Message.{sendOf}
+use Rattle.master.proofs.ToldLaws.{send-told}
 use Rattle.master.proofs.state.State.send.Statement.{statement}
 use Rattle.master.proofs.state.State.send.Tie as tie
 
 returns : tie.Need-returns
 unfolding sendOf
-returns c = rw (← c .before .before .before .judge-send .ensures, c .before .refusal .given .1)
+returns c = send-told _ _ _ _ _ (rw (← c .before .before .before .judge-send .ensures, c .before .refusal .given .1))
 
 cast-t9 : tie.Need-cast-t9
 cast-t9 c =
@@ -18,7 +19,7 @@ cast-t9 c =
 
 returns-2 : tie.Need-returns-2
 unfolding sendOf
-returns-2 c = rw (← c .before .before .before .judge-send .ensures, c .before .enum-told .given .1, c .with-message .ensures)
+returns-2 c = send-told _ _ _ _ _ (rw (← c .before .before .before .judge-send .ensures, c .before .enum-told .given .1, c .with-message .ensures))
 
 pub send-spec : {M : Type 1} → statement M
 send-spec =

@@ -3,12 +3,13 @@
 use borrow.Author.Needs.{needs}
 use mathlib.Core.Path.{_∙_, sym}
 use Rattle.master.specs.Tick.{tickOf, tickEffect}
+use Rattle.master.proofs.ToldLaws.{tick-told}
 use Rattle.master.proofs.state.State.tick.Statement.{statement}
 use Rattle.master.proofs.state.State.tick.Tie as tie
 
 returns : tie.Need-returns
 unfolding tickOf tickEffect
-returns c = rw (← c .before .before .before .judge-tick .ensures, c .before .refusal .given .1)
+returns c = tick-told _ _ _ _ _ (rw (← c .before .before .before .judge-tick .ensures, c .before .refusal .given .1))
 
 waited-requires : tie.Need-waited-requires
 waited-requires c κs = sym (c .before .waits .ensures) ∙ c .if1 .taken
@@ -18,7 +19,7 @@ unfolding tickOf tickEffect
 returns-2 c =
     let judge-tick = c .before .before .before .before .before .before .before .judge-tick in
     let enum-told = c .before .before .before .before .before .enum-told in
-    rw (← judge-tick .ensures, enum-told .given .1, ← c .before .before .before .waits .ensures, c .before .before .if1 .taken, c .with-plan .ensures, c .before .waited .ensures)
+    tick-told _ _ _ _ _ (rw (← judge-tick .ensures, enum-told .given .1, ← c .before .before .before .waits .ensures, c .before .before .if1 .taken, c .with-plan .ensures, c .before .waited .ensures))
 
 slot-requires : tie.Need-slot-requires
 slot-requires c κs =
@@ -30,7 +31,7 @@ unfolding tickOf tickEffect
 returns-3 c =
     let judge-tick = c .before .before .before .before .before .before .judge-tick in
     let enum-told = c .before .before .before .before .enum-told in
-    rw (← judge-tick .ensures, enum-told .given .1, ← c .before .before .waits .ensures, c .before .if1 .left, c .slot .ensures)
+    tick-told _ _ _ _ _ (rw (← judge-tick .ensures, enum-told .given .1, ← c .before .before .waits .ensures, c .before .if1 .left, c .slot .ensures))
 
 pub tick-spec : {M : Type 1} → statement M
 tick-spec =

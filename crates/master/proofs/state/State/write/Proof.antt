@@ -8,6 +8,7 @@ use native.Mathlib.Omega.{arith}
 use Rattle.cluster.specs.Values.{valueFits}
 use Rattle.master.proofs.Verdicts.{write-signal, write-table, write-value-below}
 use Rattle.master.specs.Write.{writeOf}
+use Rattle.master.proofs.ToldLaws.{write-told}
 use Rattle.master.proofs.state.State.write.Statement.{statement}
 use Rattle.master.proofs.state.State.write.Tie as tie
 
@@ -15,7 +16,7 @@ returns : tie.Need-returns
 unfolding writeOf
 returns c =
     let e = (sym (c .before .before .before .before .judge-scalar .ensures) ∙ c .before .before .refusal .given .1) in
-    record { handed = rw (e, c .not-written .ensures); kept = rw e }
+    write-told _ _ _ _ _ _ (record { handed = rw (e, c .not-written .ensures); kept = rw e })
 
 cast-put-scalar : tie.Need-cast-put-scalar
 cast-put-scalar c =
@@ -45,7 +46,7 @@ returns-2 c =
     let judge-scalar = c .before .before .before .before .before .before .before .judge-scalar in
     let enum-told = c .before .before .before .before .before .enum-told in
     let e = (sym (judge-scalar .ensures) ∙ enum-told .given .1) in
-    record { handed = rw (e, c .marked .ensures); kept = rw (e, c .before .before .before .put-scalar .ensures) }
+    write-told _ _ _ _ _ _ (record { handed = rw (e, c .marked .ensures); kept = rw (e, c .before .before .before .put-scalar .ensures) })
 
 pub write-spec : {M : Type 1} → statement M
 write-spec =

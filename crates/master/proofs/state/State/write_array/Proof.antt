@@ -7,6 +7,7 @@ use mathlib.Core.Path.{_∙_, sym}
 use Rattle.cluster.specs.Values.{arrayFits}
 use Rattle.master.proofs.Verdicts.{write-signal, write-table}
 use Rattle.master.specs.Write.{writeOf}
+use Rattle.master.proofs.ToldLaws.{write-told}
 use Rattle.master.proofs.state.State.write_array.Statement.{statement}
 use Rattle.master.proofs.state.State.write_array.Tie as tie
 
@@ -14,7 +15,7 @@ returns : tie.Need-returns
 unfolding writeOf
 returns c =
     let e = (sym (c .before .before .before .before .judge-array .ensures) ∙ c .before .before .refusal .given .1) in
-    record { handed = rw (e, c .not-written .ensures); kept = rw e }
+    write-told _ _ _ _ _ _ (record { handed = rw (e, c .not-written .ensures); kept = rw e })
 
 marked-requires : tie.Need-marked-requires
 marked-requires c κs =
@@ -32,7 +33,7 @@ returns-2 c =
     let judge-array = c .before .before .before .before .before .before .before .judge-array in
     let enum-told = c .before .before .before .before .before .enum-told in
     let e = (sym (judge-array .ensures) ∙ enum-told .given .1) in
-    record { handed = rw (e, c .marked .ensures); kept = rw (e, c .before .before .before .put-array .ensures) }
+    write-told _ _ _ _ _ _ (record { handed = rw (e, c .marked .ensures); kept = rw (e, c .before .before .before .put-array .ensures) })
 
 pub write-array-spec : {M : Type 1} → statement M
 write-array-spec =
