@@ -13,7 +13,7 @@ use Rattle.wire.specs.declared.Answer.the-variants as wire
 use Rattle.wire.specs.declared.checksum.Model.{Model}
 use Rattle.wire.specs.declared.checksum.Model.the-variants.{Classic}
 use Rattle.refusal.specs.Numbers.{frame}
-use Rattle.wire.specs.Answer.{refusedWith}
+use Rattle.wire.specs.Answers.{refusedWith}
 use Rattle.wire.specs.Identifier.{rightParity, readOf}
 use Rattle.wire.specs.Checksum.{checksumByte}
 use Rattle.wire.proofs.Tests.{whether}

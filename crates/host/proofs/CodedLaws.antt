@@ -10,15 +10,16 @@ use Rattle.cluster.specs.Check.{judged, takenOf}
 use Rattle.cluster.specs.declared.Verdict.the-variants.{Accepted, Refused}
 use Rattle.cluster.proofs.FirstFault.{first-fault}
 use Rattle.cluster.proofs.TakenLaws.{right-taken, taken-refused}
-use Rattle.wire.specs.Answer.{refusalOf, valueOf}
+use Rattle.wire.specs.Answers.{told}
+use Rattle.refusal.specs.Answers.{valueTold}
 use Rattle.wire.specs.declared.Answer.{Answer}
 use Rattle.host.specs.Coded.{coded, positionOf}
 
-pub coded-value : (answer : Answer) → valueOf answer < 256 → coded answer % 256 ≡ valueOf answer
+pub coded-value : (answer : Answer) → valueTold (told answer) < 256 → coded answer % 256 ≡ valueTold (told answer)
 unfolding coded
 coded-value answer h = omega arith
 
-pub coded-refusal : (answer : Answer) → valueOf answer < 256 → coded answer / 256 ≡ refusalOf answer
+pub coded-refusal : (answer : Answer) → valueTold (told answer) < 256 → coded answer / 256 ≡ told answer .number
 unfolding coded
 coded-refusal answer h = omega arith
 

@@ -4,14 +4,15 @@ use mathlib.Core.Bool.{cond}
 use lib.Dec.{eqb}
 use Rattle.cluster.specs.declared.Verdict.{Verdict}
 use Rattle.cluster.specs.declared.Verdict.the-variants.{Accepted, Refused}
-use Rattle.wire.specs.Answer.{refusalOf, valueOf}
+use Rattle.wire.specs.Answers.{told}
+use Rattle.refusal.specs.Answers.{valueTold}
 use Rattle.wire.specs.declared.Answer.{Answer}
 use Rattle.wire.specs.declared.checksum.Model.{Model}
 use Rattle.wire.specs.declared.checksum.Model.the-variants.{Classic, Enhanced}
 
 -- the low byte is the value, the next byte the refusal number of document 01, 0 for none
 unfoldable pub coded : Answer → ℕ
-coded answer = valueOf answer + 256 * refusalOf answer
+coded answer = valueTold (told answer) + 256 * told answer .number
 
 -- 0 wishes for classic, any other number for enhanced
 unfoldable pub wishOf : ℕ → Model

@@ -3,6 +3,7 @@
 use Prim.Native.Nat.{ℕ}
 use mathlib.Core.Bool.{Bool, cond}
 use mathlib.Core.List.{List, [], _∷_}
+use lib.ListN.{getD}
 use Rattle.refusal.specs.Numbers.{refused}
 use Rattle.refusal.specs.declared.Refusal.{Refusal}
 
@@ -19,6 +20,10 @@ gives vs = record { number = 0; place = 0; values = vs }
 -- "return only the number (1 also the position)"
 abbrev pub refuses : Refusal → Told
 refuses r = record { number = r .number; place = r .place; values = [] }
+
+-- the value that is told, and 0 where none is
+abbrev pub valueTold : Told → ℕ
+valueTold x = getD (x .values) 0 0
 
 -- a test of the paper's table, and the number that is given where it fails
 pub record Test : Type 0 where

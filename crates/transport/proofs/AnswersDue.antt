@@ -5,7 +5,8 @@ use native.Mathlib.Omega.{arith}
 use mathlib.Core.Bool.{cond}
 use borrow.Author.Tests.{eq-eqb, ne-eqb}
 use lib.Dec.{eqb}
-use Rattle.transport.specs.Answers.{doneLength}
+use Rattle.transport.specs.Answers.{takeTold}
+use Rattle.refusal.specs.Answers.{valueTold}
 use Rattle.transport.specs.Cutting.{messageFrames}
 use Rattle.transport.specs.Exchange.{answerDue}
 use Rattle.transport.specs.declared.reassembly.Answer.the-variants.{Started, More, Done}
@@ -41,7 +42,7 @@ module _ (n : ℕ) where
   due-last i l h k = rw (eq-eqb (suc i + 1) (messageFrames n) (omega (arith, frames-more n l)))
 
   -- the length is told at the last frame, and at no other
-  pub due-length : (k : ℕ) → doneLength (answerDue n k) ≡ cond (eqb (k + 1) (messageFrames n)) n 0
+  pub due-length : (k : ℕ) → valueTold (takeTold (answerDue n k)) ≡ cond (eqb (k + 1) (messageFrames n)) n 0
   unfolding answerDue
   due-length k =
       whether (eqb (k + 1) (messageFrames n)) (λ t. rw t)

@@ -7,7 +7,8 @@ use native.Mathlib.Omega.{arith}
 use borrow.Author.Tests.{leb-true, ne-eqb}
 use lib.Dec.{leb, eqb}
 use lib.ListN.{length, drop}
-use Rattle.transport.specs.Answers.{doneLength}
+use Rattle.transport.specs.Answers.{takeTold}
+use Rattle.refusal.specs.Answers.{valueTold}
 use Rattle.transport.specs.Cutting.{isLength, longest, messageFrames, messageFrame}
 use Rattle.transport.specs.Reassembly.{fits, listens}
 use Rattle.transport.specs.Exchange.{Between, answerTo, afterFrames, answerDue}
@@ -78,7 +79,7 @@ module _
 
   -- the length is told at the last frame, and at no other
   pub length-told : (k : ℕ) → k < messageFrames (length m)
-      → doneLength (answerTo (afterFrames nad m x k) (messageFrame nad m k)) ≡ cond (eqb (k + 1) (messageFrames (length m))) (length m) 0
+      → valueTold (takeTold (answerTo (afterFrames nad m x k) (messageFrame nad m k))) ≡ cond (eqb (k + 1) (messageFrames (length m))) (length m) 0
   length-told k h = rw (answers-due k h) (due-length (length m) k)
 
   all-frames : afterFrames nad m x (messageFrames (length m)) ≡ complete m (x .buffer)

@@ -1,5 +1,7 @@
--- The answers in the paper's terms: the refusal number of each case, and the value that it gives.
+-- The answers in the paper's terms: of each case the refusal number, 0 where it refuses nothing, the place and the values.
 use Prim.Native.Nat.{ℕ}
+use mathlib.Core.List.{[], _∷_}
+use Rattle.refusal.specs.Answers.{Told, gives, refuses}
 use Rattle.refusal.specs.Numbers.{refused}
 use Rattle.transport.specs.declared.cutting.Counted.{Counted}
 use Rattle.transport.specs.declared.cutting.Counted.the-variants as counted
@@ -8,39 +10,25 @@ use Rattle.transport.specs.declared.cutting.Answer.the-variants as cut
 use Rattle.transport.specs.declared.reassembly.Answer as reassembly
 use Rattle.transport.specs.declared.reassembly.Answer.the-variants as taken
 
--- the refusal number that is answered for a length, and 0 where none is
-abbrev pub countRefusal : Counted → ℕ
-countRefusal (counted.Frames n) = 0
-countRefusal (counted.Refused r) = r .number
+-- what is told of a length: its number of frames
+abbrev pub countTold : Counted → Told
+countTold (counted.Frames n) = gives (n ∷ [])
+countTold (counted.Refused r) = refuses r
 
--- the number of frames that is answered for a length, and 0 where it is refused
-abbrev pub frameNumber : Counted → ℕ
-frameNumber (counted.Frames n) = n
-frameNumber (counted.Refused r) = 0
+-- of a frame's number; the frame's bytes stand beside the answer
+abbrev pub cutTold : cutting.Answer → Told
+cutTold cut.Frame = gives []
+cutTold cut.Missing = gives []
+cutTold (cut.Refused r) = refuses r
 
--- the refusal number that is answered for a frame's number, and 0 where none is
-abbrev pub cutRefusal : cutting.Answer → ℕ
-cutRefusal cut.Frame = 0
-cutRefusal cut.Missing = 0
-cutRefusal (cut.Refused r) = r .number
-
--- the refusal number that the reassembler answers, and 0 where none is
-abbrev pub takeRefusal : reassembly.Answer → ℕ
-takeRefusal taken.Ignored = 0
-takeRefusal taken.Started = 0
-takeRefusal taken.More = 0
-takeRefusal (taken.Done n) = 0
-takeRefusal taken.Broken = 0
-takeRefusal (taken.Refused r) = r .number
-
--- the length that done tells, and 0 where the message is not done
-abbrev pub doneLength : reassembly.Answer → ℕ
-doneLength taken.Ignored = 0
-doneLength taken.Started = 0
-doneLength taken.More = 0
-doneLength (taken.Done n) = n
-doneLength taken.Broken = 0
-doneLength (taken.Refused r) = 0
+-- of a frame that the reassembler takes: "done with the length"
+abbrev pub takeTold : reassembly.Answer → Told
+takeTold taken.Ignored = gives []
+takeTold taken.Started = gives []
+takeTold taken.More = gives []
+takeTold (taken.Done n) = gives (n ∷ [])
+takeTold taken.Broken = gives []
+takeTold (taken.Refused r) = refuses r
 
 -- the answers that refuse with a number and no place
 abbrev pub countRefused : ℕ → Counted

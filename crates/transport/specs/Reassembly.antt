@@ -2,11 +2,12 @@
 use Prim.Native.Nat.{ℕ, _+_, _-_, _*_, _/_, _%_, min}
 use mathlib.Core.Path.{_≡_}
 use mathlib.Core.Bool.{Bool, true, false, cond, not, _&&_, _||_}
-use mathlib.Core.List.{List, [], _++_}
+use mathlib.Core.List.{List, [], _∷_, _++_}
 use lib.Dec.{leb, ltb, eqb}
 use lib.ListN.{length, getD, take, drop}
 use Rattle.refusal.specs.Numbers.{buffer, state, frame}
-use Rattle.transport.specs.Answers.{takeRefused}
+use Rattle.refusal.specs.Answers.{Test, test}
+use Rattle.transport.specs.Answers.{takeRefused, takeTold}
 use Rattle.transport.specs.Cutting.{longest}
 use Rattle.transport.specs.declared.reassembly.Assembly.{Assembly}
 use Rattle.transport.specs.declared.reassembly.Reassembly.{Reassembly}
@@ -180,3 +181,14 @@ step s f b =
 pub record Leaves (st : Step) (b : List ℕ) (r : Taken) (after : List ℕ) : Type 0 where
   pub handed : r ≡ st .taken
   pub left : after ≡ written b (st .place) (st .bytes)
+
+-- ---- the tests of the paper's table
+
+-- 2 "a next frame that would be taken .. meets a buffer shorter than its open message"; 3 an open reassembly that does not fit; 11 "a frame for the
+-- reassembler not of eight bytes"
+abbrev pub takeTests : Reassembly → List ℕ → List ℕ → List Test
+takeTests s f b = test 2 (not (tooShort s f b)) ∷ test 3 (fits s) ∷ test 11 (eqb (length f) 8) ∷ []
+
+-- what is told of a frame that is not refused
+abbrev pub takeValues : Reassembly → List ℕ → List ℕ → List ℕ
+takeValues s f b = takeTold (step s f b .taken .answer) .values

@@ -2,10 +2,12 @@
 use crate::reassembly::Assembly;
 use refusal::Refusal;
 ghost use mathlib.Core.Path.{_≡_};
-ghost use mathlib.Core.List.{_∷_};
+ghost use mathlib.Core.List.{[], _∷_};
+ghost use Rattle.refusal.specs.Answers.{test, firstFailing};
+ghost use Rattle.transport.specs.Answers.{countTold, cutTold};
 ghost use Prim.Native.Nat.{_≤_};
 ghost use lib.ListN.{length, getD};
-ghost use Rattle.transport.specs.Cutting.{longest, countOf, cutOf, withoutFrame, messageFrames};
+ghost use Rattle.transport.specs.Cutting.{longest, isLength, countOf, cutOf, withoutFrame, messageFrames};
 ghost use Rattle.transport.specs.Cutting.{messageFrame, singleFrame, firstFrame, nextFrame, dataBytes};
 
 // What is answered for a length: the number of frames, or refusal 9.
@@ -30,6 +32,7 @@ pub struct Cut {
 // The number of frames that a message of a length takes.
 pub fn count(length: usize) -> Counted
     ensures { λ r. ⌜ r ≡ countOf length ⌝ }
+    ensures told { λ r. ⌜ countTold r ≡ firstFailing (test 9 (isLength length) ∷ []) (messageFrames length ∷ []) ⌝ }
 {
     if 1 <= length && length <= Assembly::LONGEST as usize {
         Counted::Frames(frames(length))
@@ -41,6 +44,7 @@ pub fn count(length: usize) -> Counted
 // Frame k of a message, counted from 0.
 pub fn frame(nad: u8, message: &[u8], k: u16) -> Cut
     ensures { λ r. ⌜ r ≡ cutOf nad (now (message .entry)) k ⌝ }
+    ensures told { λ r. ⌜ cutTold (r .answer) ≡ firstFailing (test 9 (isLength (length (now (message .entry)))) ∷ []) [] ⌝ }
 {
     match count(message.len()) {
         Counted::Refused(refusal) => without_frame(Answer::Refused(refusal)),

@@ -5,8 +5,9 @@ ghost use mathlib.Core.Path.{_≡_};
 ghost use Prim.Native.Nat.{_+_, _%_, _≤_};
 ghost use lib.ListN.{length, take, drop};
 ghost use Rattle.transport.specs.Parts.{kindOutcome, nextOutcome, messageOutcome};
-ghost use Rattle.transport.specs.Answers.{takeRefused};
-ghost use Rattle.transport.specs.Reassembly.{Leaves, written, stepTo, step, fits, assemblyFits, listens};
+ghost use Rattle.transport.specs.Answers.{takeRefused, takeTold};
+ghost use Rattle.refusal.specs.Answers.{firstFailing};
+ghost use Rattle.transport.specs.Reassembly.{Leaves, written, stepTo, step, fits, assemblyFits, listens, takeTests, takeValues};
 ghost use Rattle.transport.specs.Reassembly.{frameNad, framePci, bytesDue, reached, single, first};
 
 // An open message: its NAD, its length, the bytes that are there, and the counter due.
@@ -119,6 +120,7 @@ impl Reassembly {
     // Takes a frame: the bytes that it delivers go into the buffer, directly behind those before them.
     pub fn take(self, frame: &[u8], buffer: &mut [u8]) -> Taken
         ensures { λ r. ⌜ Leaves (step self (now (frame .entry)) (now (buffer .entry))) (now (buffer .entry)) r (now (buffer .exit)) ⌝ }
+        ensures told { λ r. ⌜ takeTold (r .answer) ≡ firstFailing (takeTests self (now (frame .entry)) (now (buffer .entry))) (takeValues self (now (frame .entry)) (now (buffer .entry))) ⌝ }
     {
         if !self.fits() {
             return self.refused(Refusal::STATE);

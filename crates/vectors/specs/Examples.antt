@@ -4,14 +4,15 @@ use mathlib.Core.Bool.{Bool, true, false, _&&_}
 use mathlib.Core.List.{List, [], _∷_}
 use lib.Dec.{eqb}
 use lib.ListN.{length}
-use Rattle.wire.specs.Answer.{refusalOf, valueOf}
+use Rattle.wire.specs.Answers.{told}
+use Rattle.refusal.specs.Answers.{valueTold}
 use Rattle.wire.specs.Checksum.{checksumOf}
 use Rattle.wire.specs.Identifier.{protectedOf}
 use Rattle.wire.specs.declared.Answer.{Answer}
 use Rattle.wire.specs.declared.checksum.Model.{Model}
 use Rattle.wire.specs.declared.checksum.Model.the-variants.{Classic, Enhanced}
 use Rattle.signal.specs.Signal.{putScalar}
-use Rattle.transport.specs.Answers.{frameNumber, cutRefusal}
+use Rattle.transport.specs.Answers.{countTold, cutTold}
 use Rattle.transport.specs.Cutting.{countOf, cutOf}
 
 -- an example of one kind or another
@@ -27,7 +28,7 @@ pub data Example : Type 0 where
 
 -- the byte is answered, and nothing is refused
 abbrev pub gives : Answer → ℕ → Bool
-gives answer byte = eqb (refusalOf answer) 0 && eqb (valueOf answer) byte
+gives answer byte = eqb (told answer .number) 0 && eqb (valueTold (told answer)) byte
 
 abbrev pub sameBytes : List ℕ → List ℕ → Bool
 sameBytes [] [] = true
@@ -43,14 +44,14 @@ filled (x ∷ xs) = 255 ∷ filled xs
 -- the frames of a message from frame k on are answered, and nothing is refused
 abbrev pub sameFrames : ℕ → List ℕ → ℕ → List (List ℕ) → Bool
 sameFrames nad m k [] = true
-sameFrames nad m k (f ∷ fs) = eqb (cutRefusal (cutOf nad m k .answer)) 0 && sameBytes (cutOf nad m k .bytes) f && sameFrames nad m (suc k) fs
+sameFrames nad m k (f ∷ fs) = eqb (cutTold (cutOf nad m k .answer) .number) 0 && sameBytes (cutOf nad m k .bytes) f && sameFrames nad m (suc k) fs
 
 -- the test: what the definitions give is what the example says
 unfoldable pub holds : Example → Bool
 holds (identifier id byte) = gives (protectedOf id) byte
 holds (checksum id wish bytes byte) = gives (checksumOf id wish bytes) byte
 holds (packing width offset value bytes) = sameBytes (putScalar (filled bytes) offset width value) bytes
-holds (cutting nad m fs) = eqb (frameNumber (countOf (length m))) (length fs) && sameFrames nad m 0 fs
+holds (cutting nad m fs) = eqb (valueTold (countTold (countOf (length m)))) (length fs) && sameFrames nad m 0 fs
 
 -- the list
 unfoldable pub examples : List Example

@@ -7,7 +7,7 @@ use native.Mathlib.Omega.{arith}
 use borrow.Author.Tests.{eqb-true, eq-eqb}
 use lib.Dec.{eqb}
 use Rattle.refusal.specs.Numbers.{frame}
-use Rattle.wire.specs.Answer.{refusedWith}
+use Rattle.wire.specs.Answers.{refusedWith}
 use Rattle.wire.specs.Bits.{bit}
 use Rattle.wire.specs.Identifier.{protectedByte, readOf, rightParity, p0, p1}
 use Rattle.wire.specs.declared.Answer.the-variants.{Byte}

@@ -4,8 +4,9 @@ use mathlib.Core.Bool.{cond, _&&_}
 use mathlib.Core.List.{List, [], _∷_}
 use lib.Dec.{ltb, leb}
 use lib.ListN.{length}
+use Rattle.refusal.specs.Answers.{Test, test}
 use Rattle.refusal.specs.Numbers.{frame}
-use Rattle.wire.specs.Answer.{refusedWith}
+use Rattle.wire.specs.Answers.{refusedWith}
 use Rattle.wire.specs.Identifier.{protectedByte}
 use Rattle.wire.specs.declared.Answer.{Answer}
 use Rattle.wire.specs.declared.Answer.the-variants.{Byte}
@@ -44,3 +45,7 @@ checksumOf id wish bs =
     cond (ltb id 64 && leb 1 (length bs) && leb (length bs) 8)
     (Byte (checksumByte id wish bs))
     (refusedWith frame)
+
+-- "identifier above 63 ..; data length 0 or above 8"
+abbrev pub checksumTests : ℕ → ℕ → List Test
+checksumTests id n = test 11 (ltb id 64) ∷ test 11 (leb 1 n) ∷ test 11 (leb n 8) ∷ []

@@ -3,7 +3,7 @@ use Prim.Native.Nat.{ℕ, _+_, _*_, _%_}
 use mathlib.Core.Bool.{Bool, cond, not, xor, _&&_, Bool·beq}
 use lib.Dec.{ltb}
 use Rattle.refusal.specs.Numbers.{frame}
-use Rattle.wire.specs.Answer.{refusedWith}
+use Rattle.wire.specs.Answers.{refusedWith}
 use Rattle.wire.specs.Bits.{bit, digit}
 use Rattle.wire.specs.declared.Answer.{Answer}
 use Rattle.wire.specs.declared.Answer.the-variants.{Byte}

@@ -1,4 +1,4 @@
-pub mod Answer
+pub mod Answers
 pub mod Bits
 pub mod Checksum
 pub mod Identifier

@@ -4,8 +4,11 @@ use crate::identifier::protected_byte;
 use crate::refused;
 ghost use mathlib.Core.Path.{_≡_};
 ghost use Prim.Native.Nat.{_<_};
-ghost use mathlib.Core.List.{[]};
-ghost use Rattle.wire.specs.Checksum.{withCarry, sum, covered, modelOf, checksumOf};
+ghost use lib.ListN.{length};
+ghost use Rattle.wire.specs.Answers.{told};
+ghost use Rattle.refusal.specs.Answers.{firstFailing};
+ghost use mathlib.Core.List.{[], _∷_};
+ghost use Rattle.wire.specs.Checksum.{withCarry, sum, covered, modelOf, checksumByte, checksumOf, checksumTests};
 
 // Which bytes a checksum covers: classic the data alone, enhanced the protected identifier too.
 pub enum Model {
@@ -16,6 +19,7 @@ pub enum Model {
 // The checksum of 1 to 8 data bytes under an identifier; 60 to 63 use classic whatever is wished.
 pub fn of(id: u8, wish: Model, data: &[u8]) -> Answer
     ensures { λ r. ⌜ r ≡ checksumOf id wish (now («data» .entry)) ⌝ }
+    ensures told { λ r. ⌜ told r ≡ firstFailing (checksumTests id (length (now («data» .entry)))) (checksumByte id wish (now («data» .entry)) ∷ []) ⌝ }
 {
     if id < 64 && 1 <= data.len() && data.len() <= 8 {
         Answer::Byte(255 - sum(start(id, wish), data))

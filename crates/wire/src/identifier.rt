@@ -2,12 +2,17 @@
 use crate::Answer;
 use crate::refused;
 ghost use mathlib.Core.Path.{_≡_};
-ghost use Prim.Native.Nat.{_<_};
-ghost use Rattle.wire.specs.Identifier.{protectedByte, protectedOf, readOf};
+ghost use Prim.Native.Nat.{_%_, _<_};
+ghost use lib.Dec.{ltb};
+ghost use Rattle.wire.specs.Answers.{told};
+ghost use Rattle.refusal.specs.Answers.{test, firstFailing};
+ghost use mathlib.Core.List.{[], _∷_};
+ghost use Rattle.wire.specs.Identifier.{protectedByte, protectedOf, rightParity, readOf};
 
 // The protected identifier of an identifier below 64.
 pub fn build(id: u8) -> Answer
     ensures { λ r. ⌜ r ≡ protectedOf id ⌝ }
+    ensures told { λ r. ⌜ told r ≡ firstFailing (test 11 (ltb id 64) ∷ []) (protectedByte id ∷ []) ⌝ }
 {
     if id < 64 {
         Answer::Byte(protected_byte(id))
@@ -19,6 +24,7 @@ pub fn build(id: u8) -> Answer
 // The identifier of a protected identifier with right parity.
 pub fn read(protected: u8) -> Answer
     ensures { λ r. ⌜ r ≡ readOf protected ⌝ }
+    ensures told { λ r. ⌜ told r ≡ firstFailing (test 11 (rightParity protected) ∷ []) (protected % 64 ∷ []) ⌝ }
 {
     let id = protected % 64;
     if protected_byte(id) == protected {

@@ -6,7 +6,7 @@ pub mod identifier;
 
 ghost use mathlib.Core.Path.{_≡_};
 ghost use Rattle.refusal.specs.Numbers.{frame};
-ghost use Rattle.wire.specs.Answer.{refusedWith};
+ghost use Rattle.wire.specs.Answers.{refusedWith};
 
 // What every call of this crate answers: one byte, or the refusal.
 pub enum Answer {

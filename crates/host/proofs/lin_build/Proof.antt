@@ -6,7 +6,7 @@ use Rattle.host.proofs.lin_build.Statement.{statement}
 use Rattle.host.proofs.lin_build.Tie as tie
 
 returns : tie.Need-returns
-returns c = c .coded .ensures ∙ ap coded (c .before .build .ensures)
+returns c = c .coded .ensures ∙ ap coded (c .before .build .ensures .0)
 
 pub lin-build-spec : {M : Type 1} → statement M
 lin-build-spec = tie.close (tie.spec (λ c κs. search needs) (λ c κs. search needs) returns)

@@ -8,11 +8,11 @@ use Rattle.host.proofs.lin_checksum.Tie as tie
 
 returns : tie.Need-returns
 unfolding wishOf
-returns c = simp (eq-eqb _ _ (c .before .before .if1 .taken)) (c .coded .ensures ∙ ap coded (c .before .of .ensures))
+returns c = simp (eq-eqb _ _ (c .before .before .if1 .taken)) (c .coded .ensures ∙ ap coded (c .before .of .ensures .0))
 
 returns-2 : tie.Need-returns-2
 unfolding wishOf
-returns-2 c = simp (ne-eqb _ _ (c .before .before .if1 .left)) (c .coded2 .ensures ∙ ap coded (c .before .of2 .ensures))
+returns-2 c = simp (ne-eqb _ _ (c .before .before .if1 .left)) (c .coded2 .ensures ∙ ap coded (c .before .of2 .ensures .0))
 
 pub lin-checksum-spec : {M : Type 1} → statement M
 lin-checksum-spec =

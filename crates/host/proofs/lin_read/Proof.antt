@@ -6,7 +6,7 @@ use Rattle.host.proofs.lin_read.Statement.{statement}
 use Rattle.host.proofs.lin_read.Tie as tie
 
 returns : tie.Need-returns
-returns c = c .coded .ensures ∙ ap coded (c .before .read .ensures)
+returns c = c .coded .ensures ∙ ap coded (c .before .read .ensures .0)
 
 pub lin-read-spec : {M : Type 1} → statement M
 lin-read-spec = tie.close (tie.spec (λ c κs. search needs) (λ c κs. search needs) returns)

@@ -22,7 +22,7 @@ returns-2 c =
     let h : length (a .rest .now) ≡ a .length + 1 = c .before .before .before .before .before .before .before .if1 .left in
     let l : length (take (a .length) (a .rest .now)) ≡ a .length = length-take-le (a .length) (a .rest .now) (omega arith) in
     let e = summed (a .id) (a .wish) (take (a .length) (a .rest .now)) (c .before .before .before .sum .given .0 .0)
-    (omega arith, omega arith, omega arith) (sym (c .before .before .before .before .before .of .ensures) ∙
+    (omega arith, omega arith, omega arith) (sym (c .before .before .before .before .before .of .ensures .0) ∙
     c .before .before .before .sum .given .1) in
     right-sum _ _ (a .wish) (a .rest .now) _ h e (c .if2 .taken)
 
@@ -32,7 +32,7 @@ returns-3 c =
     let h : length (a .rest .now) ≡ a .length + 1 = c .before .before .before .before .before .before .before .if1 .left in
     let l : length (take (a .length) (a .rest .now)) ≡ a .length = length-take-le (a .length) (a .rest .now) (omega arith) in
     let e = summed (a .id) (a .wish) (take (a .length) (a .rest .now)) (c .before .before .before .sum .given .0 .0)
-    (omega arith, omega arith, omega arith) (sym (c .before .before .before .before .before .of .ensures) ∙
+    (omega arith, omega arith, omega arith) (sym (c .before .before .before .before .before .of .ensures .0) ∙
     c .before .before .before .sum .given .1) in
     other-sum _ _ (a .wish) (a .rest .now) _ h e (c .if2 .left)
 
@@ -42,7 +42,7 @@ returns-4 c =
     let h : length (a .rest .now) ≡ a .length + 1 = c .before .before .before .before .if1 .left in
     let l : length (take (a .length) (a .rest .now)) ≡ a .length = length-take-le (a .length) (a .rest .now) (omega arith) in
     absurd (not-summed (a .id) (a .wish) (take (a .length) (a .rest .now)) (c .enum-told .given .0 .0)
-    (omega arith, omega arith, omega arith) (sym (c .before .before .of .ensures) ∙ c .enum-told .given .1))
+    (omega arith, omega arith, omega arith) (sym (c .before .before .of .ensures .0) ∙ c .enum-told .given .1))
 
 pub of-known-spec : {M : Type 1} → statement M
 of-known-spec =

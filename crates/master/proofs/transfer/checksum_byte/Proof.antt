@@ -9,13 +9,13 @@ returns : tie.Need-returns
 returns c =
     let a = c .before .before .before .before .before .args in
     let asked = c .before .before .before .before .before .pre in
-    summed (a .id) (a .wish) (a .bytes .now) (c .before .byte .given .0 .0) asked (sym (c .before .before .before .of .ensures) ∙ c .before .byte .given .1)
+    summed (a .id) (a .wish) (a .bytes .now) (c .before .byte .given .0 .0) asked (sym (c .before .before .before .of .ensures .0) ∙ c .before .byte .given .1)
 
 returns-2 : tie.Need-returns-2
 returns-2 c =
     let a = c .before .before .before .before .before .args in
     let asked = c .before .before .before .before .before .pre in
-    absurd (not-summed (a .id) (a .wish) (a .bytes .now) (c .before .refusal .given .0 .0) asked (sym (c .before .before .before .of .ensures) ∙ c .before .refusal .given .1))
+    absurd (not-summed (a .id) (a .wish) (a .bytes .now) (c .before .refusal .given .0 .0) asked (sym (c .before .before .before .of .ensures .0) ∙ c .before .refusal .given .1))
 
 pub checksum-byte-spec : {M : Type 1} → statement M
 checksum-byte-spec =

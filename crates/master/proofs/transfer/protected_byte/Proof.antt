@@ -7,11 +7,11 @@ use Rattle.master.proofs.transfer.protected_byte.Tie as tie
 
 returns : tie.Need-returns
 returns c = built (c .before .before .before .before .args .id) (c .before .byte .given .0 .0)
-    (c .before .before .before .before .pre) (sym (c .before .before .before .build .ensures) ∙ c .before .byte .given .1)
+    (c .before .before .before .before .pre) (sym (c .before .before .before .build .ensures .0) ∙ c .before .byte .given .1)
 
 returns-2 : tie.Need-returns-2
 returns-2 c = absurd (not-refused (c .before .before .before .before .args .id) (c .before .refusal .given .0 .0)
-    (c .before .before .before .before .pre) (sym (c .before .before .before .build .ensures) ∙ c .before .refusal .given .1))
+    (c .before .before .before .before .pre) (sym (c .before .before .before .build .ensures .0) ∙ c .before .refusal .given .1))
 
 pub protected-byte-spec : {M : Type 1} → statement M
 protected-byte-spec =

@@ -3,26 +3,27 @@
 use mathlib.Core.Path.{sym, _∙_}
 use Rattle.transport.proofs.Counting.{counted-high, cut-refused, cut-frame, cut-missing}
 use borrow.Author.Needs.{needs}
+use Rattle.transport.proofs.AnswerLaws.{cut-told}
 use Rattle.transport.proofs.cutting.frame.Statement.{statement}
 use Rattle.transport.proofs.cutting.frame.Tie as tie
 
 frame-bytes-requires : tie.Need-frame-bytes-requires
-frame-bytes-requires c κs = counted-high _ _ (sym (c .before .before .before .before .count .ensures) ∙ c .before .before .frames .given .1)
+frame-bytes-requires c κs = counted-high _ _ (sym (c .before .before .before .before .count .ensures .0) ∙ c .before .before .frames .given .1)
 
 returns : tie.Need-returns
-returns c = c .without-frame .ensures ∙ sym (cut-refused _ _ _ _ (sym (c .before .before .before .before .count .ensures) ∙ c .before .before .refusal .given .1))
+returns c = cut-told _ _ _ _ (c .without-frame .ensures ∙ sym (cut-refused _ _ _ _ (sym (c .before .before .before .before .count .ensures .0) ∙ c .before .before .refusal .given .1)))
 
 returns-2 : tie.Need-returns-2
 returns-2 c =
     let d = c .before .before .before in
-    let counted = sym (d .before .before .count .ensures) ∙ d .frames .given .1 in
-    rw (c .frame-bytes .ensures) (sym (cut-frame _ _ _ _ counted (c .before .if1 .taken)))
+    let counted = sym (d .before .before .count .ensures .0) ∙ d .frames .given .1 in
+    cut-told _ _ _ _ (rw (c .frame-bytes .ensures) (sym (cut-frame _ _ _ _ counted (c .before .if1 .taken))))
 
 returns-3 : tie.Need-returns-3
 returns-3 c =
     let d = c .before .before .before in
-    let counted = sym (d .before .before .count .ensures) ∙ d .frames .given .1 in
-    c .without-frame2 .ensures ∙ sym (cut-missing _ _ _ _ counted (c .before .if1 .left))
+    let counted = sym (d .before .before .count .ensures .0) ∙ d .frames .given .1 in
+    cut-told _ _ _ _ (c .without-frame2 .ensures ∙ sym (cut-missing _ _ _ _ counted (c .before .if1 .left)))
 
 pub frame-spec : {M : Type 1} → statement M
 frame-spec =
