@@ -2,6 +2,7 @@ pub mod Accepted
 pub mod Any
 pub mod BitMarks
 pub mod Clauses
+pub mod ColumnsExactly
 pub mod Counting
 pub mod CountingUp
 pub mod DisjointSignals
@@ -16,6 +17,7 @@ pub mod FrameTurn
 pub mod FreshLaws
 pub mod HeaderLaws
 pub mod HeaderTurn
+pub mod InWords
 pub mod ListLaws
 pub mod ListWalk
 pub mod Local
@@ -37,3 +39,5 @@ pub mod UsedMarks
 pub mod ValueLaws
 pub mod ValueSteps
 pub mod Widths
+pub mod WordTests
+pub mod WordsExactly
