@@ -27,6 +27,7 @@ pub mod MemberTurn
 pub mod NextEntry
 pub mod Occupied
 pub mod PlaceLaws
+pub mod RightExactly
 pub mod Scan
 pub mod ScheduleLaws
 pub mod Searching

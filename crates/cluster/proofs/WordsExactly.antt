@@ -44,45 +44,45 @@ module _ (t : List ℕ) (d : Bool) where
 
   -- ---- the header
 
-  frames-word : (p : ℕ) → p ≡ 0 → Test p ↔ (F t ≤ 60)
+  pub frames-word : (p : ℕ) → p ≡ 0 → Test p ↔ (F t ≤ 60)
   unfolding headerRight headerColumns frameCount word
   frames-word p e = by-test (rw e (header-test d t 0 (omega arith))) (le-exactly (F t) 60)
 
-  signals-word : (p : ℕ) → p ≡ 1 → Test p ↔ (S t ≤ 256)
+  pub signals-word : (p : ℕ) → p ≡ 1 → Test p ↔ (S t ≤ 256)
   unfolding headerRight headerColumns signalCount word
   signals-word p e = by-test (rw e (header-test d t 1 (omega arith))) (le-exactly (S t) 256)
 
-  members-word : (p : ℕ) → p ≡ 2 → Test p ↔ (M t ≤ 60)
+  pub members-word : (p : ℕ) → p ≡ 2 → Test p ↔ (M t ≤ 60)
   unfolding headerRight headerColumns memberCount word
   members-word p e = by-test (rw e (header-test d t 2 (omega arith))) (le-exactly (M t) 60)
 
-  entries-word : (p : ℕ) → p ≡ 3 → Test p ↔ (E t ≤ 256)
+  pub entries-word : (p : ℕ) → p ≡ 3 → Test p ↔ (E t ≤ 256)
   unfolding headerRight headerColumns entryCount word
   entries-word p e = by-test (rw e (header-test d t 3 (omega arith))) (le-exactly (E t) 256)
 
   -- ---- a frame
 
   module _ (f : ℕ) (h : f < F t) where
-    identifier-word : (p : ℕ) → p ≡ 4 + 3 * f → Test p ↔ ((identifierWord t f ≤ 59) × NotEarlier (identifierWord t) f)
+    pub identifier-word : (p : ℕ) → p ≡ 4 + 3 * f → Test p ↔ ((identifierWord t f ≤ 59) × NotEarlier (identifierWord t) f)
     unfolding frameRight frameColumns frameCount identifier word
     identifier-word p e = by-test (frame-test d t f 0 p h (omega arith) (omega arith)) (identifier-exactly (identifierWord t) f)
 
-    length-word : (p : ℕ) → p ≡ 4 + 3 * f + 1 → Test p ↔ ((1 ≤ lengthWord t f) × (lengthWord t f ≤ 8))
+    pub length-word : (p : ℕ) → p ≡ 4 + 3 * f + 1 → Test p ↔ ((1 ≤ lengthWord t f) × (lengthWord t f ≤ 8))
     unfolding frameRight frameColumns frameCount frameLength word
     length-word p e = by-test (frame-test d t f 1 p h (omega arith) e) (within-exactly 1 8 (lengthWord t f))
 
-    flags-word : (p : ℕ) → p ≡ 4 + 3 * f + 2 → Test p ↔ (flagsWord t f ≤ 3)
+    pub flags-word : (p : ℕ) → p ≡ 4 + 3 * f + 2 → Test p ↔ (flagsWord t f ≤ 3)
     unfolding frameRight frameColumns frameCount flags word
     flags-word p e = by-test (frame-test d t f 2 p h (omega arith) e) (le-exactly (flagsWord t f) 3)
 
   -- ---- a signal
 
   module _ (s : ℕ) (h : s < S t) where
-    frame-word : (p : ℕ) → p ≡ 4 + 3 * F t + 5 * s → Test p ↔ (frameWord t s < F t)
+    pub frame-word : (p : ℕ) → p ≡ 4 + 3 * F t + 5 * s → Test p ↔ (frameWord t s < F t)
     unfolding signalRight signalColumns frameCount signalCount signalFrame word
     frame-word p e = by-test (signal-test d t s 0 p h (omega arith) (omega arith)) (lt-exactly (frameWord t s) (F t))
 
-    kind-word : (p : ℕ) → p ≡ 4 + 3 * F t + 5 * s + 1 → Test p ↔ (kindWord t s ≤ 1)
+    pub kind-word : (p : ℕ) → p ≡ 4 + 3 * F t + 5 * s + 1 → Test p ↔ (kindWord t s ≤ 1)
     unfolding signalRight signalColumns frameCount signalCount signalKind word
     kind-word p e = by-test (signal-test d t s 1 p h (omega arith) e) (le-exactly (kindWord t s) 1)
 
@@ -90,13 +90,13 @@ module _ (t : List ℕ) (d : Bool) where
       kind-right : 4 + 3 * F t + 5 * s + 1 < p → kindWord t s ≤ 1
       kind-right b = before (4 + 3 * F t + 5 * s + 1) b .kind s h refl
 
-      offset-word : p ≡ 4 + 3 * F t + 5 * s + 2 → Test p ↔ OffsetSays t s
+      pub offset-word : p ≡ 4 + 3 * F t + 5 * s + 2 → Test p ↔ OffsetSays t s
       unfolding signalRight signalColumns frameCount signalCount frameLength signalFrame signalKind signalOffset word
       offset-word e =
           by-test (signal-test d t s 2 p h (omega arith) e)
           (offset-exactly (kindWord t s) (8 * lengthWord t (frameWord t s)) (offsetWord t s) (kind-right (omega arith)))
 
-      start-word : p ≡ 4 + 3 * F t + 5 * s + 4 → Test p ↔ StartSays t s
+      pub start-word : p ≡ 4 + 3 * F t + 5 * s + 4 → Test p ↔ StartSays t s
       unfolding signalRight signalColumns frameCount signalCount signalKind signalWidth signalStart word
       start-word e =
           by-test (signal-test d t s 4 p h (omega arith) e)
@@ -145,7 +145,7 @@ module _ (t : List ℕ) (d : Bool) where
               let same : frameWord t r ≡ frameWord t s = omega arith in
               free r (j - 64 * frameWord t s) (found .1) (same, omega arith, omega arith, omega arith, omega arith)
 
-      width-word : 4 + 3 * F t + 5 * s + 3 ≡ p → Test p ↔ WidthSays t s
+      pub width-word : 4 + 3 * F t + 5 * s + 3 ≡ p → Test p ↔ WidthSays t s
       unfolding signalRight signalColumns frameCount signalCount frameLength signalFrame signalKind signalOffset signalWidth word
       width-word e =
           let kind = eqb (kindWord t s) 1 in
@@ -164,7 +164,7 @@ module _ (t : List ℕ) (d : Bool) where
   -- ---- a member
 
   module _ (m : ℕ) (h : m < M t) where
-    list-word : (p : ℕ) → p ≡ 4 + 3 * F t + 5 * S t + 2 * m → Test p ↔ CountsOn (listWord t) m
+    pub list-word : (p : ℕ) → p ≡ 4 + 3 * F t + 5 * S t + 2 * m → Test p ↔ CountsOn (listWord t) m
     unfolding memberRight memberColumns frameCount signalCount memberCount memberList word
     list-word p e = by-test (member-test d t m 0 p h (omega arith) (omega arith)) (counts-exactly (listWord t) m)
 
@@ -172,7 +172,7 @@ module _ (t : List ℕ) (d : Bool) where
     unfolding published flags word
     published-exactly f = by-test (bit-zero (flagsWord t f)) (eq-exactly (flagsWord t f % 2) 1)
 
-    member-word : (p : ℕ) → p ≡ 4 + 3 * F t + 5 * S t + 2 * m + 1 → Test p ↔ MemberSays t m
+    pub member-word : (p : ℕ) → p ≡ 4 + 3 * F t + 5 * S t + 2 * m + 1 → Test p ↔ MemberSays t m
     unfolding memberRight memberColumns frameCount signalCount memberCount memberFrame word
     member-word p e =
         let f = memberWord t m in
@@ -186,15 +186,15 @@ module _ (t : List ℕ) (d : Bool) where
   -- ---- an entry
 
   module _ (e : ℕ) (h : e < E t) where
-    schedule-word : (p : ℕ) → p ≡ 4 + 3 * F t + 5 * S t + 2 * M t + 4 * e → Test p ↔ CountsOn (scheduleWord t) e
+    pub schedule-word : (p : ℕ) → p ≡ 4 + 3 * F t + 5 * S t + 2 * M t + 4 * e → Test p ↔ CountsOn (scheduleWord t) e
     unfolding entryRight entryColumns frameCount signalCount memberCount entryCount entrySchedule word
     schedule-word p q = by-test (entry-test d t e 0 p h (omega arith) (omega arith)) (counts-exactly (scheduleWord t) e)
 
-    entry-kind-word : (p : ℕ) → p ≡ 4 + 3 * F t + 5 * S t + 2 * M t + 4 * e + 1 → Test p ↔ (entryKindWord t e ≤ 3)
+    pub entry-kind-word : (p : ℕ) → p ≡ 4 + 3 * F t + 5 * S t + 2 * M t + 4 * e + 1 → Test p ↔ (entryKindWord t e ≤ 3)
     unfolding entryRight entryColumns frameCount signalCount memberCount entryCount entryKind word
     entry-kind-word p q = by-test (entry-test d t e 1 p h (omega arith) q) (le-exactly (entryKindWord t e) 3)
 
-    delay-word : (p : ℕ) → p ≡ 4 + 3 * F t + 5 * S t + 2 * M t + 4 * e + 3
+    pub delay-word : (p : ℕ) → p ≡ 4 + 3 * F t + 5 * S t + 2 * M t + 4 * e + 3
         → Test p ↔ ((1 ≤ delayWord t e) × (delayWord t e ≤ 65535))
     unfolding entryRight entryColumns frameCount signalCount memberCount entryCount entryDelay word
     delay-word p q = by-test (entry-test d t e 3 p h (omega arith) q) (within-exactly 1 65535 (delayWord t e))
@@ -213,7 +213,7 @@ module _ (t : List ℕ) (d : Bool) where
       unfolding memberCount memberList frameCount signalCount word
       lists-right m b = counts-exactly (listWord t) m .1 (before (4 + 3 * F t + 5 * S t + 2 * m) (omega arith) .list m b refl)
 
-      target-word : Test p ↔ TargetSays t e
+      pub target-word : Test p ↔ TargetSays t e
       unfolding entryRight entryColumns frameCount signalCount memberCount memberList entryCount entryKind entryTarget word
       target-word =
           let kind = before (4 + 3 * F t + 5 * S t + 2 * M t + 4 * e + 1) (omega arith) .entry-kind e h refl in
