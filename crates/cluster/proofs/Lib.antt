@@ -9,6 +9,7 @@ pub mod DisjointSignals
 pub mod Earlier
 pub mod EntryLaws
 pub mod EntryTurn
+pub mod FieldLaws
 pub mod FieldMask
 pub mod Filling
 pub mod FirstFault

@@ -22,6 +22,7 @@ use Rattle.cluster.proofs.Any.{none-below, any-found, any-at, any-none}
 use Rattle.cluster.proofs.ColumnsExactly.{le-exactly, lt-exactly, eq-exactly, and-true, and-exactly, within-exactly, new-exactly, counts-exactly}
 use Rattle.cluster.proofs.ColumnsExactly.{identifier-exactly, offset-exactly, width-exactly, start-exactly, target-exactly}
 use Rattle.cluster.proofs.CountingUp.{CountsUp, up-below, up-each}
+use Rattle.cluster.proofs.FieldLaws.{published-exactly}
 use Rattle.cluster.proofs.InWords.{F, S, M, E, wordsDue, identifierWord, lengthWord, flagsWord}
 use Rattle.cluster.proofs.InWords.{frameWord, kindWord, offsetWord, widthWord, startWord, listWord, memberWord}
 use Rattle.cluster.proofs.InWords.{scheduleWord, entryKindWord, targetWord, delayWord}
@@ -168,16 +169,12 @@ module _ (t : List ℕ) (d : Bool) where
     unfolding memberRight memberColumns frameCount signalCount memberCount memberList word
     list-word p e = by-test (member-test d t m 0 p h (omega arith) (omega arith)) (counts-exactly (listWord t) m)
 
-    published-exactly : (f : ℕ) → (published t f ≡ true) ↔ (flagsWord t f % 2 ≡ 1)
-    unfolding published flags word
-    published-exactly f = by-test (bit-zero (flagsWord t f)) (eq-exactly (flagsWord t f % 2) 1)
-
     pub member-word : (p : ℕ) → p ≡ 4 + 3 * F t + 5 * S t + 2 * m + 1 → Test p ↔ MemberSays t m
     unfolding memberRight memberColumns frameCount signalCount memberCount memberFrame word
     member-word p e =
         let f = memberWord t m in
         let inside = ltb f (F t) in
-        let known = and-exactly inside (published t f) (lt-exactly f (F t)) (published-exactly f) in
+        let known = and-exactly inside (published t f) (lt-exactly f (F t)) (published-exactly t f) in
         let new = not (earlier (memberWord t) m) in
         let all = and-exactly (inside && published t f) new known (new-exactly (memberWord t) m) in
         by-test (member-test d t m 1 p h (omega arith) e)
