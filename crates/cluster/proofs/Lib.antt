@@ -40,6 +40,7 @@ pub mod TakenLaws
 pub mod UsedMarks
 pub mod ValueLaws
 pub mod ValueSteps
+pub mod ValuesExactly
 pub mod Widths
 pub mod WordTests
 pub mod WordsExactly
