@@ -27,6 +27,7 @@ pub mod MemberOf
 pub mod MemberTurn
 pub mod NextEntry
 pub mod Occupied
+pub mod OrderExactly
 pub mod PlaceLaws
 pub mod RightExactly
 pub mod Scan
