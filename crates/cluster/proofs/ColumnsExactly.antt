@@ -1,8 +1,8 @@
 -- Each column over plain numbers: its clause is true exactly where the paper's sentence holds.
-use Prim.Native.Nat.{ℕ, zero, suc, _+_, _*_, _%_, _^_, _≤_, _<_}
+use Prim.Native.Nat.{ℕ, zero, suc, _+_, _%_, _^_, _≤_, _<_}
 use mathlib.Core.Path.{_≡_, refl, sym, _∙_}
 use mathlib.Core.Bool.{Bool, true, false, not, _&&_}
-use mathlib.Core.Logic.{_↔_, _⊎_, inl, inr, ⊎-elim, _≢_}
+use mathlib.Core.Logic.{_↔_, _⊎_, inl, inr, ⊎-elim}
 use native.Mathlib.Numerals.{add-one}
 use native.Mathlib.Omega.{arith}
 use borrow.Author.Tests.{ltb-true, lt-ltb, leb-true, le-leb, eqb-true, eqb-false, eq-eqb, ne-eqb, not-true}
@@ -81,7 +81,7 @@ identifier-exactly number f =
 pub offset-exactly : (kind bits offset : ℕ) → kind ≤ 1
     → (offsetRight (eqb kind 1) bits offset ≡ true) ↔ ((offset < bits) × (kind ≡ 1 → offset % 8 ≡ 0))
 unfolding offsetRight
-offset-exactly zero bits offset h = 
+offset-exactly zero bits offset h =
     and-exactly (ltb offset bits) true (lt-exactly offset bits) ((λ _ e. absurd (omega arith)), λ _. refl)
 offset-exactly (suc zero) bits offset h =
     and-exactly (ltb offset bits) (eqb (offset % 8) 0) (lt-exactly offset bits)

@@ -1,14 +1,13 @@
 -- Every field by its name is the word at its place, and what the flags, the kinds and the tests on a signal say of those words.
-use Prim.Native.Nat.{ℕ, suc, _+_, _*_, _/_, _%_, _^_, _<_}
-use mathlib.Core.Path.{_≡_, refl, sym, _∙_, ap}
-use mathlib.Core.Bool.{Bool, true, false}
+use Prim.Native.Nat.{ℕ, _+_, _*_, _/_, _%_, _^_, _<_}
+use mathlib.Core.Path.{_≡_, refl, sym, _∙_}
+use mathlib.Core.Bool.{true, false}
 use mathlib.Core.List.{List}
 use mathlib.Core.Logic.{_↔_}
 use native.Mathlib.Omega.{arith}
-use borrow.Author.Tests.{ltb-true, lt-ltb, eqb-true, eqb-false, eq-eqb, ne-eqb}
+use borrow.Author.Tests.{eqb-true, eqb-false, ne-eqb}
 use lib.Dec.{eqb}
 use lib.ListN.{length, getD}
-use Rattle.wire.specs.Bits.{bit}
 use Rattle.wire.specs.declared.checksum.Model.the-variants.{Classic, Enhanced}
 use Rattle.wire.proofs.Tests.{whether}
 use Rattle.signal.proofs.Numbers.{bit-zero, bit-suc}
@@ -48,7 +47,7 @@ pub record Fields (t : List ℕ) : Type 0 where
 
 pub fields-exactly : (t : List ℕ) → Fields t
 unfolding word frameCount signalCount memberCount entryCount identifier frameLength flags signalFrame signalKind signalOffset signalWidth signalStart
-          memberList memberFrame entrySchedule entryKind entryTarget entryDelay
+    memberList memberFrame entrySchedule entryKind entryTarget entryDelay
 fields-exactly t = record {
   frames = refl;
   signals = refl;

@@ -1,19 +1,19 @@
 -- What comes first and what comes next, in the order of the records: the entries of a schedule and the members of a list.
-use Prim.Native.Nat.{ℕ, zero, suc, _+_, _-_, _*_, _≤_, _<_}
+use Prim.Native.Nat.{ℕ, zero, suc, _+_, _-_, _≤_, _<_}
 use mathlib.Core.Path.{_≡_, refl, sym, _∙_, ap}
-use mathlib.Core.Bool.{Bool, true, false, true≢false}
+use mathlib.Core.Bool.{Bool, true}
 use mathlib.Core.List.{List, _∷_}
 use mathlib.Core.Logic.{_↔_, _≢_, _⊎_, inl, inr, ⊎-elim}
 use native.Mathlib.Decide.{ℕ-discrete}
 use native.Mathlib.Numerals.{add-one}
 use native.Mathlib.Omega.{arith}
-use borrow.Author.Tests.{eqb-true, eqb-false, eq-eqb, ne-eqb}
+use borrow.Author.Tests.{eqb-true, eqb-false, eq-eqb}
 use lib.Dec.{eqb}
 use lib.ListN.{length, getD}
 use Rattle.signal.proofs.Inside.{order}
 use Rattle.cluster.specs.Lists.{firstFrom, firstEntry, nextEntry, membersFrom, members, nextMember}
 use Rattle.cluster.specs.Table.{word, frameCount, signalCount, memberCount, memberList, memberFrame, entryCount, entrySchedule}
-use Rattle.cluster.proofs.InWords.{F, S, M, E, listWord, memberWord, scheduleWord}
+use Rattle.cluster.proofs.InWords.{M, E, listWord, memberWord, scheduleWord}
 use Rattle.cluster.proofs.ListLaws.{Each, each}
 use Rattle.cluster.proofs.ListWalk.{turn-in, turn-out}
 use Rattle.cluster.proofs.NextEntry.{next-behind, next-first}
@@ -87,8 +87,8 @@ module _ (t : List ℕ) where
           let low = first-entry-least t (scheduleWord t e) e refl in (
             (λ h. inr (n, first-entry-exactly (scheduleWord t e) d (omega arith) .0 (sym next ∙ h))),
             ⊎-elim
-            (λ w. absurd (n (w .0) (w .1)))
-            (λ w. next ∙ first-entry-exactly (scheduleWord t e) d (w .1 .0) .1 (w .1)),
+                (λ w. absurd (n (w .0) (w .1)))
+                (λ w. next ∙ first-entry-exactly (scheduleWord t e) d (w .1 .0) .1 (w .1)),
           )
 
   -- ---- the members of a list

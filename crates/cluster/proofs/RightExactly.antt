@@ -9,9 +9,8 @@ use native.Mathlib.Decide.{ℕ-discrete}
 use native.Mathlib.Omega.{arith}
 use lib.ListN.{length, getD}
 use Rattle.refusal.specs.declared.Refusal.{Refusal}
-use Rattle.wire.proofs.Tests.{whether}
 use Rattle.signal.proofs.Inside.{order}
-use Rattle.cluster.specs.Check.{judged, RightTable}
+use Rattle.cluster.specs.Check.{judged}
 use Rattle.cluster.specs.declared.Verdict.{Verdict}
 use Rattle.cluster.specs.declared.Verdict.the-variants.{Accepted, Refused}
 use Rattle.cluster.specs.Right.{wordsRight}
@@ -183,9 +182,13 @@ module _ (t : List ℕ) where
       by before (inr (inl w)) =
           let due : r .place < wordsDue t = omega (arith, due-words) in
           order (r .place) (length t)
-          (λ b. inl (due, b, λ right.
-              let z : _≡_ {A = Bool} true false = sym (right-test t true (r .place) before right due) ∙ w .1 in
-              let n : _≡_ {A = ℕ} 0 1 = cc in omega arith))
+          (λ b. inl (
+            due,
+            b,
+            λ right.
+                let z : _≡_ {A = Bool} true false = sym (right-test t true (r .place) before right due) ∙ w .1 in
+                let n : _≡_ {A = ℕ} 0 1 = cc in omega arith,
+          ))
           (λ b. inr (inl (due, omega (arith, f .within))))
 
   -- there is only one such position

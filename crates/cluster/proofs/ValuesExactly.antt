@@ -10,16 +10,16 @@ use lib.ListN.{length, getD, replicate, getD-replicate, List·getD-append}
 use lib.Seq.{getD-append-add}
 use Rattle.wire.specs.Bits.{bit, Bytes}
 use Rattle.wire.proofs.Tests.{whether}
-use Rattle.signal.specs.Signal.{bitAt, number, scalarWidth, getScalar, putScalar, getArray, putArray}
-use Rattle.signal.proofs.BytesOf.{bytes-length, bytes-at, byte-is, bit-of-byte}
+use Rattle.signal.specs.Signal.{bitAt, scalarWidth, getScalar, putScalar, getArray, putArray}
+use Rattle.signal.proofs.BytesOf.{bytes-length, bytes-at, byte-is}
 use Rattle.signal.proofs.Inside.{order}
 use Rattle.signal.proofs.Laws.{Apart, bit-stays, byte-stays, bit-put-inside, get-below}
-use Rattle.signal.proofs.Numbers.{bit-number, number-ext, number-bits}
-use Rattle.signal.proofs.PutBits.{put-length, put-bytes}
+use Rattle.signal.proofs.Numbers.{bit-number, number-ext}
+use Rattle.signal.proofs.PutBits.{put-bytes}
 use Rattle.cluster.specs.Check.{RightTable}
 use Rattle.cluster.specs.Fresh.{arrayLength, freshBytes}
 use Rattle.cluster.specs.Places.{signalPlace, occupies}
-use Rattle.cluster.specs.Table.{word, frameCount, signalCount, signalFrame, signalOffset, signalWidth, signalStart, isArray}
+use Rattle.cluster.specs.Table.{word, frameCount, signalCount, signalFrame, signalOffset, signalWidth, signalStart}
 use Rattle.cluster.specs.Values.{scalarValue, arrayValue, withScalar, withArray, arrayRead}
 use Rattle.cluster.proofs.FieldLaws.{array-exactly, scalar-exactly}
 use Rattle.cluster.proofs.FreshLaws.{array-length, fresh-free, fresh-scalar, fresh-array}
@@ -27,8 +27,7 @@ use Rattle.cluster.proofs.InWords.{F, S, frameWord, kindWord, offsetWor
 use Rattle.cluster.proofs.Occupied.{occupied-from}
 use Rattle.cluster.proofs.PlaceLaws.{place-end}
 use Rattle.cluster.proofs.SignalLaws.{scalar-width-high, array-offset, array-width-whole, signal-end-high}
-use Rattle.cluster.proofs.Starts.{fresh-length, fresh-bytes}
-use Rattle.cluster.proofs.ValueLaws.{scalar-length, array-length-stays}
+use Rattle.cluster.proofs.Starts.{fresh-bytes}
 
 -- "Data bits are numbered from the least significant bit of byte 0": data bit j of frame f, "eight [bytes] a frame"
 abbrev pub dataBit : List ℕ → ℕ → ℕ → Bool
@@ -103,7 +102,7 @@ module _ (t : List ℕ) (ok : RightTable t) (s : ℕ) (h : s < S t) where
     scalar-bit-written bs l v k b =
         own-bit (withScalar t bs s v) k
         ∙ bit-put-inside bs (signalPlace t s) (scalarWidth (signalWidth t s)) (bit v) k
-          (omega (arith, scalar-wide, place-inside, place-is)) (omega (arith, scalar-wide))
+        (omega (arith, scalar-wide, place-inside, place-is)) (omega (arith, scalar-wide))
 
     -- and every other bit is as it was
     pub scalar-bit-kept : (bs : List ℕ) (v f j : ℕ) → j < 64 → Outside t s f j → dataBit (withScalar t bs s v) f j ≡ dataBit bs f j
@@ -146,14 +145,14 @@ module _ (t : List ℕ) (ok : RightTable t) (s : ℕ) (h : s < S t) where
         let m = 8 * frameWord t s + offsetWord t s / 8 + i in
         bytes-at (arrayLength t s) (λ k. bitAt bs (signalPlace t s + k)) i (omega (arith, array-bytes))
         ∙ number-ext 8 (λ k. bitAt bs (signalPlace t s + (8 * i + k))) (λ k. bitAt bs (8 * m + k))
-          (λ k _. ap (bitAt bs) (omega (arith, array-first)))
+        (λ k _. ap (bitAt bs) (omega (arith, array-first)))
         ∙ byte-is bs m hb
 
     -- handed out in eight bytes: first those, and behind them 255
     pub array-read-exactly : (bs : List ℕ) → Bytes bs
         → (arrayRead t bs s .count ≡ widthWord t s / 8)
         × ((i : ℕ) → i < widthWord t s / 8
-          → getD (arrayRead t bs s .bytes) i 0 ≡ getD bs (8 * frameWord t s + offsetWord t s / 8 + i) 0)
+        → getD (arrayRead t bs s .bytes) i 0 ≡ getD bs (8 * frameWord t s + offsetWord t s / 8 + i) 0)
         × ((i : ℕ) → widthWord t s / 8 ≤ i → i < 8 → getD (arrayRead t bs s .bytes) i 0 ≡ 255)
     unfolding arrayRead
     array-read-exactly bs hb =
@@ -185,7 +184,7 @@ module _ (t : List ℕ) (ok : RightTable t) (s : ℕ) (h : s < S t) where
           put bs l i b k c =
               ap (bitAt (withArray t bs s vs)) (omega (arith, array-first))
               ∙ bit-put-inside bs (signalPlace t s) (8 * length vs) (bitAt vs) (8 * i + k)
-                (omega (arith, place-is, place-inside)) (omega arith)
+              (omega (arith, place-is, place-inside)) (omega arith)
 
       -- and every other byte is as it was
       pub array-byte-kept : (bs : List ℕ) → Bytes bs → (m : ℕ)
@@ -216,6 +215,6 @@ fresh-other-bit t ok f j h b out = data-bit (freshBytes t) f j ∙ fresh-free t 
     free : (s : ℕ) → s < S t → occupies t s (64 * f + j) ≡ false
     free s hs = whether (occupies t s (64 * f + j))
         (λ y. let w = occupied-from t s (64 * f + j) y in
-            let e = signal-end-high t ok s hs in
-            absurd (out s hs (omega arith) (omega arith) (omega arith)))
+        let e = signal-end-high t ok s hs in
+        absurd (out s hs (omega arith) (omega arith) (omega arith)))
         (λ n. n)

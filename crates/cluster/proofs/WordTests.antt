@@ -1,8 +1,8 @@
 -- Which test of `wordsRight` stands at which position: that of each word of the header and of each record.
 use Prim.Native.Nat.{ℕ, zero, suc, _+_, _*_, _<_}
-use mathlib.Core.Path.{_≡_, refl, sym, _∙_, ap}
+use mathlib.Core.Path.{_≡_, refl, _∙_}
 use mathlib.Core.Bool.{Bool}
-use mathlib.Core.List.{List, [], _∷_, _++_}
+use mathlib.Core.List.{List, _++_}
 use native.Mathlib.Nat.{zero-add}
 use native.Mathlib.Omega.{arith}
 use lib.ListN.{length, getD, length-append, List·getD-append}
@@ -65,10 +65,6 @@ module _ (d : Bool) where
     member-words : length memberTests ≡ 2 * memberCount t
     unfolding memberRight memberColumns
     member-words = length-records (memberRight t) 2 (λ j. refl) 0 (memberCount t)
-
-    entry-words : length entryTests ≡ 4 * entryCount t
-    unfolding entryRight entryColumns
-    entry-words = length-records (entryRight t) 4 (λ j. refl) 0 (entryCount t)
 
     to-frames : length (headerRight t ++ frameTests) ≡ 4 + 3 * frameCount t
     to-frames = length-append (headerRight t) frameTests ∙ omega (arith, header-words, frame-words)

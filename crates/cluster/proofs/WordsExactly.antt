@@ -1,5 +1,5 @@
 -- Each word of a table, behind words that are right: its test is true exactly where the paper's sentence about it holds.
-use Prim.Native.Nat.{ℕ, zero, suc, _+_, _-_, _*_, _/_, _%_, _^_, _≤_, _<_}
+use Prim.Native.Nat.{ℕ, _+_, _-_, _*_, _≤_, _<_}
 use mathlib.Core.Path.{_≡_, refl, sym, _∙_}
 use mathlib.Core.Bool.{Bool, true, false, not, _&&_}
 use mathlib.Core.List.{List}
@@ -8,22 +8,19 @@ use native.Mathlib.Omega.{arith}
 use borrow.Author.Tests.{not-true}
 use lib.Dec.{leb, ltb, eqb}
 use lib.ListN.{getD}
-use Rattle.wire.specs.Bits.{bit}
 use Rattle.wire.proofs.Tests.{and-left, and-right, whether}
-use Rattle.signal.proofs.Inside.{order}
-use Rattle.signal.proofs.Numbers.{bit-zero}
 use Rattle.cluster.specs.Columns.{headerColumns, frameColumns, signalColumns, memberColumns, entryColumns, widthRight}
 use Rattle.cluster.specs.Places.{signalPlace, occupies}
 use Rattle.cluster.specs.Right.{wordsRight, headerRight, frameRight, signalRight, memberRight, entryRight, earlier, occupiedBefore, overlaps}
-use Rattle.cluster.specs.Table.{word, frameCount, signalCount, memberCount, entryCount, size, identifier, frameLength, flags, published}
+use Rattle.cluster.specs.Table.{word, frameCount, signalCount, memberCount, entryCount, identifier, frameLength, flags, published}
 use Rattle.cluster.specs.Table.{signalFrame, signalKind, signalOffset, signalWidth, signalStart, memberList, memberFrame, listCount}
 use Rattle.cluster.specs.Table.{entrySchedule, entryKind, entryTarget, entryDelay}
 use Rattle.cluster.proofs.Any.{none-below, any-found, any-at, any-none}
-use Rattle.cluster.proofs.ColumnsExactly.{le-exactly, lt-exactly, eq-exactly, and-true, and-exactly, within-exactly, new-exactly, counts-exactly}
+use Rattle.cluster.proofs.ColumnsExactly.{le-exactly, lt-exactly, and-true, and-exactly, within-exactly, new-exactly, counts-exactly}
 use Rattle.cluster.proofs.ColumnsExactly.{identifier-exactly, offset-exactly, width-exactly, start-exactly, target-exactly}
 use Rattle.cluster.proofs.CountingUp.{CountsUp, up-below, up-each}
 use Rattle.cluster.proofs.FieldLaws.{published-exactly}
-use Rattle.cluster.proofs.InWords.{F, S, M, E, wordsDue, identifierWord, lengthWord, flagsWord}
+use Rattle.cluster.proofs.InWords.{F, S, M, E, identifierWord, lengthWord, flagsWord}
 use Rattle.cluster.proofs.InWords.{frameWord, kindWord, offsetWord, widthWord, startWord, listWord, memberWord}
 use Rattle.cluster.proofs.InWords.{scheduleWord, entryKindWord, targetWord, delayWord}
 use Rattle.cluster.proofs.InWords.{CountsOn, NotEarlier, OffsetSays, Common, WidthSays, StartSays, MemberSays, TargetSays, RightAt}
@@ -33,6 +30,15 @@ use Rattle.cluster.proofs.WordTests.{header-test, frame-test, signal-te
 -- a test that is another one
 by-test : {A : Type 0} {b c : Bool} → b ≡ c → (c ≡ true) ↔ A → (b ≡ true) ↔ A
 by-test e w = (λ h. w .0 (sym e ∙ h), λ a. e ∙ w .1 a)
+
+-- "existing list": where list numbers count up, the lists that there are, are those of the members
+existing-list : (t : List ℕ) → CountsUp (memberList t) (memberCount t) → (l : ℕ)
+    → (l < listCount t) ↔ ((m : ℕ) × (m < memberCount t) × (memberList t m ≡ l))
+unfolding listCount
+existing-list t up l = (
+  up-each (memberList t) (memberCount t) up l,
+  (λ w. rw (w .2) at (up-below (memberList t) (memberCount t) up (w .0) (w .1))),
+)
 
 -- every word before position p is right
 abbrev pub Before : List ℕ → ℕ → Type 0
@@ -196,15 +202,6 @@ module _ (t : List ℕ) (d : Bool) where
     unfolding entryRight entryColumns frameCount signalCount memberCount entryCount entryDelay word
     delay-word p q = by-test (entry-test d t e 3 p h (omega arith) q) (within-exactly 1 65535 (delayWord t e))
 
-    -- "existing list"
-    list-exactly : CountsUp (memberList t) (memberCount t) → (l : ℕ)
-        → (l < listCount t) ↔ ((m : ℕ) × (m < memberCount t) × (memberList t m ≡ l))
-    unfolding listCount
-    list-exactly up l = (
-      up-each (memberList t) (memberCount t) up l,
-      (λ w. rw (w .2) at (up-below (memberList t) (memberCount t) up (w .0) (w .1))),
-    )
-
     module _ (p : ℕ) (before : Before t p) (q : p ≡ 4 + 3 * F t + 5 * S t + 2 * M t + 4 * e + 2) where
       lists-right : CountsUp (memberList t) (memberCount t)
       unfolding memberCount memberList frameCount signalCount word
@@ -215,7 +212,7 @@ module _ (t : List ℕ) (d : Bool) where
       target-word =
           let kind = before (4 + 3 * F t + 5 * S t + 2 * M t + 4 * e + 1) (omega arith) .entry-kind e h refl in
           let all = target-exactly (F t) (listCount t) (entryKindWord t e) (targetWord t e) kind in
-          let list = list-exactly lists-right (targetWord t e) in
+          let list = existing-list t lists-right (targetWord t e) in
           by-test (entry-test d t e 2 p h (omega arith) q) (
             (λ y. let w = all .0 y in (w .0, (λ k. list .0 (w .1 k)), w .2, w .3)),
             (λ w. all .1 (w .0, (λ k. list .1 (w .1 k)), w .2, w .3)),
