@@ -8,6 +8,7 @@ use native.Mathlib.Omega.{arith}
 use borrow.Author.Tests.{eqb-true, eqb-false, ne-eqb}
 use lib.Dec.{eqb}
 use lib.ListN.{length, getD}
+use Rattle.wire.specs.Bits.{bit}
 use Rattle.wire.specs.declared.checksum.Model.the-variants.{Classic, Enhanced}
 use Rattle.wire.proofs.Tests.{whether}
 use Rattle.signal.proofs.Numbers.{bit-zero, bit-suc}
@@ -69,16 +70,23 @@ fields-exactly t = record {
   delays = λ e. refl;
 }
 
+-- bit 0 and bit 1 of a number
+bit-0 : (n : ℕ) → (bit n 0 ≡ true) ↔ (n % 2 ≡ 1)
+bit-0 n = rw (bit-zero n) (eq-exactly (n % 2) 1)
+
+bit-1 : (n : ℕ) → (bit n 1 ≡ true) ↔ (n / 2 % 2 ≡ 1)
+bit-1 n = rw (bit-suc n 0) (bit-0 (n / 2))
+
 module _ (t : List ℕ) where
   -- ---- "flags 0..3 (bit 0: master publishes, bit 1: classic)"
 
   pub published-exactly : (f : ℕ) → (published t f ≡ true) ↔ (flagsWord t f % 2 ≡ 1)
   unfolding published flags word
-  published-exactly f = rw (bit-zero (flagsWord t f)) (eq-exactly (flagsWord t f % 2) 1)
+  published-exactly f = bit-0 (flagsWord t f)
 
   pub classic-exactly : (f : ℕ) → (classic t f ≡ true) ↔ (flagsWord t f / 2 % 2 ≡ 1)
   unfolding classic flags word
-  classic-exactly f = rw (bit-suc (flagsWord t f) 0, bit-zero (flagsWord t f / 2)) (eq-exactly (flagsWord t f / 2 % 2) 1)
+  classic-exactly f = bit-1 (flagsWord t f)
 
   -- the checksum of a frame is classic where bit 1 is 1, and enhanced where it is 0
   pub model-classic : (f : ℕ) → (frameModel t f ≡ Classic) ↔ (flagsWord t f / 2 % 2 ≡ 1)
