@@ -17,7 +17,7 @@ use Rattle.cluster.specs.declared.Verdict.{Verdict}
 use Rattle.cluster.specs.declared.Verdict.the-variants.{Accepted, Refused}
 use Rattle.cluster.specs.Right.{wordsRight}
 use Rattle.cluster.specs.Table.{size}
-use Rattle.cluster.proofs.Accepted.{words, faults-true, AllTrue}
+use Rattle.cluster.proofs.Accepted.{words, faults-true, then-first, AllTrue}
 
 all-true : (bs : List Bool) → AllTrue bs → (j : ℕ) → j < length bs → getD bs j false ≡ true
 all-true [] a j h = absurd (omega arith)
@@ -134,6 +134,12 @@ module _ (t : List ℕ) where
       (λ e. in-words r (first-of 0 (wordsRight t) r (omega arith) e))
       (λ e. behind-words r (e .0) (e .1))
       (then-refused (faults t 0 (wordsRight t)) (surplus t) r h)
+
+  -- of an accepted table every word is right
+  pub words-right : RightTable t → (j : ℕ) → j < size t → getD (wordsRight t) j false ≡ true
+  unfolding judged
+  words-right ok j h =
+      all-true (wordsRight t) (faults-true t 0 (wordsRight t) (then-first (faults t 0 (wordsRight t)) (surplus t) ok)) j (omega (arith, words t))
 
   -- and conversely: a table of the right length of which every word is right is accepted
   pub all-right : length t ≡ size t → ((j : ℕ) → j < size t → getD (wordsRight t) j true ≡ true) → RightTable t

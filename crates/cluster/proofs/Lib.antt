@@ -2,12 +2,14 @@ pub mod Accepted
 pub mod Any
 pub mod BitMarks
 pub mod Clauses
+pub mod ColumnsExactly
 pub mod Counting
 pub mod CountingUp
 pub mod DisjointSignals
 pub mod Earlier
 pub mod EntryLaws
 pub mod EntryTurn
+pub mod FieldLaws
 pub mod FieldMask
 pub mod Filling
 pub mod FirstFault
@@ -16,6 +18,7 @@ pub mod FrameTurn
 pub mod FreshLaws
 pub mod HeaderLaws
 pub mod HeaderTurn
+pub mod InWords
 pub mod ListLaws
 pub mod ListWalk
 pub mod Local
@@ -24,7 +27,9 @@ pub mod MemberOf
 pub mod MemberTurn
 pub mod NextEntry
 pub mod Occupied
+pub mod OrderExactly
 pub mod PlaceLaws
+pub mod RightExactly
 pub mod Scan
 pub mod ScheduleLaws
 pub mod Searching
@@ -36,4 +41,7 @@ pub mod TakenLaws
 pub mod UsedMarks
 pub mod ValueLaws
 pub mod ValueSteps
+pub mod ValuesExactly
 pub mod Widths
+pub mod WordTests
+pub mod WordsExactly

@@ -63,7 +63,7 @@ pub record Listed (t : List ℕ) (l m n frame : ℕ) : Type 0 where
   pub list : memberList t member ≡ l
   pub same : frame ≡ memberFrame t member
 
-abbrev Each : List ℕ → ℕ → ℕ → ℕ → List ℕ → Type 0
+abbrev pub Each : List ℕ → ℕ → ℕ → ℕ → List ℕ → Type 0
 Each t l m n xs = (i : ℕ) → i < length xs → Listed t l m n (getD xs i 0)
 
 module _ (t : List ℕ) (l : ℕ) where
@@ -75,7 +75,7 @@ module _ (t : List ℕ) (l : ℕ) where
   each-in m n xs h p each zero b = record { member = m; from = omega arith; below = h; list = p; same = refl }
   each-in m n xs h p each (suc i) b = sooner m n (getD xs i 0) (each i (omega arith))
 
-  each : (m n : ℕ) → Each t l m (m + n) (membersFrom t l m n)
+  pub each : (m n : ℕ) → Each t l m (m + n) (membersFrom t l m n)
   unfolding membersFrom
   each m zero = λ i b. absurd (omega arith)
   each m (suc n) =
