@@ -15,7 +15,7 @@ unfolding digitsOf
 no-digits zero = refl
 no-digits (suc k) = refl
 
-one-digit : (k n : ℕ) → 0 < n → digitsOf (suc k) n ≡ digitsOf k (n / 10) ++ ((48 + n % 10) ∷ [])
+pub one-digit : (k n : ℕ) → 0 < n → digitsOf (suc k) n ≡ digitsOf k (n / 10) ++ ((48 + n % 10) ∷ [])
 unfolding digitsOf
 one-digit k n h = rw (ne-eqb n 0 (λ e. omega arith))
 

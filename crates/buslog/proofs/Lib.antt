@@ -4,11 +4,14 @@ pub mod Example
 pub mod Fronting
 pub mod Judging
 pub mod Keeping
+pub mod LinesExactly
 pub mod PairLaws
 pub mod PartLaws
 pub mod Reading
+pub mod ReportExactly
 pub mod ReportLaws
 pub mod Reporting
 pub mod Rows
 pub mod Splitting
+pub mod VerdictExactly
 pub mod VerdictLaws

@@ -23,11 +23,11 @@ use Rattle.buslog.proofs.Splitting.{line-ends, line-goes-on}
 -- ---- one character of a text
 
 module _ (c : ℕ) (rest begun : List ℕ) where
-  rest-ends : eqb c 10 ≡ true → unfinished begun (c ∷ rest) ≡ unfinished [] rest
+  pub rest-ends : eqb c 10 ≡ true → unfinished begun (c ∷ rest) ≡ unfinished [] rest
   unfolding unfinished
   rest-ends e = rw e
 
-  rest-goes-on : eqb c 10 ≡ false → unfinished begun (c ∷ rest) ≡ unfinished (begun ++ (c ∷ [])) rest
+  pub rest-goes-on : eqb c 10 ≡ false → unfinished begun (c ∷ rest) ≡ unfinished (begun ++ (c ∷ [])) rest
   unfolding unfinished
   rest-goes-on e = rw e
 

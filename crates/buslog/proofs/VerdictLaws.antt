@@ -76,7 +76,7 @@ module _ (t : List ℕ) (right : RightTable t) (f : ℕ) (h : f < frameCount t) 
   unfolding frameWith
   first = first-least (λ g. eqb (identifier t g) (identifier t f)) 0 (frameCount t) f (omega arith) there
 
-  found : frameWith t (identifier t f) ≡ f
+  pub found : frameWith t (identifier t f) ≡ f
   unfolding frameWith
   found =
       identifiers-distinct t right (frameWith t (identifier t f)) f (omega (arith, first)) h
