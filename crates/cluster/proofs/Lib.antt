@@ -1,6 +1,7 @@
 pub mod Accepted
 pub mod Any
 pub mod BitMarks
+pub mod CheckTold
 pub mod Clauses
 pub mod ColumnsExactly
 pub mod Counting

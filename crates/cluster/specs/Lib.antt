@@ -3,6 +3,7 @@ pub mod Places
 pub mod Columns
 pub mod Right
 pub mod Check
+pub mod Answers
 pub mod Lists
 pub mod Fresh
 pub mod Values

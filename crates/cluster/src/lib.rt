@@ -13,6 +13,7 @@ pub mod values;
 
 ghost use mathlib.Core.Path.{_≡_};
 ghost use Rattle.cluster.specs.Check.{fault as faultAt, judged, takenOf};
+ghost use Rattle.cluster.specs.Answers.{verdictTold, checkTold};
 
 // What the table check answers: accepted, or refusal 1 with the position of the first word that is wrong, missing or surplus.
 pub enum Verdict {
@@ -38,6 +39,7 @@ impl Limits {
 // Checks a table, word by word, each word once.
 pub fn check(t: &[u16]) -> Verdict
     ensures { λ r. ⌜ r ≡ judged (now (t .entry)) ⌝ }
+    ensures told { λ r. ⌜ verdictTold r ≡ checkTold (now (t .entry)) ⌝ }
 {
     if let Verdict::Refused(refusal) = table::judge(t) {
         return Verdict::Refused(refusal);
@@ -60,6 +62,7 @@ pub fn check(t: &[u16]) -> Verdict
 // Whether a call takes a table: what it asks before all else.
 pub fn taken(t: &[u16]) -> Verdict
     ensures { λ r. ⌜ r ≡ takenOf (now (t .entry)) ⌝ }
+    ensures told { λ r. ⌜ verdictTold r ≡ checkTold (now (t .entry)) ⌝ }
 {
     check(t)
 }

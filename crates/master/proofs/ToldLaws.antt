@@ -11,6 +11,7 @@ use Rattle.refusal.specs.Answers.{Told, Test, test, firstFailing}
 use Rattle.cluster.specs.declared.Verdict.{Verdict}
 use Rattle.cluster.specs.declared.Verdict.the-variants.{Accepted, Refused}
 use Rattle.cluster.specs.Check.{takenOf, then}
+use Rattle.cluster.specs.Answers.{verdictTold, behindTable}
 use Rattle.cluster.specs.Table.{frameCount, signalCount, isArray, memberCount, scheduleCount}
 use Rattle.cluster.specs.Lists.{memberOf}
 use Rattle.cluster.specs.Values.{signalPublished}
@@ -43,12 +44,12 @@ use Rattle.master.specs.Byte.{byteVerdict, byteOf}
 use Rattle.master.specs.Message.{sendVerdict, sendOf, messageOf}
 use Rattle.master.specs.Ahead.{aheadVerdict, aheadOf}
 use Rattle.master.specs.Status.{statusOf}
-use Rattle.master.specs.Answers.{verdictTold, freshTold, writeTold, readTold, arrayTold, selectTold, tickTold, byteTold, statusTold, sendTold, messageTold, aheadTold}
+use Rattle.master.specs.Answers.{freshTold, writeTold, readTold, arrayTold, selectTold, tickTold, byteTold, statusTold, sendTold, messageTold, aheadTold}
 use Rattle.master.specs.Calls as call
 use Rattle.master.specs.Calls.{Call}
 use Rattle.master.specs.Run.{Held, held, answerOf}
 use Rattle.master.specs.Step.{verdictOf, toldOf}
-use Rattle.master.specs.Told.{toldAs, toldAfter, sizeTest, stateTest, testsOf, valuesOf, callTold, freshCallTold, admitTold}
+use Rattle.master.specs.Told.{toldAs, sizeTest, stateTest, testsOf, valuesOf, callTold, freshCallTold, admitTold}
 use Rattle.master.proofs.StepLaws.{verdict-told}
 
 module _ (vs : List ℕ) where
@@ -65,7 +66,7 @@ module _ (vs : List ℕ) where
   tested true n v tests e = e
   tested false n v tests e = refl
 
-  behind-table : (w v : Verdict) (tests : List Test) → Alike v tests → toldAs (then w v) vs ≡ toldAfter w tests vs
+  behind-table : (w v : Verdict) (tests : List Test) → Alike v tests → toldAs (then w v) vs ≡ behindTable w (firstFailing tests vs)
   behind-table Accepted v tests e = e
   behind-table (Refused r) v tests e = refl
 
@@ -84,7 +85,7 @@ admitted-then t n s v = by (takenOf t) (eqb n (bufferSize t)) (stateFits t s)
 module _ (t : List ℕ) (s : State) (vs : List ℕ) where
   -- of a call that is lent the frame bytes
   lent-told : (n : ℕ) (v : Verdict) (tests : List Test) → Alike vs v tests
-      → toldAs (then (admitted t n s) v) vs ≡ toldAfter (takenOf t) (sizeTest t n ∷ stateTest t s ∷ tests) vs
+      → toldAs (then (admitted t n s) v) vs ≡ behindTable (takenOf t) (firstFailing (sizeTest t n ∷ stateTest t s ∷ tests) vs)
   unfolding bufferSize
   lent-told n v tests e =
       ap (λ (w : Verdict). toldAs w vs) (admitted-then t n s v)
@@ -92,7 +93,7 @@ module _ (t : List ℕ) (s : State) (vs : List ℕ) where
 
   -- of one that is not
   unlent-told : (v : Verdict) (tests : List Test) → Alike vs v tests
-      → toldAs (then (admitted t (bufferSize t) s) v) vs ≡ toldAfter (takenOf t) (stateTest t s ∷ tests) vs
+      → toldAs (then (admitted t (bufferSize t) s) v) vs ≡ behindTable (takenOf t) (firstFailing (stateTest t s ∷ tests) vs)
   unlent-told v tests e =
       let same : then (takenOf t) (unless (eqb (bufferSize t) (bufferSize t)) 2 (unless (stateFits t s) 3 v)) ≡ then (takenOf t) (unless (stateFits t s) 3 v) =
       rw (eq-eqb (bufferSize t) (bufferSize t) refl) in
@@ -100,7 +101,7 @@ module _ (t : List ℕ) (s : State) (vs : List ℕ) where
       ∙ behind-table vs (takenOf t) _ _ (tested vs (stateFits t s) 3 v tests e)
 
   -- and of one with no test of its own
-  asked-told : toldAs (admitted t (bufferSize t) s) vs ≡ toldAfter (takenOf t) (stateTest t s ∷ []) vs
+  asked-told : toldAs (admitted t (bufferSize t) s) vs ≡ behindTable (takenOf t) (firstFailing (stateTest t s ∷ []) vs)
   asked-told = ap (λ (w : Verdict). toldAs w vs) (sym (then-accepted (admitted t (bufferSize t) s))) ∙ unlent-told Accepted [] (done vs)
     where
       then-accepted : (v : Verdict) → then v Accepted ≡ v
@@ -108,7 +109,7 @@ module _ (t : List ℕ) (s : State) (vs : List ℕ) where
       then-accepted (Refused r) = refl
 
 -- the tests of every call
-tests-told : (t : List ℕ) (x : Held) (c : Call) (vs : List ℕ) → toldAs (verdictOf t x c) vs ≡ toldAfter (takenOf t) (testsOf t x c) vs
+tests-told : (t : List ℕ) (x : Held) (c : Call) (vs : List ℕ) → toldAs (verdictOf t x c) vs ≡ behindTable (takenOf t) (firstFailing (testsOf t x c) vs)
 unfolding verdictOf testsOf writable readVerdict selectVerdict tickVerdict byteVerdict sendVerdict aheadVerdict
 tests-told t x (call.write w) vs =
     lent-told t (x .state) vs (length (x .bytes)) _ _

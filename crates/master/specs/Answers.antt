@@ -2,8 +2,6 @@
 use mathlib.Core.Bool.{Bool, true, false}
 use mathlib.Core.List.{[], _∷_}
 use Rattle.refusal.specs.Answers.{Told, gives, refuses}
-use Rattle.cluster.specs.declared.Verdict.{Verdict}
-use Rattle.cluster.specs.declared.Verdict.the-variants as verdict
 use Rattle.master.specs.declared.start.FreshAnswer.{FreshAnswer}
 use Rattle.master.specs.declared.start.FreshAnswer.the-variants as start
 use Rattle.master.specs.declared.write.WriteAnswer.{WriteAnswer}
@@ -26,11 +24,6 @@ use Rattle.master.specs.declared.send.MessageAnswer.{MessageAnswer}
 use Rattle.master.specs.declared.send.MessageAnswer.the-variants as message
 use Rattle.master.specs.declared.ahead.AheadAnswer.{AheadAnswer}
 use Rattle.master.specs.declared.ahead.AheadAnswer.the-variants as ahead
-
--- of a verdict
-abbrev pub verdictTold : Verdict → Told
-verdictTold verdict.Accepted = gives []
-verdictTold (verdict.Refused r) = refuses r
 
 -- of fresh
 abbrev pub freshTold : FreshAnswer → Told

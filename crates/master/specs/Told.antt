@@ -9,6 +9,7 @@ use Rattle.refusal.specs.Answers.{Told, Test, test, gives, refuses, firstFailin
 use Rattle.cluster.specs.declared.Verdict.{Verdict}
 use Rattle.cluster.specs.declared.Verdict.the-variants.{Accepted, Refused}
 use Rattle.cluster.specs.Check.{takenOf}
+use Rattle.cluster.specs.Answers.{behindTable}
 use Rattle.cluster.specs.Table.{frameCount, signalCount, isArray, memberCount, scheduleCount}
 use Rattle.cluster.specs.Lists.{memberOf, framesAhead}
 use Rattle.cluster.specs.Values.{signalPublished, scalarValue, arrayRead}
@@ -29,11 +30,6 @@ use Rattle.master.specs.Run.{Held}
 abbrev pub toldAs : Verdict → List ℕ → Told
 toldAs Accepted vs = gives vs
 toldAs (Refused r) vs = refuses r
-
--- 1 "the table check finds a fault", with its position; then the other tests
-abbrev pub toldAfter : Verdict → List Test → List ℕ → Told
-toldAfter Accepted tests vs = firstFailing tests vs
-toldAfter (Refused r) tests vs = refuses r
 
 -- "the frame buffer isn't 8F bytes"
 abbrev pub sizeTest : List ℕ → ℕ → Test
@@ -91,12 +87,12 @@ valuesOf t x (call.numberAhead f) = pendingCount (x .state .pending) (framesAhea
 
 -- what a call tells
 unfoldable pub callTold : List ℕ → Held → Call → Told
-callTold t x c = toldAfter (takenOf t) (testsOf t x c) (valuesOf t x c)
+callTold t x c = behindTable (takenOf t) (firstFailing (testsOf t x c) (valuesOf t x c))
 
 -- what fresh tells, which is lent some frame bytes
 unfoldable pub freshCallTold : List ℕ → ℕ → Told
-freshCallTold t size = toldAfter (takenOf t) (sizeTest t size ∷ []) []
+freshCallTold t size = behindTable (takenOf t) (firstFailing (sizeTest t size ∷ []) [])
 
 -- what the tests at the head of the calls tell
 unfoldable pub admitTold : List ℕ → ℕ → State → Told
-admitTold t size s = toldAfter (takenOf t) (sizeTest t size ∷ stateTest t s ∷ []) []
+admitTold t size s = behindTable (takenOf t) (firstFailing (sizeTest t size ∷ stateTest t s ∷ []) [])

@@ -10,7 +10,7 @@ ghost use Rattle.master.specs.Admit.{bufferSize, admitted};
 ghost use Rattle.refusal.specs.Numbers.{refused as refusedWith};
 ghost use Rattle.cluster.specs.declared.Verdict.the-variants as verdict;
 ghost use Rattle.master.specs.Fits.{stateFits};
-ghost use Rattle.master.specs.Answers.{verdictTold};
+ghost use Rattle.cluster.specs.Answers.{verdictTold};
 ghost use Rattle.master.specs.Told.{admitTold};
 
 impl State {

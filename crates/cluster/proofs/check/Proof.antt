@@ -6,6 +6,7 @@ use Rattle.cluster.specs.Check.{headerFaults, frameFaults, surplus, judg
 use Rattle.cluster.specs.declared.Verdict.the-variants.{Accepted}
 use Rattle.cluster.proofs.Sections.{fromFrames, fromSignals, fromMembers, fromEntries, judged-sections, header-passed, frames-passed}
 use borrow.Author.Needs.{needs}
+use Rattle.cluster.proofs.CheckTold.{check-told}
 use Rattle.cluster.proofs.check.Statement.{statement}
 use Rattle.cluster.proofs.check.Tie as tie
 
@@ -54,7 +55,7 @@ nothing-left c = entries-left (c .before .before .before) ∙ rw (sym (c .before
 returns : tie.Need-returns
 returns c =
     let refused = sym (c .before .before .before .judge .ensures) ∙ c .before .refusal .given .1 in
-    rw (judged-sections (c .before .before .before .before .before .args .t .now), refused)
+    check-told _ _ (rw (judged-sections (c .before .before .before .before .before .args .t .now), refused))
 
 judge-requires-2 : tie.Need-judge-requires-2
 judge-requires-2 c κs = header-passed (table1 c) (header-right c) .0
@@ -62,7 +63,7 @@ judge-requires-2 c κs = header-passed (table1 c) (header-right c) .0
 returns-2 : tie.Need-returns-2
 returns-2 c =
     let refused = sym (c .before .before .before .judge2 .ensures) ∙ c .before .refusal2 .given .1 in
-    rw (frames-left (c .before .before .before .before), refused)
+    check-told _ _ (rw (frames-left (c .before .before .before .before), refused))
 
 judge-requires-3 : tie.Need-judge-requires-3
 judge-requires-3 c κs =
@@ -72,7 +73,7 @@ judge-requires-3 c κs =
 returns-3 : tie.Need-returns-3
 returns-3 c =
     let refused = sym (c .before .before .before .judge3 .ensures) ∙ c .before .refusal3 .given .1 in
-    rw (signals-left (c .before .before .before .before), refused)
+    check-told _ _ (rw (signals-left (c .before .before .before .before), refused))
 
 judge-requires-4 : tie.Need-judge-requires-4
 judge-requires-4 c κs =
@@ -82,7 +83,7 @@ judge-requires-4 c κs =
 returns-4 : tie.Need-returns-4
 returns-4 c =
     let refused = sym (c .before .before .before .judge4 .ensures) ∙ c .before .refusal4 .given .1 in
-    rw (members-left (c .before .before .before .before), refused)
+    check-told _ _ (rw (members-left (c .before .before .before .before), refused))
 
 judge-requires-5 : tie.Need-judge-requires-5
 judge-requires-5 c κs =
@@ -92,10 +93,10 @@ judge-requires-5 c κs =
 returns-5 : tie.Need-returns-5
 returns-5 c =
     let refused = sym (c .before .before .before .judge5 .ensures) ∙ c .before .refusal5 .given .1 in
-    rw (entries-left (c .before .before .before .before), refused)
+    check-told _ _ (rw (entries-left (c .before .before .before .before), refused))
 
 returns-6 : tie.Need-returns-6
-returns-6 c = c .surplus .ensures ∙ sym (nothing-left (c .before))
+returns-6 c = check-told _ _ (c .surplus .ensures ∙ sym (nothing-left (c .before)))
 
 pub check-spec : {M : Type 1} → statement M
 check-spec =

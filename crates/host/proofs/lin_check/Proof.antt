@@ -7,11 +7,11 @@ use Rattle.host.proofs.lin_check.Tie as tie
 
 returns : tie.Need-returns
 unfolding positionOf
-returns c = rw (sym (c .before .before .taken .ensures) ∙ c .enum-told .given .1)
+returns c = rw (sym (c .before .before .taken .ensures .0) ∙ c .enum-told .given .1)
 
 returns-2 : tie.Need-returns-2
 unfolding positionOf
-returns-2 c = rw (sym (c .before .before .before .taken .ensures) ∙ c .before .refusal .given .1)
+returns-2 c = rw (sym (c .before .before .before .taken .ensures .0) ∙ c .before .refusal .given .1)
 
 pub lin-check-spec : {M : Type 1} → statement M
 lin-check-spec = tie.close (tie.spec (λ c κs. search needs) (λ c. search needs) (λ c. search needs) returns returns-2)

@@ -8,13 +8,13 @@ use Rattle.buslog.proofs.judge.judge.Statement.{statement}
 use Rattle.buslog.proofs.judge.judge.Tie as tie
 
 of-line-requires : tie.Need-of-line-requires
-of-line-requires c κs = taken-right _ (sym (c .before .before .taken .ensures) ∙ c .enum-told .given .1)
+of-line-requires c κs = taken-right _ (sym (c .before .before .taken .ensures .0) ∙ c .enum-told .given .1)
 
 returns : tie.Need-returns
-returns c = judge-refused _ _ _ (sym (c .before .before .before .taken .ensures) ∙ c .before .refusal .given .1)
+returns c = judge-refused _ _ _ (sym (c .before .before .before .taken .ensures .0) ∙ c .before .refusal .given .1)
 
 returns-2 : tie.Need-returns-2
-returns-2 c = judge-accepted _ _ _ (sym (c .before .before .before .taken .ensures) ∙ c .before .enum-told .given .1) (c .of-line .ensures)
+returns-2 c = judge-accepted _ _ _ (sym (c .before .before .before .taken .ensures .0) ∙ c .before .enum-told .given .1) (c .of-line .ensures)
 
 pub judge-spec : {M : Type 1} → statement M
 judge-spec =

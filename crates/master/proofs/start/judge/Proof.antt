@@ -7,17 +7,17 @@ use Rattle.master.proofs.start.judge.Tie as tie
 
 returns : tie.Need-returns
 unfolding freshVerdict
-returns c = rw (← c .before .before .before .taken .ensures, c .before .refusal .given .1)
+returns c = rw (← c .before .before .before .taken .ensures .0, c .before .refusal .given .1)
 
 returns-2 : tie.Need-returns-2
 unfolding freshVerdict
 returns-2 c =
     let taken = c .before .before .before .before .before .taken in
-    rw (← taken .ensures, c .before .before .before .enum-told .given .1, ← c .before .before .buffer-size .ensures, ne-eqb _ _ (c .before .if1 .taken), c .refused .ensures)
+    rw (← taken .ensures .0, c .before .before .before .enum-told .given .1, ← c .before .before .buffer-size .ensures, ne-eqb _ _ (c .before .if1 .taken), c .refused .ensures)
 
 returns-3 : tie.Need-returns-3
 unfolding freshVerdict
-returns-3 c = rw (← c .before .before .before .before .taken .ensures, c .before .before .enum-told .given .1, ← c .before .buffer-size .ensures, eq-eqb _ _ (c .if1 .left))
+returns-3 c = rw (← c .before .before .before .before .taken .ensures .0, c .before .before .enum-told .given .1, ← c .before .buffer-size .ensures, eq-eqb _ _ (c .if1 .left))
 
 pub judge-spec : {M : Type 1} → statement M
 judge-spec =

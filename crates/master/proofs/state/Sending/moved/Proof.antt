@@ -16,14 +16,14 @@ returns c =
     let a = c .before .before .before .before .before .before .before .args in
     let count = c .before .before .before .before .count in
     let frames = c .before .before .frames in
-    rw (c .at .ensures, frames-counted (a .self .length) (frames .given .0 .0) (sym (count .ensures) ∙ frames .given .1))
+    rw (c .at .ensures, frames-counted (a .self .length) (frames .given .0 .0) (sym (count .ensures .0) ∙ frames .given .1))
 
 returns-2 : tie.Need-returns-2
 unfolding moved
 returns-2 c =
     let a = c .before .before .before .before .before .before .args in
     let asked = c .before .before .before .before .before .before .pre in
-    absurd (never-refused (a .self) asked (c .before .refusal .given .0 .0) (sym (c .before .before .before .count .ensures) ∙ c .before .refusal .given .1))
+    absurd (never-refused (a .self) asked (c .before .refusal .given .0 .0) (sym (c .before .before .before .count .ensures .0) ∙ c .before .refusal .given .1))
 
 pub moved-spec : {M : Type 1} → statement M
 moved-spec =

@@ -8,13 +8,13 @@ use Rattle.master.proofs.state.State.admit.Tie as tie
 
 returns : tie.Need-returns
 unfolding admitted
-returns c = head-told _ _ _ _ (rw (← c .before .before .before .taken .ensures, c .before .refusal .given .1))
+returns c = head-told _ _ _ _ (rw (← c .before .before .before .taken .ensures .0, c .before .refusal .given .1))
 
 returns-2 : tie.Need-returns-2
 unfolding admitted
 returns-2 c =
     let taken = c .before .before .before .before .before .taken in
-    head-told _ _ _ _ (rw (← taken .ensures, c .before .before .before .enum-told .given .1, ← c .before .before .buffer-size .ensures, ne-eqb _ _ (c .before .if1 .taken), c .refused .ensures))
+    head-told _ _ _ _ (rw (← taken .ensures .0, c .before .before .before .enum-told .given .1, ← c .before .before .buffer-size .ensures, ne-eqb _ _ (c .before .if1 .taken), c .refused .ensures))
 
 returns-3 : tie.Need-returns-3
 unfolding admitted
@@ -24,7 +24,7 @@ returns-3 c =
     let buffer-size = c .before .before .before .before .buffer-size in
     let fits2 = c .before .before .fits2 in
     head-told _ _ _ _ (rw (
-      ← taken .ensures,
+      ← taken .ensures .0,
       enum-told .given .1,
       ← buffer-size .ensures,
       eq-eqb _ _ (c .before .before .before .if1 .left),
@@ -40,7 +40,7 @@ returns-4 c =
     let taken = c .before .before .before .before .before .before .taken in
     let enum-told = c .before .before .before .before .enum-told in
     head-told _ _ _ _ (rw (
-      ← taken .ensures,
+      ← taken .ensures .0,
       enum-told .given .1,
       ← c .before .before .before .buffer-size .ensures,
       eq-eqb _ _
