@@ -1,3 +1,4 @@
+pub mod AnswerLaws
 pub mod Decimal
 pub mod Digits
 pub mod Example

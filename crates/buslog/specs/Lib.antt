@@ -1,3 +1,4 @@
+pub mod Answers
 pub mod Pairs
 pub mod Verdict
 pub mod Row

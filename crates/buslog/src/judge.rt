@@ -9,7 +9,10 @@ use wire::identifier;
 ghost use mathlib.Core.Path.{_≡_};
 ghost use Prim.Native.Nat.{_≤_};
 ghost use lib.ListN.{length};
-ghost use Rattle.cluster.specs.Check.{RightTable};
+ghost use Rattle.refusal.specs.Answers.{gives};
+ghost use Rattle.cluster.specs.Check.{RightTable, takenOf};
+ghost use Rattle.cluster.specs.Answers.{behindTable};
+ghost use Rattle.buslog.specs.Answers.{verdictValues, judgedTold};
 ghost use Rattle.buslog.specs.Verdict.{frameWith, knownVerdict, identifierVerdict, bytesVerdict, lineVerdict, judgeOf};
 
 // The verdicts in the order in which they apply, with the identifier where there is one.
@@ -31,6 +34,9 @@ pub enum Judged {
 // Judges a line, without its newline, under a table.
 pub fn judge(t: &[u16], line: &[u8]) -> Judged
     ensures { λ r. ⌜ r ≡ judgeOf (now (t .entry)) (now (line .entry)) ⌝ }
+    ensures told { λ r. ⌜
+        judgedTold r ≡ behindTable (takenOf (now (t .entry))) (gives (verdictValues (lineVerdict (now (t .entry)) (now (line .entry)))))
+        ⌝ }
 {
     match cluster::taken(t) {
         cluster::Verdict::Refused(refusal) => Judged::Refused(refusal),

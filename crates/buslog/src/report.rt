@@ -6,7 +6,11 @@ use refusal::Refusal;
 ghost use mathlib.Core.Path.{_≡_};
 ghost use lib.ListN.{length};
 ghost use Prim.Native.Nat.{_-_, min};
-ghost use Rattle.cluster.specs.Check.{RightTable};
+ghost use mathlib.Core.List.{[]};
+ghost use Rattle.refusal.specs.Answers.{gives};
+ghost use Rattle.cluster.specs.Check.{RightTable, takenOf};
+ghost use Rattle.cluster.specs.Answers.{behindTable};
+ghost use Rattle.buslog.specs.Answers.{reportTold};
 ghost use Rattle.buslog.specs.Report.{reported, reporting, reportedLines, Leaves, Fronts, keptOf, keptLength};
 ghost use Rattle.buslog.specs.Parts.{soFar};
 
@@ -27,6 +31,7 @@ pub struct Written {
 // Reports the whole lines of a text, numbered from a number on, as long as there is room for their rows.
 pub fn write(t: &[u16], number: u64, text: &[u8], out: &mut [u8]) -> Written
     ensures { λ r. ⌜ Leaves (reported (now (t .entry)) number (length (now (out .entry))) (now (text .entry))) (now (out .entry)) r (now (out .exit)) ⌝ }
+    ensures told { λ r. ⌜ reportTold (r .answer) ≡ behindTable (takenOf (now (t .entry))) (gives []) ⌝ }
 {
     match cluster::taken(t) {
         Verdict::Refused(refusal) => Written {

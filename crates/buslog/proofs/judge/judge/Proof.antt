@@ -4,6 +4,7 @@ use mathlib.Core.Path.{sym, _∙_}
 use borrow.Author.Needs.{needs}
 use Rattle.cluster.proofs.TakenLaws.{taken-right}
 use Rattle.buslog.proofs.Judging.{judge-refused, judge-accepted}
+use Rattle.buslog.proofs.AnswerLaws.{judge-told}
 use Rattle.buslog.proofs.judge.judge.Statement.{statement}
 use Rattle.buslog.proofs.judge.judge.Tie as tie
 
@@ -11,10 +12,10 @@ of-line-requires : tie.Need-of-line-requires
 of-line-requires c κs = taken-right _ (sym (c .before .before .taken .ensures .0) ∙ c .enum-told .given .1)
 
 returns : tie.Need-returns
-returns c = judge-refused _ _ _ (sym (c .before .before .before .taken .ensures .0) ∙ c .before .refusal .given .1)
+returns c = judge-told _ _ _ (judge-refused _ _ _ (sym (c .before .before .before .taken .ensures .0) ∙ c .before .refusal .given .1))
 
 returns-2 : tie.Need-returns-2
-returns-2 c = judge-accepted _ _ _ (sym (c .before .before .before .taken .ensures .0) ∙ c .before .enum-told .given .1) (c .of-line .ensures)
+returns-2 c = judge-told _ _ _ (judge-accepted _ _ _ (sym (c .before .before .before .taken .ensures .0) ∙ c .before .enum-told .given .1) (c .of-line .ensures))
 
 pub judge-spec : {M : Type 1} → statement M
 judge-spec =

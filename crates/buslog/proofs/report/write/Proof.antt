@@ -4,6 +4,7 @@ use mathlib.Core.Path.{sym, _∙_}
 use borrow.Author.Needs.{needs}
 use Rattle.cluster.proofs.TakenLaws.{taken-right}
 use Rattle.buslog.proofs.Reporting.{refuses, accepts}
+use Rattle.buslog.proofs.AnswerLaws.{report-told}
 use Rattle.buslog.proofs.report.write.Statement.{statement}
 use Rattle.buslog.proofs.report.write.Tie as tie
 
@@ -11,10 +12,10 @@ rows-requires : tie.Need-rows-requires
 rows-requires c κs = taken-right _ (sym (c .before .before .before .taken .ensures .0) ∙ c .before .enum-told .given .1)
 
 returns : tie.Need-returns
-returns c = refuses _ _ _ _ _ (sym (c .before .before .before .taken .ensures .0) ∙ c .before .refusal .given .1)
+returns c = report-told _ _ _ _ _ _ _ (refuses _ _ _ _ _ (sym (c .before .before .before .taken .ensures .0) ∙ c .before .refusal .given .1))
 
 returns-2 : tie.Need-returns-2
-returns-2 c = accepts _ _ _ _ (sym (c .before .before .before .before .before .before .taken .ensures .0) ∙ c .before .before .before .before .enum-told .given .1) (c .before .before .rows .ensures)
+returns-2 c = report-told _ _ _ _ _ _ _ (accepts _ _ _ _ (sym (c .before .before .before .before .before .before .taken .ensures .0) ∙ c .before .before .before .before .enum-told .given .1) (c .before .before .rows .ensures))
 
 pub write-spec : {M : Type 1} → statement M
 write-spec =
