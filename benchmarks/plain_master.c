@@ -147,7 +147,7 @@ static bool fits(const uint16_t *t, const struct state *s)
 
 static unsigned admit(const struct state *s, struct table table, size_t size)
 {
-    if (plain_check(table.words, table.length) != LIN_ACCEPTED)
+    if (plain_check(table.words, table.length) != 0)
         return TABLE;
     if (size != 8u * table.words[0])
         return BUFFER;
@@ -177,7 +177,7 @@ static const struct transfer no_transfer = { OPENED_NOTHING, 0, 0, { 255, 255, 2
 
 unsigned plain_start(struct state *state, struct table table, uint8_t *bytes, size_t size)
 {
-    if (plain_check(table.words, table.length) != LIN_ACCEPTED)
+    if (plain_check(table.words, table.length) != 0)
         return TABLE;
     if (size != 8u * table.words[0])
         return BUFFER;

@@ -24,7 +24,8 @@ static bool follows(const struct check *check, size_t at, size_t count)
     return at < check->length && (check->words[at] == count || check->words[at] + 1u == count);
 }
 
-/* Each section gives the position of its first fault, or LIN_ACCEPTED. */
+/* Each section gives the position of its first fault, or this. */
+#define NO_FAULT SIZE_MAX
 
 static size_t check_header(const struct check *check)
 {
@@ -32,7 +33,7 @@ static size_t check_header(const struct check *check)
     for (size_t i = 0; i < 4; i++)
         if (!at_most(check, i, limits[i]))
             return i;
-    return LIN_ACCEPTED;
+    return NO_FAULT;
 }
 
 static size_t check_frames(const struct check *check, size_t at, size_t count)
@@ -47,7 +48,7 @@ static size_t check_frames(const struct check *check, size_t at, size_t count)
         if (!at_most(check, at + 2, 3))
             return at + 2;
     }
-    return LIN_ACCEPTED;
+    return NO_FAULT;
 }
 
 static bool right_width(bool array, unsigned width)
@@ -79,7 +80,7 @@ static size_t check_signals(const struct check *check, size_t at, size_t count)
         if (at + 4 >= check->length || words[at + 4] >= (array ? 256u : 1u << width))
             return at + 4;
     }
-    return LIN_ACCEPTED;
+    return NO_FAULT;
 }
 
 static size_t check_members(struct check *check, size_t at, size_t count)
@@ -97,7 +98,7 @@ static size_t check_members(struct check *check, size_t at, size_t count)
             return at + 1;
         listed[frame] = true;
     }
-    return LIN_ACCEPTED;
+    return NO_FAULT;
 }
 
 static size_t check_entries(const struct check *check, size_t at, size_t count)
@@ -116,25 +117,33 @@ static size_t check_entries(const struct check *check, size_t at, size_t count)
         if (at + 3 >= check->length || words[at + 3] == 0)
             return at + 3;
     }
-    return LIN_ACCEPTED;
+    return NO_FAULT;
 }
 
-size_t plain_check(const uint16_t *words, size_t length)
+/* The position of the first fault of all sections. */
+static size_t first_fault(const uint16_t *words, size_t length)
 {
     struct check check = { words, length, 0, 0 };
     size_t position = check_header(&check);
-    if (position != LIN_ACCEPTED)
+    if (position != NO_FAULT)
         return position;
     check.frames = words[0];
     size_t signals = 4 + 3 * check.frames, members = signals + 5u * words[1], entries = members + 2u * words[2];
     size_t end = entries + 4u * words[3];
-    if ((position = check_frames(&check, 4, words[0])) != LIN_ACCEPTED)
+    if ((position = check_frames(&check, 4, words[0])) != NO_FAULT)
         return position;
-    if ((position = check_signals(&check, signals, words[1])) != LIN_ACCEPTED)
+    if ((position = check_signals(&check, signals, words[1])) != NO_FAULT)
         return position;
-    if ((position = check_members(&check, members, words[2])) != LIN_ACCEPTED)
+    if ((position = check_members(&check, members, words[2])) != NO_FAULT)
         return position;
-    if ((position = check_entries(&check, entries, words[3])) != LIN_ACCEPTED)
+    if ((position = check_entries(&check, entries, words[3])) != NO_FAULT)
         return position;
-    return end < length ? end : LIN_ACCEPTED;
+    return end < length ? end : NO_FAULT;
+}
+
+/* As lin_check answers: 0, or refusal 1 above the position. */
+uint32_t plain_check(const uint16_t *words, size_t length)
+{
+    size_t position = first_fault(words, length);
+    return position == NO_FAULT ? 0 : 65536 + (uint32_t)position;
 }

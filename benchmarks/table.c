@@ -62,10 +62,10 @@ int main(int count, char **arguments)
         fprintf(stderr, "usage: table lin_check|plain_check small|middle|largest\n");
         return 2;
     }
-    size_t (*check)(const uint16_t *, size_t) = strcmp(arguments[1], "lin_check") == 0 ? lin_check : plain_check;
+    uint32_t (*check)(const uint16_t *, size_t) = strcmp(arguments[1], "lin_check") == 0 ? lin_check : plain_check;
     unsigned accepted = 0;
     for (unsigned i = 0; i < CALLS; i++)
-        accepted += check(words, length) == LIN_ACCEPTED;
+        accepted += check(words, length) == 0;
     printf("%zu words, %u times accepted\n", length, accepted);
     return accepted != CALLS;
 }

@@ -167,11 +167,11 @@ static bool table_request(struct text text)
     while (!at_end(&text))
         if (!take_word(&text, " ") || !take_number(&text, UINT16_MAX, &words[length++]))
             return false;
-    size_t position = lin_check(words, length);
-    if (position == LIN_ACCEPTED)
+    uint32_t answer = lin_check(words, length);
+    if (lin_table_refusal(answer) == 0)
         puts("accepted");
     else
-        printf("refused 1 %zu\n", position);
+        printf("refused %u %u\n", (unsigned)lin_table_refusal(answer), (unsigned)lin_position(answer));
     return true;
 }
 

@@ -1,8 +1,9 @@
 /* The entry points of the LIN core for a host in C; link target/staticlib/libhost.a (`rt staticlib host`).
  *
- * Each accepts every number and every slice. The calls of the wire answer one number: the low byte is the value, the next
- * byte the refusal number of document 01, 0 for none; the table check answers a position. The core proves that of each
- * (crates/host, specs/Coded.antt); this header is not proved, so the tests compare it with a second program.
+ * Each accepts every number and every slice, and answers one number. Of the calls of the wire the low byte is the value, the
+ * next byte the refusal number of document 01, 0 for none; of the table check the low sixteen bits are the position, those
+ * above them the refusal number. The core proves that of each (crates/host, specs/Coded.antt); this header is not proved, so
+ * the tests compare it with a second program.
  */
 #ifndef LINHOST_H
 #define LINHOST_H
@@ -27,18 +28,21 @@ uint16_t lin_read(uint8_t protected_id);
  * data points to something even where length is 0. */
 uint16_t lin_checksum(uint8_t id, uint8_t model, const uint8_t *data, size_t length);
 
-/* What the table check answers where the table is accepted; no position is as large. */
-#define LIN_ACCEPTED SIZE_MAX
-
-/* Checks a cluster table: LIN_ACCEPTED, or for refusal 1 the position of the first word that is wrong, missing or surplus.
- * words points to something even where length is 0. */
-size_t lin_check(const uint16_t *words, size_t length);
+/* Checks a cluster table: 0 where it is accepted, or refusal 1 and the position of the first word that is wrong, missing or
+ * surplus. words points to something even where length is 0. */
+uint32_t lin_check(const uint16_t *words, size_t length);
 
 /* The value of an answer. */
 static inline uint8_t lin_value(uint16_t answer) { return (uint8_t)(answer & 0xFF); }
 
 /* The refusal number of an answer, 0 for none. */
 static inline uint8_t lin_refusal(uint16_t answer) { return (uint8_t)(answer >> 8); }
+
+/* The position that the table check answers. */
+static inline uint16_t lin_position(uint32_t answer) { return (uint16_t)(answer & 0xFFFF); }
+
+/* The refusal number that the table check answers, 0 for none. */
+static inline uint16_t lin_table_refusal(uint32_t answer) { return (uint16_t)(answer >> 16); }
 
 #ifdef __cplusplus
 }

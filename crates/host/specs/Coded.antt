@@ -3,7 +3,7 @@ use Prim.Native.Nat.{ℕ, _+_, _*_}
 use mathlib.Core.Bool.{cond}
 use lib.Dec.{eqb}
 use Rattle.cluster.specs.declared.Verdict.{Verdict}
-use Rattle.cluster.specs.declared.Verdict.the-variants.{Accepted, Refused}
+use Rattle.cluster.specs.Answers.{verdictTold}
 use Rattle.wire.specs.Answers.{told}
 use Rattle.refusal.specs.Answers.{valueTold}
 use Rattle.wire.specs.declared.Answer.{Answer}
@@ -18,7 +18,6 @@ coded answer = valueTold (told answer) + 256 * told answer .number
 unfoldable pub wishOf : ℕ → Model
 wishOf n = cond (eqb n 0) Classic Enhanced
 
--- the position of a refused table; of an accepted one a number that is no position (CodedLaws, `position-refused`)
-unfoldable pub positionOf : Verdict → ℕ
-positionOf Accepted = 18446744073709551615
-positionOf (Refused refusal) = refusal .place
+-- the low sixteen bits are the position, those above them the refusal number of document 01; 0 is no refusal
+unfoldable pub tableCoded : Verdict → ℕ
+tableCoded verdict = verdictTold verdict .place + 65536 * verdictTold verdict .number

@@ -1,7 +1,7 @@
 // The entry points for a host written in C, on numbers and byte slices. c/linhost.h declares them.
 //
 // The calls of the wire answer one number: its low byte is the value, its next byte the refusal number of document 01, 0 for
-// none. The table check answers a position.
+// none. The table check answers one too: its low sixteen bits are the position, those above them the refusal number.
 use cluster::Verdict;
 use wire::Answer;
 use wire::checksum::Model;
@@ -9,7 +9,7 @@ ghost use mathlib.Core.Path.{_≡_};
 ghost use Rattle.wire.specs.Checksum.{checksumOf};
 ghost use Rattle.wire.specs.Identifier.{protectedOf, readOf};
 ghost use Rattle.cluster.specs.Check.{takenOf};
-ghost use Rattle.host.specs.Coded.{coded as codedOf, positionOf, wishOf};
+ghost use Rattle.host.specs.Coded.{coded as codedOf, tableCoded, wishOf};
 
 // Builds the protected identifier of an identifier.
 #[no_mangle]
@@ -39,14 +39,14 @@ pub extern "C" fn lin_checksum(id: u8, model: u8, data: &[u8]) -> u16
     }
 }
 
-// Checks a cluster table: the position of the first word that is wrong, missing or surplus, or 2^64 - 1 where it is accepted.
+// Checks a cluster table: the refusal number and the position of the first word that is wrong, missing or surplus, or 0 where it is accepted.
 #[no_mangle]
-pub extern "C" fn lin_check(table: &[u16]) -> usize
-    ensures { λ r. ⌜ r ≡ positionOf (takenOf (now (table .entry))) ⌝ }
+pub extern "C" fn lin_check(table: &[u16]) -> u32
+    ensures { λ r. ⌜ r ≡ tableCoded (takenOf (now (table .entry))) ⌝ }
 {
     match cluster::taken(table) {
-        Verdict::Accepted => 18446744073709551615,
-        Verdict::Refused(refusal) => refusal.place,
+        Verdict::Accepted => 0,
+        Verdict::Refused(refusal) => (refusal.place as u32) + 65536 * (refusal.number as u32),
     }
 }
 

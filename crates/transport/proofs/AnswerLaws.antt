@@ -25,10 +25,12 @@ count-told n r e = (e, rw e (whether (isLength n) (λ t. rw t) (λ t. rw t)))
 pub cut-told : (nad : ℕ) (m : List ℕ) (k : ℕ) (r : Cut) → r ≡ cutOf nad m k
     → (r ≡ cutOf nad m k) × (cutTold (r .answer) ≡ firstFailing (test 9 (isLength (length m)) ∷ []) [])
 unfolding cutOf firstFailing
-cut-told nad m k r e =
-    (e, rw e (whether (isLength (length m))
-    (λ t. whether (ltb k (messageFrames (length m))) (λ l. rw (t, l)) (λ l. rw (t, l)))
-    (λ t. rw t)))
+cut-told nad m k r e = (
+  e,
+  rw e (whether (isLength (length m))
+      (λ t. whether (ltb k (messageFrames (length m))) (λ l. rw (t, l)) (λ l. rw (t, l)))
+      (λ t. rw t)),
+)
 
 -- a frame that is neither refused nor ignored tells its values alone
 kind-accepts : (k : Kind) (s : Reassembly) (f : List ℕ) → takeTold (kindStep k s f .taken .answer) ≡ gives (takeTold (kindStep k s f .taken .answer) .values)

@@ -1,17 +1,36 @@
--- `host::lin_check` meets its contract, by cases of the verdict.
-use mathlib.Core.Path.{sym, _∙_}
+-- `host::lin_check` meets its contract, by cases of the verdict; a position is small enough for the low sixteen bits.
+use Prim.Native.Nat.{_≤_}
+use mathlib.Core.Path.{_≡_, sym, _∙_}
+use native.Mathlib.Omega.{arith}
 use borrow.Author.Needs.{needs}
-use Rattle.host.specs.Coded.{positionOf}
+use Rattle.cluster.specs.Check.{takenOf}
+use Rattle.cluster.specs.declared.Verdict.the-variants.{Refused}
+use Rattle.cluster.proofs.TakenLaws.{taken-high, taken-number}
+use Rattle.host.specs.Coded.{tableCoded}
 use Rattle.host.proofs.lin_check.Statement.{statement}
 use Rattle.host.proofs.lin_check.Tie as tie
 
+refused : (c : tie.After-refusal) → takenOf (c .before .before .before .before .args .table .now) ≡ Refused (c .refusal .given .0 .0)
+refused c = sym (c .before .before .taken .ensures .0) ∙ c .refusal .given .1
+
+cast-result : tie.Need-cast-result
+cast-result c = record { fits = omega (arith, taken-high _ _ (refused (c .before .before))) }
+
+add-result : tie.Need-add-result
+add-result c =
+    let r = refused (c .before .before .before) in
+    record { fits = omega (arith, taken-high _ _ r, taken-number _ _ r) }
+
 returns : tie.Need-returns
-unfolding positionOf
+unfolding tableCoded
 returns c = rw (sym (c .before .before .taken .ensures .0) ∙ c .enum-told .given .1)
 
 returns-2 : tie.Need-returns-2
-unfolding positionOf
-returns-2 c = rw (sym (c .before .before .before .taken .ensures .0) ∙ c .before .refusal .given .1)
+unfolding tableCoded
+returns-2 c = rw (refused (c .before .before .before))
 
 pub lin-check-spec : {M : Type 1} → statement M
-lin-check-spec = tie.close (tie.spec (λ c κs. search needs) (λ c. search needs) (λ c. search needs) returns returns-2)
+lin-check-spec =
+    tie.close
+    (tie.spec (λ c κs. search needs) (λ c. search needs) (λ c. search needs) cast-result (λ c. search needs) (λ c. search needs) add-result
+    returns returns-2)
