@@ -124,7 +124,7 @@ module _ (t : List ℕ) where
       × (entryKindWord e ≡ 2 → targetWord e ≡ 0)
       × (entryKindWord e ≡ 3 → targetWord e ≡ 0)
 
-  -- ---- the word at position p is right: whichever column it stands in
+  -- ---- the word at position p is right: what the paper says of the column that it stands in
 
   pub record RightAt (p : ℕ) : Type 0 where
     pub frames : p ≡ 0 → F ≤ 60
@@ -146,7 +146,17 @@ module _ (t : List ℕ) where
     pub target : (e : ℕ) → e < E → p ≡ 4 + 3 * F + 5 * S + 2 * M + 4 * e + 2 → TargetSays e
     pub delay : (e : ℕ) → e < E → p ≡ 4 + 3 * F + 5 * S + 2 * M + 4 * e + 3 → (1 ≤ delayWord e) × (delayWord e ≤ 65535)
 
+  -- a word that is due and there is wrong, one that is due is missing, one behind the last is surplus
+  abbrev pub Wrong : ℕ → Type 0
+  Wrong p = (p < wordsDue) × (p < length t) × (RightAt p → ⊥)
+
+  abbrev pub Missing : ℕ → Type 0
+  Missing p = (p < wordsDue) × (length t ≡ p)
+
+  abbrev pub Surplus : ℕ → Type 0
+  Surplus p = (p ≡ wordsDue) × (p < length t)
+
   -- "the position of the first word that is wrong, missing or surplus"
   pub record FirstWrong (p : ℕ) : Type 0 where
     pub before : (j : ℕ) → j < p → (j < length t) × (j < wordsDue) × RightAt j
-    pub there : ((p < wordsDue) × (p < length t) × (RightAt p → ⊥)) ⊎ ((p < wordsDue) × (length t ≡ p)) ⊎ ((p ≡ wordsDue) × (p < length t))
+    pub there : Wrong p ⊎ Missing p ⊎ Surplus p

@@ -18,7 +18,7 @@ use Rattle.cluster.proofs.ListLaws.{Each, each}
 use Rattle.cluster.proofs.ListWalk.{turn-in, turn-out}
 use Rattle.cluster.proofs.NextEntry.{next-behind, next-first}
 use Rattle.cluster.proofs.ScheduleLaws.{first-entry-least}
-use Rattle.cluster.proofs.Searching.{first-from, first-holds, first-before, first-least}
+use Rattle.cluster.proofs.Searching.{first-from, first-within, first-holds, first-before, first-least}
 
 -- a search finds a number exactly where it is the least, from k on, with the number looked for
 found-exactly : (number : ℕ → ℕ) (x k n d : ℕ) → d < k + n
@@ -38,6 +38,18 @@ found-exactly number x k n d b =
           (λ c. omega arith)),
     )
 
+-- and it ends behind the numbers exactly where none of them is the one looked for
+none-exactly : (number : ℕ → ℕ) (x k n : ℕ)
+    → (firstFrom (λ j. eqb (number j) x) k n ≡ k + n) ↔ ((j : ℕ) → k ≤ j → j < k + n → number j ≢ x)
+none-exactly number x k n =
+    let test : ℕ → Bool = (λ j. eqb (number j) x) in (
+      (λ e j a b. eqb-false (number j) x (first-before test k n j a (omega arith))),
+      (λ none.
+          order (firstFrom test k n) (k + n)
+          (λ b. absurd (none (firstFrom test k n) (first-from test k n) b (eqb-true (number (firstFrom test k n)) x (first-holds test k n b))))
+          (λ b. omega (arith, first-within test k n))),
+    )
+
 module _ (t : List ℕ) where
   -- ---- the entries of a schedule
 
@@ -52,6 +64,15 @@ module _ (t : List ℕ) where
       let found = found-exactly (scheduleWord t) n 0 (E t) d (omega arith) in (
         (λ e. let w = found .0 e in (b, w .1, λ c l. w .2 c (omega arith) l)),
         (λ w. found .1 (omega arith, w .1, λ c _ l. w .2 c l)),
+      )
+
+  -- where no entry has the number, the number of entries is told
+  pub first-entry-none : (n : ℕ) → (firstEntry t n ≡ E t) ↔ ((e : ℕ) → e < E t → scheduleWord t e ≢ n)
+  unfolding firstEntry entryCount entrySchedule frameCount signalCount memberCount word
+  first-entry-none n =
+      let none = none-exactly (scheduleWord t) n 0 (E t) in (
+        (λ h e b. none .0 (omega arith) e (omega arith) (omega arith)),
+        (λ h. omega (arith, none .1 (λ e _ b. h e (omega arith)))),
       )
 
   -- "the next entry follows, cyclically": the one behind where that has the same schedule number, otherwise the schedule's first
@@ -98,6 +119,15 @@ module _ (t : List ℕ) where
       → (nextMember t l m ≡ d) ↔ ((m ≤ d) × (listWord t d ≡ l) × ((k : ℕ) → m ≤ k → k < d → listWord t k ≢ l))
   unfolding nextMember memberCount memberList frameCount signalCount word
   next-member-exactly l m d b = found-exactly (listWord t) l m (M t - m) d (omega arith)
+
+  -- where there is none, the number of members is told
+  pub next-member-none : (l m : ℕ) → m ≤ M t → (nextMember t l m ≡ M t) ↔ ((k : ℕ) → m ≤ k → k < M t → listWord t k ≢ l)
+  unfolding nextMember memberCount memberList frameCount signalCount word
+  next-member-none l m b =
+      let none = none-exactly (listWord t) l m (M t - m) in (
+        (λ h k a c. none .0 (omega arith) k a (omega arith)),
+        (λ h. omega (arith, none .1 (λ k a c. h k a (omega arith)))),
+      )
 
   -- x is the frame of a member of list l and y that of a later one, from member m on and below n
   abbrev Ordered : ℕ → ℕ → ℕ → ℕ → ℕ → Type 0

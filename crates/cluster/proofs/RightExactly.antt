@@ -17,7 +17,7 @@ use Rattle.cluster.specs.Right.{wordsRight}
 use Rattle.cluster.specs.Table.{word, frameCount, signalCount, memberCount, entryCount, size}
 use Rattle.cluster.proofs.Accepted.{exact}
 use Rattle.cluster.proofs.FirstFault.{FirstFault, first-fault, words-right, all-right}
-use Rattle.cluster.proofs.InWords.{F, S, M, E, wordsDue, RightAt, FirstWrong}
+use Rattle.cluster.proofs.InWords.{F, S, M, E, wordsDue, RightAt, Wrong, Missing, Surplus, FirstWrong}
 use Rattle.cluster.proofs.WordsExactly.{Before}
 use Rattle.cluster.proofs.WordsExactly.{frames-word, signals-word, members-word, entries-word, identifier-word, length-word, flags-word}
 use Rattle.cluster.proofs.WordsExactly.{frame-word, kind-word, offset-word, width-word, start-word, list-word, member-word}
@@ -174,9 +174,7 @@ module _ (t : List ℕ) where
           → ((length t ≡ r .place) × (r .place < size t))
           ⊎ ((r .place < size t) × (getD (wordsRight t) (r .place) true ≡ false))
           ⊎ ((r .place ≡ size t) × (r .place < length t))
-          → ((r .place < wordsDue t) × (r .place < length t) × (RightAt t (r .place) → ⊥))
-          ⊎ ((r .place < wordsDue t) × (length t ≡ r .place))
-          ⊎ ((r .place ≡ wordsDue t) × (r .place < length t))
+          → Wrong t (r .place) ⊎ Missing t (r .place) ⊎ Surplus t (r .place)
       by before (inl m) = inr (inl (omega (arith, due-words), m .0))
       by before (inr (inr s)) = inr (inr (s .0 ∙ due-words, s .1))
       by before (inr (inl w)) =

@@ -15,10 +15,10 @@ slice-aggregate-write-2 : tie.Need-slice-aggregate-write-2
 slice-aggregate-write-2 c = sym (length-take-le _ (c .before .before .before .before .before .args .text .now) (omega (arith, c .before .before .before .before .before .pre .0)))
 
 slice-reshare-prefix-write-out : tie.Need-slice-reshare-prefix-write-out
-slice-reshare-prefix-write-out c = put-within _ _ _ _ _ _ _ (c .before .before .write .ensures)
+slice-reshare-prefix-write-out c = put-within _ _ _ _ _ _ _ (c .before .before .write .ensures .0)
 
 slice-aggregate-write-out : tie.Need-slice-aggregate-write-out
-slice-aggregate-write-out c = sym (length-take-le _ _ (put-within _ _ _ _ _ _ _ (c .before .before .before .write .ensures)))
+slice-aggregate-write-out c = sym (length-take-le _ _ (put-within _ _ _ _ _ _ _ (c .before .before .before .write .ensures .0)))
 
 slice-aggregate-keep : tie.Need-slice-aggregate-keep
 slice-aggregate-keep c = sym (length-take-le _ (c .before .before .before .before .before .before .before .before .before .before .before
@@ -36,7 +36,7 @@ returns c =
     omega (arith, length-take-le (start .args .n) (start .args .text .now) (start .pre .0), start .pre .1) in
     step (start .args .log) _ _ (take (start .args .n) (start .args .text .now)) (start .args .out .now) _ _ few
     (c .before .before .before .before .before .before .before .before .before .before .before .before .before .table .ensures)
-    (wrote .write .ensures) _ _ (c .before .before .before .before .wrapping-add-u64 .ensures) (c .before .before .keep .ensures)
+    (wrote .write .ensures .0) _ _ (c .before .before .before .before .wrapping-add-u64 .ensures) (c .before .before .keep .ensures)
 
 pub whole-lines-spec : {M : Type 1} → statement M
 whole-lines-spec =
