@@ -66,7 +66,7 @@ made begun (c ∷ text) =
 
 -- ---- and its lines are those that it is made of
 
-line-then : (begun l rest : List ℕ) → OneLine l → wholeLines begun (l ++ rest) ≡ wholeLines (begun ++ l) rest
+pub line-then : (begun l rest : List ℕ) → OneLine l → wholeLines begun (l ++ rest) ≡ wholeLines (begun ++ l) rest
 line-then begun [] rest h = rw append-nil
 line-then begun (c ∷ l) rest h =
     line-goes-on c (l ++ rest) begun (ne-eqb c 10 (h .0)) ∙ line-then (begun ++ (c ∷ [])) l rest (h .1) ∙ rw (append-snoc begun c l)

@@ -50,7 +50,7 @@ rest-append begun (c ∷ a) b =
     (λ e. rw (rest-goes-on c (a ++ b) begun e, rest-goes-on c a begun e) (rest-append (begun ++ (c ∷ [])) a b))
 
 -- what stands behind the whole lines is the line that is not whole
-left-over : (begun text : List ℕ) → drop (charactersOf (wholeLines begun text)) (begun ++ text) ≡ unfinished begun text
+pub left-over : (begun text : List ℕ) → drop (charactersOf (wholeLines begun text)) (begun ++ text) ≡ unfinished begun text
 unfolding wholeLines unfinished charactersOf
 left-over begun [] = append-nil begun
 left-over begun (c ∷ text) =

@@ -1,13 +1,20 @@
 -- A part of a log is reported and kept, and a last line is reported: the two equations of `inParts`.
 use Prim.Native.Nat.{ℕ, suc, _+_, _*_, _%_, _^_, _≤_, _<_}
 use mathlib.Core.Path.{_≡_, refl, sym, ap, _∙_}
-use mathlib.Core.Bool.{true, false}
+use mathlib.Core.Bool.{true, false, true≢false}
 use mathlib.Core.List.{List, [], _∷_, _++_, append-assoc}
 use native.Mathlib.Omega.{arith}
+use borrow.Author.Tests.{ltb-true}
 use native.Mathlib.Nat.{min-le-left}
+use lib.IntN.{ℤ, pos, negsuc}
 use lib.ListN.{length, take, drop, set, length-take, take-append-drop}
+use lib.Signed.{ltZ}
 use lib.Seq.{take-at, take-append-add, set-split, length-take-le}
-use Rattle.wire.proofs.Tests.{whether}
+use mir.Facts.{toZ-ofZ}
+use mir.Syntax.{w64}
+use mir.Val.{SFits, toZ, ofZ}
+use Rattle.io.specs.Counts.{clamped}
+use Rattle.libc.specs.Io.{Moved}
 use Rattle.signal.proofs.Inside.{order}
 use Rattle.buslog.specs.declared.report.Written.{Written}
 use Rattle.buslog.specs.Row.{longestRow}
@@ -17,7 +24,6 @@ use Rattle.buslog.proofs.Example.{built-in-taken}
 use Rattle.buslog.proofs.ReportLaws.{part-reported}
 use Rattle.buslog.proofs.PartLaws.{kept-line}
 use Rattle.linlog.specs.declared.Log.{Log}
-use Rattle.linlog.specs.declared.Reading.{Reading}
 use Rattle.linlog.specs.Part.{lineKept, Reports, ended, Ends, Fails, Goes, Turns}
 
 -- ---- one part
@@ -92,51 +98,66 @@ module _ (log r : Log) (text out : List ℕ) where
         over = e .1;
       }
 
--- ---- what a reading brings about, by its three cases
+-- ---- what a reading brings about, by its three answers
 
-module _ (log : Log) (reading : Reading) (text out : List ℕ) (r : Log) (textAfter outAfter : List ℕ) where
-  pub goes-failed : reading .failed ≡ true → Fails out r outAfter → Goes log reading text out r textAfter outAfter
-  goes-failed bad fails =
+-- a negative answer, as the machine reads it back from its bits
+pub negative : (z : ℤ) → SFits w64 z → ltZ (toZ w64 (ofZ w64 z)) (pos 0) ≡ true → (k : ℕ) × (z ≡ negsuc k)
+negative z fits e = by z (rw (toZ-ofZ fits) at e) where
+  by : (y : ℤ) → ltZ y (pos 0) ≡ true → (k : ℕ) × (y ≡ negsuc k)
+  by (pos n) h = let l = ltb-true n 0 h in absurd (omega arith)
+  by (negsuc k) h = (k, refl)
+
+-- what a reading may answer, as the machine reads it back
+pub moved-back : (z : ℤ) (a b : ℕ) → SFits w64 z → Moved a z → a ≡ b → Moved b (toZ w64 (ofZ w64 z))
+moved-back z a b fits m e = rw (toZ-ofZ fits, ← e) m
+
+-- any other answer of a reading into so many characters is their number
+pub counted : (z : ℤ) (most n m : ℕ) → SFits w64 z → Moved most z → ltZ (toZ w64 (ofZ w64 z)) (pos 0) ≡ false
+    → n ≡ clamped (toZ w64 (ofZ w64 z)) m → m ≡ most → z ≡ pos n
+counted z most n m fits moved e c same = by z moved (rw (toZ-ofZ fits) at e) (rw (toZ-ofZ fits, same) at c) where
+  by : (y : ℤ) → Moved most y → ltZ y (pos 0) ≡ false → n ≡ clamped y most → y ≡ pos n
+  by (pos k) l h q = ap pos (omega arith)
+  by (negsuc k) l h q = absurd (true≢false h)
+
+module _ (log : Log) (got : ℤ) (text out : List ℕ) (r : Log) (textAfter outAfter : List ℕ) where
+  pub goes-failed : (k : ℕ) → got ≡ negsuc k → Fails out r outAfter → Goes log got text out r textAfter outAfter
+  goes-failed k bad fails =
       record {
-        failed = λ _. fails;
-        over = λ good _. let z : _≡_ {A = ℕ} 0 1 = cc in absurd (omega arith);
-        came = λ good _. let z : _≡_ {A = ℕ} 0 1 = cc in absurd (omega arith);
+        failed = λ _ _. fails;
+        over = λ none. let z : _≡_ {A = ℕ} 0 1 = cc in absurd (omega arith);
+        came = λ n some _. let z : _≡_ {A = ℕ} 0 1 = cc in absurd (omega arith);
       }
 
-  pub goes-over : reading .failed ≡ false → reading .count ≡ 0 → Ends log (take (log .kept) text) out r outAfter
-      → Goes log reading text out r textAfter outAfter
-  goes-over good none ends =
+  pub goes-over : got ≡ pos 0 → Ends log (take (log .kept) text) out r outAfter → Goes log got text out r textAfter outAfter
+  goes-over none ends =
       record {
-        failed = λ bad. let z : _≡_ {A = ℕ} 0 1 = cc in absurd (omega arith);
-        over = λ _ _. ends;
-        came = λ _ some. absurd (omega arith);
+        failed = λ k bad. let z : _≡_ {A = ℕ} 0 1 = cc in absurd (omega arith);
+        over = λ _. ends;
+        came = λ n some h. let z : n ≡ 0 = cc in absurd (omega arith);
       }
 
-  pub goes-on : reading .failed ≡ false → 1 ≤ reading .count → log .kept ≤ length text
-      → Reports log (take (log .kept + reading .count) text) out r textAfter outAfter → Goes log reading text out r textAfter outAfter
-  goes-on good some h reports =
+  pub goes-on : (n : ℕ) → got ≡ pos n → 1 ≤ n → log .kept ≤ length text
+      → Reports log (take (log .kept + n) text) out r textAfter outAfter → Goes log got text out r textAfter outAfter
+  goes-on n some h within reports =
       record {
-        failed = λ bad. let z : _≡_ {A = ℕ} 0 1 = cc in absurd (omega arith);
-        over = λ _ none. absurd (omega arith);
-        came = λ _ _. rw (part-behind text (log .kept) (reading .count) h) at reports;
+        failed = λ k bad. let z : _≡_ {A = ℕ} 0 1 = cc in absurd (omega arith);
+        over = λ none. let z : n ≡ 0 = cc in absurd (omega arith);
+        came = λ m e _. let q : n ≡ m = cc in rw (part-behind text (log .kept) n within, q) at reports;
       }
 
 -- at most 30 characters are kept
 pub few-kept : (log : Log) (text out : List ℕ) (r : Log) (textAfter outAfter : List ℕ) → Turns log text out r textAfter outAfter → r .kept ≤ keptLength
 unfolding lineKept keptOf
-few-kept log text out r textAfter outAfter t =
-    whether
-    (t .reading .failed)
-    (λ bad. omega (arith, t .goes .failed bad .none-kept))
-    (λ good.
-    order
-    (t .reading .count)
-    1
-    (λ none. omega (arith, t .goes .over good (omega arith) .none-kept))
-    (λ some.
-    let part : List ℕ = take (log .kept) (t .now) ++ take (t .reading .count) (drop (log .kept) (t .now)) in
-    let rest : List ℕ = drop (charactersOf (wholeLines [] part)) part in
-    omega (arith, t .goes .came good some .kept, length-take keptLength rest, min-le-left keptLength (length rest))))
+few-kept log text out r textAfter outAfter t = by (t .got) refl where
+  by : (g : ℤ) → t .got ≡ g → r .kept ≤ keptLength
+  by (negsuc k) e = omega (arith, t .goes .failed k e .none-kept)
+  by (pos n) e =
+      order n 1
+      (λ none. let z : n ≡ 0 = omega arith in omega (arith, t .goes .over (rw z at e) .none-kept))
+      (λ some.
+      let part : List ℕ = take (log .kept) (t .now) ++ take n (drop (log .kept) (t .now)) in
+      let rest : List ℕ = drop (charactersOf (wholeLines [] part)) part in
+      omega (arith, t .goes .came n e some .kept, length-take keptLength rest, min-le-left keptLength (length rest)))
 
 -- of a text that was reported, what was kept is the last line of `inParts`
 ended-line : (u : List ℕ) → wholeLines [] (u ++ (10 ∷ [])) ≡ u ∷ [] → wholeLines [] (ended u) ≡ lastLine u

@@ -1,14 +1,16 @@
 -- A log in parts: what the program does with one part, and at the end of the input. These are the two equations of `inParts` (buslog, Report), by which a
 -- log in parts gives the report of the whole.
-use Prim.Native.Nat.{ℕ, _+_, _≤_, _%_, _^_}
+use Prim.Native.Nat.{ℕ, suc, _+_, _-_, _≤_, _%_, _^_}
 use mathlib.Core.Path.{_≡_}
 use mathlib.Core.Bool.{true, false}
 use mathlib.Core.List.{List, [], _∷_, _++_}
+use mathlib.Core.Logic.{_⊎_}
+use lib.IntN.{ℤ, pos, negsuc}
 use lib.ListN.{length, take, drop}
+use Rattle.libc.specs.Io.{Moved}
 use Rattle.buslog.specs.Lines.{wholeLines}
 use Rattle.buslog.specs.Report.{builtIn, rowsOf, charactersOf, fronted, keptOf}
 use Rattle.linlog.specs.declared.Log.{Log}
-use Rattle.linlog.specs.declared.Reading.{Reading}
 
 -- what is kept of a text: the line that is not whole yet
 unfoldable pub lineKept : List ℕ → List ℕ
@@ -39,17 +41,34 @@ pub record Fails (out : List ℕ) (r : Log) (outAfter : List ℕ) : Type 0 where
   pub none-kept : r .kept ≡ 0
   pub over : r .«goes_on» ≡ false
 
--- what a reading brings about, with nothing left open: a failed one ends all, one that brought nothing is the end of the input, and of any other the
--- characters stand behind what was kept, and are reported with it
-pub record Goes (log : Log) (reading : Reading) (text out : List ℕ) (r : Log) (textAfter outAfter : List ℕ) : Type 0 where
-  pub failed : reading .failed ≡ true → Fails out r outAfter
-  pub over : reading .failed ≡ false → reading .count ≡ 0 → Ends log (take (log .kept) text) out r outAfter
-  pub came : reading .failed ≡ false → 1 ≤ reading .count
-      → Reports log (take (log .kept) text ++ take (reading .count) (drop (log .kept) text)) out r textAfter outAfter
+-- what a reading brings about, by what it answered and by nothing else: a negative number is a failure, 0 is the end of the input, and of n characters
+-- the n that stand behind what was kept are reported with it
+pub record Goes (log : Log) (got : ℤ) (text out : List ℕ) (r : Log) (textAfter outAfter : List ℕ) : Type 0 where
+  pub failed : (k : ℕ) → got ≡ negsuc k → Fails out r outAfter
+  pub over : got ≡ pos 0 → Ends log (take (log .kept) text) out r outAfter
+  pub came : (n : ℕ) → got ≡ pos n → 1 ≤ n → Reports log (take (log .kept) text ++ take n (drop (log .kept) text)) out r textAfter outAfter
 
--- one turn: some reading left what was kept as it was, and what it brought was reported
+-- one turn: a reading left what was kept as it was, and what it answered was done
 pub record Turns (log : Log) (text out : List ℕ) (r : Log) (textAfter outAfter : List ℕ) : Type 0 where
-  pub reading : Reading
+  pub got : ℤ
+  pub moved : Moved (length text - log .kept) got
   pub now : List ℕ
   pub same : take (log .kept) now ≡ take (log .kept) text
-  pub goes : Goes log reading now out r textAfter outAfter
+  pub goes : Goes log got now out r textAfter outAfter
+
+-- before the first reading: "line number (decimal, from 1)", and nothing kept
+unfoldable pub started : Log
+started = record { number = 1; kept = 0; «goes_on» = true }
+
+-- n turns, one after the other, each from what the one before left, as long as it goes on
+pub data Ran (text out : List ℕ) : ℕ → Log → List ℕ → List ℕ → Type 0 where
+  none : Ran text out 0 started text out
+  turned : {n : ℕ} {log r : Log} {textNow outNow textAfter outAfter : List ℕ} → Ran text out n log textNow outNow → log .«goes_on» ≡ true
+      → Turns log textNow outNow r textAfter outAfter → Ran text out (suc n) r textAfter outAfter
+
+-- a run: turns from line 1 on until one ends it; no run uses up 2 ^ 64 - 1 of them
+pub record Runs (text out textAfter outAfter : List ℕ) : Type 0 where
+  pub turns : ℕ
+  pub last : Log
+  pub ran : Ran text out turns last textAfter outAfter
+  pub over : (last .«goes_on» ≡ false) ⊎ (turns ≡ 18446744073709551615)

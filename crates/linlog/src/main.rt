@@ -5,17 +5,12 @@ use libc::STDIN_FILENO;
 use libc::STDOUT_FILENO;
 ghost use mathlib.Core.Path.{_≡_};
 ghost use mathlib.Core.Bool.{false};
-ghost use Prim.Native.Nat.{_≤_, _<_, _+_, _*_};
+ghost use Prim.Native.Nat.{_≤_, _<_, _+_, _-_, _*_};
 ghost use lib.ListN.{length, take};
 ghost use Rattle.buslog.specs.Row.{header, longestRow};
 ghost use Rattle.buslog.specs.Report.{builtIn, keptLength};
-ghost use Rattle.linlog.specs.Part.{Reports, Ends, Goes, Turns};
-
-// What a reading brought: how many characters, or a failure.
-struct Reading {
-    count: usize,
-    failed: bool,
-}
+ghost use Rattle.libc.specs.Io.{Moved};
+ghost use Rattle.linlog.specs.Part.{started, Reports, Ends, Goes, Turns, Runs};
 
 // How far the log was reported.
 struct Log {
@@ -74,15 +69,23 @@ fn table() -> [u16; 7]
     [1, 0, 0, 0, 2, 1, 0]
 }
 
-// Nothing says that the input ends, so the turns count down from a number that no run uses up.
-fn run(text: &mut [u8], out: &mut [u8])
-    requires { ⌜ (keptLength < length (now text)) × (longestRow * length (now text) ≤ length (now out)) ⌝ }
+// The log before the first reading: the first line is line 1, and nothing was kept.
+fn started() -> Log
+    ensures { λ r. ⌜ r ≡ started ⌝ }
 {
-    let mut log = Log {
+    Log {
         number: 1,
         kept: 0,
         goes_on: true,
-    };
+    }
+}
+
+// Turn after turn, from line 1 on. Nothing says that the input ends, so the turns count down from a number that no run uses up.
+fn run(text: &mut [u8], out: &mut [u8])
+    requires { ⌜ (keptLength < length (now text)) × (longestRow * length (now text) ≤ length (now out)) ⌝ }
+    ensures { λ _. ⌜ Runs (now (text .entry)) (now (out .entry)) (now (text .exit)) (now (out .exit)) ⌝ }
+{
+    let mut log = started();
     let mut turns = u64::MAX;
     while turns > 0 && log.goes_on {
         log = turn(log, text, out);
@@ -90,45 +93,32 @@ fn run(text: &mut [u8], out: &mut [u8])
     }
 }
 
-// Reads once behind what was kept, and reports what the reading brought.
+// Reads once behind what was kept, and does what the answer of that reading says.
 fn turn(log: Log, text: &mut [u8], out: &mut [u8]) -> Log
     requires { ⌜ (log .kept < length (now text)) × (longestRow * length (now text) ≤ length (now out)) ⌝ }
     ensures { λ r. ⌜ Turns log (now (text .entry)) (now (out .entry)) r (now (text .exit)) (now (out .exit)) ⌝ }
 {
     let kept = log.kept;
-    let reading = read_some(&mut text[kept..]);
-    part(log, text, reading, out)
+    let got = libc::read(STDIN_FILENO, &mut text[kept..]);
+    part(log, text, got, out)
 }
 
-// Reports the lines that are whole after a reading, the last line where it brought nothing, and nothing more where it failed.
-fn part(log: Log, text: &mut [u8], reading: Reading, out: &mut [u8]) -> Log
-    requires { ⌜ (log .kept < length (now text)) × (log .kept + reading .count ≤ length (now text)) × (longestRow * length (now text) ≤ length (now out)) ⌝ }
-    ensures { λ r. ⌜ Goes log reading (now (text .entry)) (now (out .entry)) r (now (text .exit)) (now (out .exit)) ⌝ }
+// What a reading brings about, by what it answered: a negative number is a failure, told on standard error, and nothing more is
+// reported; 0 is the end, where the last line is reported; and n characters go behind what was kept, and their whole lines are.
+fn part(log: Log, text: &mut [u8], got: isize, out: &mut [u8]) -> Log
+    requires { ⌜ (log .kept < length (now text)) × Moved (length (now text) - log .kept) got × (longestRow * length (now text) ≤ length (now out)) ⌝ }
+    ensures { λ r. ⌜ Goes log got (now (text .entry)) (now (out .entry)) r (now (text .exit)) (now (out .exit)) ⌝ }
 {
     let kept = log.kept;
-    let more = reading.count;
-    if reading.failed {
+    if got < 0 {
+        os::fail(b"linlog: standard input");
         return ended(log);
     }
+    let more = io::count(got, &text[kept..]);
     if more == 0 {
         return last(log, text, out);
     }
     whole_lines(log, text, kept + more, out)
-}
-
-// Reads once, and tells how many characters came; a failure is told on standard error.
-fn read_some(text: &mut [u8]) -> Reading
-    ensures { λ r. ⌜ r .count ≤ length (now (text .entry)) ⌝ }
-{
-    let got = libc::read(STDIN_FILENO, text);
-    let failed = got < 0;
-    if failed {
-        os::fail(b"linlog: standard input");
-    }
-    Reading {
-        count: io::count(got, text),
-        failed,
-    }
 }
 
 // Reports a last line that lacks its newline, if there is one.
