@@ -113,7 +113,7 @@ module _ (t : List ℕ) where
 
 -- ---- what an entry opens
 
-sends-message : (x : Message) → isSending x ≡ true → (y : Sending) × (x ≡ message.Sending y)
+pub sends-message : (x : Message) → isSending x ≡ true → (y : Sending) × (x ≡ message.Sending y)
 sends-message message.None h = never h
 sends-message (message.Sending y) h = (y, refl)
 sends-message message.Completed h = never h

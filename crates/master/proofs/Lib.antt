@@ -29,6 +29,7 @@ pub mod StatusKept
 pub mod StepLaws
 pub mod StatusLaws
 pub mod Tests
+pub mod TickExactly
 pub mod ToldLaws
 pub mod Verdicts
 pub mod Walks
