@@ -10,13 +10,17 @@ use lib.Dec.{eqb, ltb}
 use lib.ListN.{length, getD}
 use Rattle.wire.proofs.Tests.{whether}
 use Rattle.signal.proofs.Inside.{order}
+use Rattle.wire.specs.Bits.{bit}
+use Rattle.wire.specs.declared.checksum.Model.the-variants.{Enhanced}
+use Rattle.cluster.specs.Table as table
+use Rattle.cluster.specs.Table.{frameCount, identifier, frameLength, frameModel, signalCount, memberCount, entryCount}
 use Rattle.buslog.specs.declared.judge.Verdict.{Verdict}
 use Rattle.buslog.specs.declared.judge.Verdict.the-variants.{Text, Parity, Unknown, Length, Checksum, Ok}
-use Rattle.buslog.specs.Pairs.{digitCharacter, pairOf}
+use Rattle.buslog.specs.Pairs.{digitCharacter, pairOf, spelled}
 use Rattle.buslog.specs.Verdict.{lineVerdict}
 use Rattle.buslog.specs.Row.{digitsOf, decimalOf, shownIdentifier, word, rowOf, header}
 use Rattle.buslog.specs.Lines.{logLines}
-use Rattle.buslog.specs.Report.{rowsOf, reportOf}
+use Rattle.buslog.specs.Report.{builtIn, rowsOf, reportOf}
 use Rattle.buslog.proofs.Decimal.{no-digits, one-digit, decimal}
 
 -- ---- a number in decimal
@@ -107,6 +111,11 @@ pub identifier-shown : (id : ℕ) → (shownIdentifier (Unknown id) ≡ pairOf i
 unfolding shownIdentifier
 identifier-shown id = (refl, refl, refl, refl)
 
+-- bytes are spelled as such pairs, with one space between
+pub spelled-exactly : (b c : ℕ) (bs : List ℕ) → (spelled (b ∷ []) ≡ pairOf b) × (spelled (b ∷ c ∷ bs) ≡ pairOf b ++ (32 ∷ spelled (c ∷ bs)))
+unfolding spelled
+spelled-exactly b c bs = (refl, refl)
+
 -- no pair is two dashes
 no-dashes : (id : ℕ) → pairOf id ≡ 45 ∷ 45 ∷ [] → ⊥
 no-dashes id e =
@@ -144,6 +153,12 @@ words id = (refl, refl, refl, refl, refl, refl)
 pub header-is : header ≡ 108 ∷ 105 ∷ 110 ∷ 101 ∷ 32 ∷ 105 ∷ 100 ∷ 32 ∷ 118 ∷ 101 ∷ 114 ∷ 100 ∷ 105 ∷ 99 ∷ 116 ∷ 10 ∷ []
 unfolding header
 header-is = refl
+
+-- "Its built-in table has one frame: identifier 2, length 1, enhanced", and no signals, members and entries
+pub built-in-exactly : (frameCount builtIn ≡ 1) × (identifier builtIn 0 ≡ 2) × (frameLength builtIn 0 ≡ 1) × (frameModel builtIn 0 ≡ Enhanced)
+    × (signalCount builtIn ≡ 0) × (memberCount builtIn ≡ 0) × (entryCount builtIn ≡ 0)
+unfolding builtIn table.word frameCount identifier frameLength table.flags table.classic bit signalCount memberCount entryCount
+built-in-exactly = (refl, refl, refl, refl, refl, refl, refl)
 
 -- ---- the rows
 

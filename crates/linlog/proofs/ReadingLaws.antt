@@ -1,16 +1,19 @@
 -- What is done after a reading, by the number that it answered: each answer with the rows that it puts and with what it keeps.
-use Prim.Native.Nat.{ℕ, _+_, _%_, _^_, _≤_}
+use Prim.Native.Nat.{ℕ, suc, _+_, _-_, _%_, _^_, _≤_}
 use mathlib.Core.Path.{_≡_, refl, ap, _∙_}
 use mathlib.Core.Bool.{true, false}
 use mathlib.Core.List.{List, [], _∷_, _++_}
-use lib.IntN.{pos, negsuc}
+use mathlib.Core.Logic.{_↔_, _⊎_}
+use native.Mathlib.Omega.{arith}
+use lib.IntN.{ℤ, pos, negsuc}
 use lib.ListN.{length, take, drop}
+use Rattle.libc.specs.Io.{Moved}
 use Rattle.buslog.specs.Lines.{wholeLines, unfinished, lastLine}
 use Rattle.buslog.specs.Report.{builtIn, rowsOf, fronted, keptOf}
 use Rattle.buslog.proofs.LinesExactly.{OneLine, line-then}
 use Rattle.buslog.proofs.PartLaws.{left-over}
 use Rattle.linlog.specs.declared.Log.{Log}
-use Rattle.linlog.specs.Part.{lineKept, ended, Goes, started}
+use Rattle.linlog.specs.Part.{lineKept, ended, Goes, Turns, started, Ran, none, turned, Runs}
 
 -- the first line is line 1, and nothing was kept before it
 pub starts-at-1 : (started .number ≡ 1) × (started .kept ≡ 0) × (started .«goes_on» ≡ true)
@@ -44,3 +47,52 @@ module _ (log : Log) (text out : List ℕ) (r : Log) (textAfter outAfter : List 
       let c = g .came n refl h in
       let part = take (log .kept) text ++ take n (drop (log .kept) text) in
       (c .rows, c .number, c .left ∙ ap (take 30) (left-over [] part))
+
+-- ---- a run, turn by turn
+
+-- one turn is what some answer of a reading brings about, and what was kept stays before what was read
+pub turn-exactly : (log : Log) (text out : List ℕ) (r : Log) (textAfter outAfter : List ℕ) → Turns log text out r textAfter outAfter
+    ↔ ((got : ℤ) × (now : List ℕ) × Moved (length text - log .kept) got × (take (log .kept) now ≡ take (log .kept) text)
+    × Goes log got now out r textAfter outAfter)
+turn-exactly log text out r textAfter outAfter = (
+  (λ t. (t .got, t .now, t .moved, t .same, t .goes)),
+  (λ h. record { got = h .0; now = h .1; moved = h .2; same = h .3; goes = h .4 }),
+)
+
+is-started : (log : Log) → (log ≡ started) ↔ ((log .number ≡ 1) × (log .kept ≡ 0) × (log .«goes_on» ≡ true))
+unfolding started
+is-started log = ((λ e. rw e (refl, refl, refl)), (λ h. rw (← (h .0), ← (h .1), ← (h .2))))
+
+module _ (text out : List ℕ) where
+  before-turns : {k : ℕ} {log : Log} {textNow outNow : List ℕ} → Ran text out k log textNow outNow → k ≡ 0
+      → (log ≡ started) × (textNow ≡ text) × (outNow ≡ out)
+  before-turns none e = (refl, refl, refl)
+  before-turns (turned r g t) e = absurd (omega arith)
+
+  last-turn : {k : ℕ} {r : Log} {textAfter outAfter : List ℕ} → Ran text out k r textAfter outAfter → (n : ℕ) → k ≡ suc n
+      → (log : Log) × (textNow outNow : List ℕ) × Ran text out n log textNow outNow × (log .«goes_on» ≡ true)
+      × Turns log textNow outNow r textAfter outAfter
+  last-turn none n e = absurd (omega arith)
+  last-turn (turned {n = m} {log = l} {textNow = x} {outNow = y} r g t) n e = let q : m ≡ n = omega arith in (l, x, y, rw q at r, g, t)
+
+  -- no turn yet: the first line is line 1, nothing was kept, and the buffers are as they were
+  pub no-turn : (log : Log) (textNow outNow : List ℕ) → Ran text out 0 log textNow outNow
+      ↔ ((log .number ≡ 1) × (log .kept ≡ 0) × (log .«goes_on» ≡ true) × (textNow ≡ text) × (outNow ≡ out))
+  no-turn log textNow outNow = (
+    (λ r. let h = before-turns r refl in let s = is-started log .0 (h .0) in (s .0, s .1, s .2, h .1, h .2)),
+    (λ h. rw (is-started log .1 (h .0, h .1, h .2), h .3, h .4) none),
+  )
+
+  -- one turn more: from what the turns before it left, which goes on
+  pub next-turn : (n : ℕ) (r : Log) (textAfter outAfter : List ℕ) → Ran text out (suc n) r textAfter outAfter
+      ↔ ((log : Log) × (textNow outNow : List ℕ) × Ran text out n log textNow outNow × (log .«goes_on» ≡ true)
+      × Turns log textNow outNow r textAfter outAfter)
+  next-turn n r textAfter outAfter = ((λ h. last-turn h n refl), (λ h. turned (h .3) (h .4) (h .5)))
+
+  -- a run is over where a turn ended it; 18,446,744,073,709,551,615 turns are more than any run has
+  pub run-exactly : (textAfter outAfter : List ℕ) → Runs text out textAfter outAfter
+      ↔ ((n : ℕ) × (last : Log) × Ran text out n last textAfter outAfter × ((last .«goes_on» ≡ false) ⊎ (n ≡ 18446744073709551615)))
+  run-exactly textAfter outAfter = (
+    (λ h. (h .turns, h .last, h .ran, h .over)),
+    (λ h. record { turns = h .0; last = h .1; ran = h .2; over = h .3 }),
+  )
