@@ -5,6 +5,8 @@ use mathlib.Core.Path.{_≡_, refl}
 use mathlib.Core.Logic.{_↔_}
 use mathlib.Core.List.{List}
 use native.Mathlib.Omega.{arith}
+use borrow.Author.Tests.{eqb-true, eq-eqb}
+use lib.Dec.{eqb}
 use Rattle.refusal.specs.declared.Refusal.{Refusal}
 use Rattle.cluster.specs.Check.{judged, takenOf}
 use Rattle.cluster.specs.declared.Verdict.{Verdict}
@@ -14,7 +16,9 @@ use Rattle.cluster.proofs.TakenLaws.{taken-right, right-taken, taken-refused, t
 use Rattle.wire.specs.Answers.{told}
 use Rattle.refusal.specs.Answers.{valueTold}
 use Rattle.wire.specs.declared.Answer.{Answer}
-use Rattle.host.specs.Coded.{coded, tableCoded}
+use Rattle.wire.specs.declared.checksum.Model.the-variants.{Classic, Enhanced}
+use Rattle.wire.proofs.Tests.{whether}
+use Rattle.host.specs.Coded.{coded, tableCoded, wishOf}
 
 pub coded-value : (answer : Answer) → valueTold (told answer) < 256 → coded answer % 256 ≡ valueTold (told answer)
 unfolding coded
@@ -43,3 +47,11 @@ table-accepted t = (by (takenOf t) refl, λ h. rw (right-taken t h))
         let n = first-fault t r (taken-refused t r .0 e) .number in
         let z : tableCoded (Refused r) ≡ 0 = rw e at h in
         absurd (omega arith)
+
+-- 0 wishes for classic, and every other number for enhanced
+pub wish-exactly : (n : ℕ) → (wishOf n ≡ Classic) ↔ (n ≡ 0)
+unfolding wishOf
+wish-exactly n = (
+  (λ h. whether (eqb n 0) (eqb-true n 0) (λ q. let e : Enhanced ≡ Classic = rw q at h in let z : _≡_ {A = ℕ} 0 1 = cc in absurd (omega arith))),
+  (λ h. rw (eq-eqb n 0 h)),
+)
