@@ -1,8 +1,8 @@
 -- Document 01, refusal 3: a state fits a table if and only if the paper's clauses hold, each said without the tests of specs/Fits.
 use Prim.Native.Nat.{ℕ, zero, suc, _+_, _-_, _*_, _≤_, _<_}
-use mathlib.Core.Path.{_≡_, refl, sym, _∙_}
+use mathlib.Core.Path.{_≡_, refl}
 use mathlib.Core.Logic.{_↔_, _⊎_, inl, inr, ⊎-elim}
-use mathlib.Core.Bool.{Bool, true, false, _&&_}
+use mathlib.Core.Bool.{Bool, true, false}
 use mathlib.Core.List.{List, [], _∷_}
 use native.Mathlib.Omega.{arith}
 use lib.Dec.{eqb, leb, ltb}
@@ -24,7 +24,6 @@ use Rattle.master.specs.declared.state.Requested.{Requested}
 use Rattle.master.specs.declared.state.Requested.the-variants as requested
 use Rattle.master.specs.declared.state.Opened.{Opened}
 use Rattle.master.specs.declared.state.Opened.the-variants.{Nothing, Frame, Request, Response}
-use Rattle.master.specs.declared.state.Transfer.{Transfer}
 use Rattle.master.specs.declared.state.Sending.{Sending}
 use Rattle.master.specs.declared.state.Message.{Message}
 use Rattle.master.specs.declared.state.Message.the-variants as message

@@ -2,6 +2,7 @@ pub mod Admitted
 pub mod AheadLaws
 pub mod Answered
 pub mod Bits
+pub mod ByteExactly
 pub mod ByteLaws
 pub mod Cases
 pub mod Counted
@@ -23,6 +24,9 @@ pub mod PendingLaws
 pub mod PendingLength
 pub mod ReadBack
 pub mod StartLaws
+pub mod RowCalls
+pub mod Rows
+pub mod RowTests
 pub mod SlotFits
 pub mod SlotOpens
 pub mod StatusKept

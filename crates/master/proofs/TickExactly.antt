@@ -24,7 +24,7 @@ use Rattle.master.specs.declared.state.Message.{Message}
 use Rattle.master.specs.declared.state.Message.the-variants as message
 use Rattle.master.specs.declared.state.State.{State}
 use Rattle.master.specs.declared.tick.TickAnswer.{TickAnswer}
-use Rattle.master.specs.declared.tick.TickAnswer.the-variants.{Waiting, Idle, Silent, Opened as Opens, Refused}
+use Rattle.master.specs.declared.tick.TickAnswer.the-variants.{Waiting, Idle, Silent, Opened as Opens}
 use Rattle.master.specs.declared.tick.Ticked.{Ticked}
 use Rattle.master.specs.Fits.{isSending}
 use Rattle.master.specs.Transfers.{isOpen, formatOf, openProtected, opening}

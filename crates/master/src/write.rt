@@ -50,7 +50,9 @@ impl State {
     // Writes an array and marks its frame as written.
     pub fn write_array(self, t: &[u16], bytes: &mut [u8], s: u16, values: &[u8]) -> Wrote
         ensures { λ r. ⌜ Leaves (writeOf (now (t .entry)) self (now (bytes .entry)) (put s (array (now (values .entry))))) r (now (bytes .exit)) ⌝ }
-        ensures told { λ r. ⌜ writeTold (r .answer) ≡ callTold (now (t .entry)) (held self (now (bytes .entry))) (call.write (put s (array (now (values .entry))))) ⌝ }
+        ensures told { λ r. ⌜
+            writeTold (r .answer) ≡ callTold (now (t .entry)) (held self (now (bytes .entry))) (call.write (put s (array (now (values .entry)))))
+            ⌝ }
     {
         if let Verdict::Refused(refusal) = self.judge_array(t, bytes.len(), s, values) {
             return self.not_written(refusal);

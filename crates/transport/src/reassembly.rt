@@ -120,7 +120,10 @@ impl Reassembly {
     // Takes a frame: the bytes that it delivers go into the buffer, directly behind those before them.
     pub fn take(self, frame: &[u8], buffer: &mut [u8]) -> Taken
         ensures { λ r. ⌜ Leaves (step self (now (frame .entry)) (now (buffer .entry))) (now (buffer .entry)) r (now (buffer .exit)) ⌝ }
-        ensures told { λ r. ⌜ takeTold (r .answer) ≡ firstFailing (takeTests self (now (frame .entry)) (now (buffer .entry))) (takeValues self (now (frame .entry)) (now (buffer .entry))) ⌝ }
+        ensures told { λ r. ⌜
+            takeTold (r .answer)
+            ≡ firstFailing (takeTests self (now (frame .entry)) (now (buffer .entry))) (takeValues self (now (frame .entry)) (now (buffer .entry)))
+            ⌝ }
     {
         if !self.fits() {
             return self.refused(Refusal::STATE);

@@ -1,5 +1,4 @@
 -- `host::lin_check` meets its contract, by cases of the verdict; a position is small enough for the low sixteen bits.
-use Prim.Native.Nat.{_≤_}
 use mathlib.Core.Path.{_≡_, sym, _∙_}
 use native.Mathlib.Omega.{arith}
 use borrow.Author.Needs.{needs}

@@ -1,17 +1,17 @@
 -- In every history a published signal reads as its last accepted write left it, or as its start value.
-use Prim.Native.Nat.{ℕ, _+_, _-_, _*_, _/_, _%_, _<_}
-use mathlib.Core.Path.{_≡_, refl, sym, _∙_, ap}
-use mathlib.Core.Bool.{Bool, true, false, cond, Bool·beq}
-use mathlib.Core.List.{List, _++_}
+use Prim.Native.Nat.{ℕ, _+_, _-_, _*_, _/_, _<_}
+use mathlib.Core.Path.{_≡_, refl, sym, _∙_}
+use mathlib.Core.Bool.{Bool, true, false, cond}
+use mathlib.Core.List.{List}
 use native.Mathlib.Decide.{ℕ-discrete}
 use native.Mathlib.Omega.{arith}
 use borrow.Author.Tests.{lt-ltb, eq-eqb, ne-eqb, eqb-true}
 use lib.Dec.{ltb, eqb}
-use lib.ListN.{length, getD, replicate, length-replicate}
+use lib.ListN.{length, replicate, length-replicate}
 use Rattle.wire.specs.Bits.{Bytes}
 use Rattle.signal.specs.Signal.{bitAt}
 use Rattle.cluster.specs.Check.{RightTable}
-use Rattle.cluster.specs.Table.{frameCount, signalCount, published, signalFrame, isArray, signalWidth, signalStart}
+use Rattle.cluster.specs.Table.{frameCount, signalCount, signalFrame, isArray, signalWidth, signalStart}
 use Rattle.cluster.specs.Places.{signalPlace, occupies}
 use Rattle.cluster.specs.Fresh.{arrayLength, freshBytes}
 use Rattle.cluster.specs.Values.{signalPublished, arrayFits, scalarValue, arrayValue, arrayRead}

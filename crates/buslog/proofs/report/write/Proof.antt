@@ -15,7 +15,9 @@ returns : tie.Need-returns
 returns c = report-told _ _ _ _ _ _ _ (refuses _ _ _ _ _ (sym (c .before .before .before .taken .ensures .0) ∙ c .before .refusal .given .1))
 
 returns-2 : tie.Need-returns-2
-returns-2 c = report-told _ _ _ _ _ _ _ (accepts _ _ _ _ (sym (c .before .before .before .before .before .before .taken .ensures .0) ∙ c .before .before .before .before .enum-told .given .1) (c .before .before .rows .ensures))
+returns-2 c =
+    let d = c .before .before .before .before in
+    report-told _ _ _ _ _ _ _ (accepts _ _ _ _ (sym (d .before .before .taken .ensures .0) ∙ d .enum-told .given .1) (c .before .before .rows .ensures))
 
 pub write-spec : {M : Type 1} → statement M
 write-spec =

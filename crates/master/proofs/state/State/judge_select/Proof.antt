@@ -16,7 +16,8 @@ unfolding selectVerdict
 returns-2 c =
     let buffer-size = c .before .before .before .before .before .before .buffer-size in
     let admit = c .before .before .before .before .before .admit in
-    rw (← buffer-size .ensures, ← admit .ensures .0, c .before .before .before .enum-told .given .1, ← c .before .before .schedules .ensures .0, le-ltb _ _ (c .before .if1 .taken), c .refused .ensures)
+    let accepted = c .before .before .before .enum-told .given .1 in
+    rw (← buffer-size .ensures, ← admit .ensures .0, accepted, ← c .before .before .schedules .ensures .0, le-ltb _ _ (c .before .if1 .taken), c .refused .ensures)
 
 returns-3 : tie.Need-returns-3
 unfolding selectVerdict

@@ -23,7 +23,8 @@ unfolding sendVerdict
 returns-3 c =
     let buffer-size = c .before .before .before .before .before .before .buffer-size in
     let admit = c .before .before .before .before .before .admit in
-    rw (← buffer-size .ensures, ← admit .ensures .0, c .before .before .before .enum-told .given .1, le-leb _ _ (c .before .before .if1 .left), lt-leb _ _ (c .before .if2 .taken), c .refused2 .ensures)
+    let accepted = c .before .before .before .enum-told .given .1 in
+    rw (← buffer-size .ensures, ← admit .ensures .0, accepted, le-leb _ _ (c .before .before .if1 .left), lt-leb _ _ (c .before .if2 .taken), c .refused2 .ensures)
 
 returns-4 : tie.Need-returns-4
 unfolding sendVerdict

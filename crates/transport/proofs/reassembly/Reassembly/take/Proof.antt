@@ -12,7 +12,9 @@ returns : tie.Need-returns
 returns c = take-told _ _ _ _ _ (leaves-plain _ _ _ _ _ (step-unfit _ _ _ (sym (c .before .before .fits2 .ensures) ∙ not-true _ (c .before .if1 .taken))) (c .refused .ensures))
 
 returns-2 : tie.Need-returns-2
-returns-2 c = take-told _ _ _ _ _ (leaves-plain _ _ _ _ _ (step-length _ _ _ (sym (c .before .before .before .fits2 .ensures) ∙ not-false _ (c .before .before .if1 .left)) (c .before .if2 .taken)) (c .refused2 .ensures))
+returns-2 c =
+    let fit = sym (c .before .before .before .fits2 .ensures) ∙ not-false _ (c .before .before .if1 .left) in
+    take-told _ _ _ _ _ (leaves-plain _ _ _ _ _ (step-length _ _ _ fit (c .before .if2 .taken)) (c .refused2 .ensures))
 
 returns-3 : tie.Need-returns-3
 returns-3 c =
