@@ -3,7 +3,7 @@
 use Prim.Native.Nat.{ℕ}
 use mathlib.Core.Path.{_≡_, refl, sym, _∙_, ap}
 use mathlib.Core.Logic.{_↔_}
-use mathlib.Core.Bool.{Bool, true, false}
+use mathlib.Core.Bool.{Bool, true, false, cond}
 use mathlib.Core.List.{List, []}
 use native.Mathlib.Omega.{arith}
 use borrow.Author.Tests.{ltb-true}
@@ -34,9 +34,10 @@ use Rattle.master.specs.declared.byte.ByteAnswer.the-variants as byte
 use Rattle.master.specs.declared.send.Sent.{Sent}
 use Rattle.master.specs.declared.send.MessageAnswer.the-variants as tells
 use Rattle.master.specs.Fits.{stateFits}
+use Rattle.master.specs.Transfers.{opening}
 use Rattle.master.specs.Admit.{Step, admitted, answered, bufferSize}
 use Rattle.master.specs.Answers.{readTold, writeTold, arrayTold, selectTold, tickTold, byteTold, statusTold, sendTold, messageTold, aheadTold}
-use Rattle.master.specs.Told.{toldAs, valuesOf}
+use Rattle.master.specs.Told.{toldAs, openedValue, valuesOf}
 use Rattle.master.specs.Write.{marked, writeVerdict, writeOf}
 use Rattle.master.specs.Read.{readVerdict, readScalarOf, readArrayOf}
 use Rattle.master.specs.Select.{selectVerdict, selectOf}
@@ -54,7 +55,8 @@ use Rattle.master.proofs.Admitted.{unless-test, admitted-table, admitte
 use Rattle.master.proofs.Answered.{by-verdict, writable-signal}
 use Rattle.master.proofs.Cases.{ticked-by, taken-by, accepted-state}
 use Rattle.master.proofs.FitsKept.{marked-fits, asking-fits, status-fits, send-fits}
-use Rattle.master.proofs.SlotFits.{ticked-fits}
+use Rattle.master.proofs.SlotFits.{abandoned-nothing, ticked-fits}
+use Rattle.master.specs.Plan.{waits}
 use Rattle.master.proofs.Keeps.{taken-fits}
 use Rattle.master.proofs.Lengths.{taken-length}
 use Rattle.master.proofs.PendingLength.{ticked-pending, marked-length, sent-length}
@@ -193,15 +195,15 @@ message-told Completed = refl
 message-told Failed = refl
 
 pub verdict-told : (t : List ℕ) (x : Held) (c : Call) → toldOf c (answerOf t x c) ≡ toldAs (verdictOf t x c) (valuesOf t x c)
-unfolding toldOf answerOf verdictOf valuesOf writeOf readScalarOf readArrayOf selectOf tickOf byteOf statusOf sendOf messageOf aheadOf
+unfolding toldOf answerOf verdictOf valuesOf opening writeOf readScalarOf readArrayOf selectOf tickOf byteOf statusOf sendOf messageOf aheadOf
 verdict-told t x (call.write w) = telling (λ (z : Step Wrote). writeTold (z .given .answer)) (writeVerdict t (length (x .bytes)) (x .state) w) _ _ _ (λ r. refl) refl
 verdict-told t x (call.read s) = telling readTold (readVerdict t (length (x .bytes)) (x .state) s false) _ _ _ (λ r. refl) refl
 verdict-told t x (call.readArray s) = telling (λ (z : ReadArray). arrayTold (z .answer)) (readVerdict t (length (x .bytes)) (x .state) s true) _ _ _ (λ r. refl) refl
 verdict-told t x (call.select n) = telling (λ (z : Chosen). selectTold (z .answer)) (selectVerdict t (x .state) n) _ _ _ (λ r. refl) refl
 verdict-told t x (call.tick m) =
     telling (λ (z : Ticked). tickTold (z .answer)) (tickVerdict t (length (x .bytes)) (length m) (x .state)) _ _ _ (λ r. refl)
-    (ticked-by t (x .bytes) m (λ w. tickTold (w .answer) ≡ gives (tickTold (w .answer) .values)) (x .state) (λ y. refl) (λ n c. refl) (λ e n c q. refl)
-    (λ e o n c p y. refl))
+    (ticked-by t (x .bytes) m (λ w. tickTold (w .answer) ≡ gives (cond (waits (x .state .plan)) [] (openedValue t (w .state .transfer .opened)))) (x .state)
+    (λ y. rw y) (λ n c. rw (n, abandoned-nothing t (x .state))) (λ e n c q. rw (n, abandoned-nothing t (x .state))) (λ e o n c p y. rw (n, y)))
 verdict-told t x (call.byteIn b) =
     telling (λ (z : Step Took). byteTold (z .given .answer)) (byteVerdict t (length (x .bytes)) (x .state)) _ _ _ (λ r. refl)
     (taken-by t (x .state) (x .bytes) b (λ w. byteTold (w .given .answer) ≡ gives []) (λ nine e. refl) refl (λ y. refl)

@@ -1,7 +1,7 @@
 -- Document 01, "Refusal numbers": what each call tells. "Each call tests those that concern it; the lowest number is given."; where every test holds, its
 -- values. Every public call has a clause that says so by these definitions.
 use Prim.Native.Nat.{ℕ, _*_}
-use mathlib.Core.Bool.{true, false, not, Bool·beq}
+use mathlib.Core.Bool.{true, false, cond, not, Bool·beq}
 use mathlib.Core.List.{List, [], _∷_}
 use lib.Dec.{ltb, eqb}
 use lib.ListN.{length}
@@ -16,12 +16,13 @@ use Rattle.cluster.specs.Values.{signalPublished, scalarValue, arrayRead}
 use Rattle.transport.specs.Cutting.{isLength}
 use Rattle.master.specs.declared.state.State.{State}
 use Rattle.master.specs.Fits.{stateFits, isSending, lentFits}
-use Rattle.master.specs.Transfers.{isOpen}
+use Rattle.master.specs.declared.state.Opened.{Opened}
+use Rattle.master.specs.Transfers.{isOpen, openProtected}
+use Rattle.master.specs.Plan.{waits}
 use Rattle.master.specs.Write.{isBytes, fitsSignal}
 use Rattle.master.specs.Tick.{tickEffect}
 use Rattle.master.specs.Status.{statusWord}
 use Rattle.master.specs.Ahead.{pendingCount}
-use Rattle.master.specs.Answers.{tickTold}
 use Rattle.master.specs.Calls as call
 use Rattle.master.specs.Calls.{Call}
 use Rattle.master.specs.Run.{Held}
@@ -72,13 +73,17 @@ testsOf t x (call.send nad n) =
 testsOf t x call.messageState = stateTest t (x .state) ∷ []
 testsOf t x (call.numberAhead f) = stateTest t (x .state) ∷ test 4 (ltb (memberOf t f) (memberCount t)) ∷ []
 
+-- "Opening answers the protected identifier": of what is open behind a slot's start, if anything is
+abbrev pub openedValue : List ℕ → Opened → List ℕ
+openedValue t o = cond (isOpen o) (openProtected t o ∷ []) []
+
 -- the values that an accepted call tells
 unfoldable pub valuesOf : List ℕ → Held → Call → List ℕ
 valuesOf t x (call.write w) = []
 valuesOf t x (call.read s) = scalarValue t (x .bytes) s ∷ []
 valuesOf t x (call.readArray s) = arrayRead t (x .bytes) s .count ∷ []
 valuesOf t x (call.select n) = []
-valuesOf t x (call.tick m) = tickTold (tickEffect t (x .bytes) m (x .state) .answer) .values
+valuesOf t x (call.tick m) = cond (waits (x .state .plan)) [] (openedValue t (tickEffect t (x .bytes) m (x .state) .state .transfer .opened))
 valuesOf t x (call.byteIn b) = []
 valuesOf t x call.readStatus = statusWord (x .state .status) ∷ []
 valuesOf t x (call.send nad n) = []

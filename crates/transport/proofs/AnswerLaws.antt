@@ -2,12 +2,13 @@
 use Prim.Native.Nat.{ℕ, _+_}
 use mathlib.Core.Path.{_≡_, refl}
 use mathlib.Core.List.{List, [], _∷_}
+use borrow.Author.Tests.{ltb-true, ltb-false, lt-leb, le-leb}
 use lib.Dec.{ltb, eqb}
 use lib.ListN.{length}
 use Rattle.refusal.specs.Answers.{gives, test, firstFailing}
 use Rattle.transport.specs.Answers.{countTold, cutTold, takeTold}
 use Rattle.transport.specs.Cutting.{isLength, messageFrames, countOf, cutOf}
-use Rattle.transport.specs.Reassembly.{Kind, single, first, next, other, kindOf, framePci, Leaves, step, fits, tooShort, ignored, takeTests, takeValues}
+use Rattle.transport.specs.Reassembly.{Kind, single, first, next, other, kindOf, framePci, Leaves, step, fits, tooShort, ignored, takeTests, kindValues, takeValues}
 use Rattle.transport.specs.Reassembly.{kindStep, singleStep, firstStep, nextStep, counterDue, continued, bytesDue, reached}
 use Rattle.transport.specs.declared.cutting.Counted.{Counted}
 use Rattle.transport.specs.declared.cutting.Cut.{Cut}
@@ -33,20 +34,22 @@ cut-told nad m k r e = (
 )
 
 -- a frame that is neither refused nor ignored tells its values alone
-kind-accepts : (k : Kind) (s : Reassembly) (f : List ℕ) → takeTold (kindStep k s f .taken .answer) ≡ gives (takeTold (kindStep k s f .taken .answer) .values)
+kind-accepts : (k : Kind) (s : Reassembly) (f : List ℕ) → takeTold (kindStep k s f .taken .answer) ≡ gives (kindValues k s f)
 unfolding kindStep singleStep firstStep nextStep continued reached
 kind-accepts single s f = refl
 kind-accepts first s f = refl
 kind-accepts next Nothing f = refl
 kind-accepts next (Open m) f =
     whether (counterDue m f)
-    (λ t. whether (ltb (m .count + bytesDue m) (m .length)) (λ l. rw (t, l)) (λ l. rw (t, l)))
+    (λ t. whether (ltb (m .count + bytesDue m) (m .length))
+    (λ l. rw (t, l, lt-leb (m .length) (m .count + bytesDue m) (ltb-true (m .count + bytesDue m) (m .length) l)))
+    (λ l. rw (t, l, le-leb (m .length) (m .count + bytesDue m) (ltb-false (m .count + bytesDue m) (m .length) l))))
     (λ t. rw t)
 kind-accepts other s f = refl
 
 -- a frame is refused with 2, 3 or 11 exactly when that row applies and no lower one does
 step-told : (s : Reassembly) (f b : List ℕ)
-    → takeTold (step s f b .taken .answer) ≡ firstFailing (takeTests s f b) (takeTold (step s f b .taken .answer) .values)
+    → takeTold (step s f b .taken .answer) ≡ firstFailing (takeTests s f b) (takeValues s f b)
 unfolding step firstFailing
 step-told s f b =
     whether (tooShort s f b) (λ t. rw t)

@@ -7,7 +7,7 @@ use lib.Dec.{leb, ltb, eqb}
 use lib.ListN.{length, getD, take, drop}
 use Rattle.refusal.specs.Numbers.{buffer, state, frame}
 use Rattle.refusal.specs.Answers.{Test, test}
-use Rattle.transport.specs.Answers.{takeRefused, takeTold}
+use Rattle.transport.specs.Answers.{takeRefused}
 use Rattle.transport.specs.Cutting.{longest}
 use Rattle.transport.specs.declared.reassembly.Assembly.{Assembly}
 use Rattle.transport.specs.declared.reassembly.Reassembly.{Reassembly}
@@ -189,6 +189,14 @@ pub record Leaves (st : Step) (b : List ℕ) (r : Taken) (after : List ℕ) : Ty
 abbrev pub takeTests : Reassembly → List ℕ → List ℕ → List Test
 takeTests s f b = test 2 (not (tooShort s f b)) ∷ test 3 (fits s) ∷ test 11 (eqb (length f) 8) ∷ []
 
--- what is told of a frame that is not refused
+-- "done with the length": what is told of a frame that is not refused, of a single one its own length, and of a next one that of the message where that is
+-- all there with it
+abbrev pub kindValues : Kind → Reassembly → List ℕ → List ℕ
+kindValues single s f = framePci f ∷ []
+kindValues first s f = []
+kindValues next Nothing f = []
+kindValues next (Open m) f = cond (counterDue m f && leb (m .length) (m .count + bytesDue m)) (m .length ∷ []) []
+kindValues other s f = []
+
 abbrev pub takeValues : Reassembly → List ℕ → List ℕ → List ℕ
-takeValues s f b = takeTold (step s f b .taken .answer) .values
+takeValues s f b = cond (ignored s f b) [] (kindValues (kindOf (framePci f)) s f)
