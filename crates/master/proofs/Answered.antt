@@ -10,6 +10,7 @@ use Rattle.refusal.specs.Numbers as number
 use Rattle.wire.proofs.Tests.{beq-true}
 use Rattle.cluster.specs.declared.Verdict.{Verdict}
 use Rattle.cluster.specs.declared.Verdict.the-variants.{Accepted, Refused}
+use Rattle.cluster.specs.Check.{then}
 use Rattle.cluster.specs.Table.{signalCount, isArray}
 use Rattle.cluster.specs.Values.{signalPublished}
 use Rattle.master.specs.Admit.{answered}
@@ -21,6 +22,11 @@ pub by-verdict : {A : Type 0} (P : A → Type 0) (v : Verdict) (refuse : Refusal
     → ((r : Refusal) → v ≡ Refused r → P (refuse r)) → (v ≡ Accepted → P go) → P (answered v refuse go)
 by-verdict P Accepted refuse go other rest = rest refl
 by-verdict P (Refused r) refuse go other rest = other r refl
+
+-- a verdict with nothing behind it
+pub then-accepted : (v : Verdict) → then v Accepted ≡ v
+then-accepted Accepted = refl
+then-accepted (Refused r) = refl
 
 -- what a write that is not refused knows of its signal
 pub record Writable (t : List ℕ) (s : ℕ) (array fits : Bool) : Type 0 where

@@ -23,7 +23,7 @@ use Rattle.master.specs.Transfers.{formatOf, openLength, openChecksum, s
 use Rattle.master.proofs.Tests.{never}
 use Rattle.master.proofs.Verdicts.{byte-count, byte-length-high}
 use Rattle.cluster.specs.declared.Verdict.the-variants as verdict
-use Rattle.master.specs.Byte.{byteVerdict, early, sentByte, checksumRight, accepted, lastByte, receivedByte, byteEffect}
+use Rattle.master.specs.Byte.{byteVerdict, byteOf, early, sentByte, checksumRight, accepted, lastByte, receivedByte, byteEffect}
 
 -- ---- the paper's sentences
 
@@ -176,10 +176,9 @@ pub record ByteSays (t : List ℕ) (s : State) (b : ℕ) (a : ByteAnswer) : Type
       → ReceivedSays byte.Response (checksumByte 61 Classic (take 8 (s .transfer .bytes))) (s .transfer .count) 8 b a
 
 module _ (t : List ℕ) (s : State) (bs : List ℕ) (b : ℕ) (nine : length (s .transfer .bytes) ≡ 9) (h : byteVerdict t (length bs) s ≡ verdict.Accepted) where
-  -- the state's nine bytes are nine
-  pub byte-exactly : ByteSays t s b (byteEffect t s bs b .given .answer)
+  effect-exactly : ByteSays t s b (byteEffect t s bs b .given .answer)
   unfolding formatOf openChecksum accepted
-  byte-exactly =
+  effect-exactly =
       let low = byte-count t (length bs) s h in
       let high = byte-length-high t (length bs) s h in
       record {
@@ -201,3 +200,8 @@ module _ (t : List ℕ) (s : State) (bs : List ℕ) (b : ℕ) (nine : length (s 
 
       response-well : ¬ (byte.Response ≡ byte.More) × ¬ (byte.Response ≡ byte.Failure)
       response-well = ((λ e. let u : _≡_ {A = ℕ} 0 1 = cc in omega arith), λ e. let u : _≡_ {A = ℕ} 0 1 = cc in omega arith)
+
+  -- an accepted byte, of every state; its nine bytes are nine
+  pub byte-exactly : ByteSays t s b (byteOf t s bs b .given .answer)
+  unfolding byteOf
+  byte-exactly = rw h effect-exactly

@@ -48,6 +48,7 @@ use Rattle.master.proofs.Rows.{lent, Row, table-fault, buffer-size, sta
 use Rattle.master.proofs.Rows.{no-signal-to-write, no-signal-to-read, no-array-to-read, no-schedule, no-member, not-published}
 use Rattle.master.proofs.Rows.{scalar-into-array, array-into-scalar, scalar-of-array, array-of-scalar, value-too-large, array-length}
 use Rattle.master.proofs.Rows.{no-transfer, message-empty, message-too-long, message-sending}
+use Rattle.master.proofs.Answered.{then-accepted}
 use Rattle.master.proofs.RowTests.{NoneBelow, one-more, skip, all-none, Lowest, tested, not-3, head}
 
 -- ---- the signal of a write or a read
@@ -270,10 +271,6 @@ module _ (t : List ℕ) (x : Held) where
   asking-lowest c l n high =
       rw (← then-accepted (admitted t (bufferSize t) (x .state)))
       (head t x c (bufferSize t) verdict.Accepted (λ y. never (sym l ∙ y)) (λ y. refl) (λ ok w n2. all-none _ 4 (behind c n w n2) high))
-    where
-      then-accepted : (v : Verdict) → then v verdict.Accepted ≡ v
-      then-accepted verdict.Accepted = refl
-      then-accepted (verdict.Refused r) = refl
 
   status-lowest : Lowest t x call.readStatus (admitted t (bufferSize t) (x .state))
   status-lowest = asking-lowest call.readStatus refl (λ m e. let z : _≡_ {A = ℕ} 0 1 = cc in omega arith) high

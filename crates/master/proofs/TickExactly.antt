@@ -6,11 +6,12 @@ use mathlib.Core.Bool.{Bool, true, false, xor}
 use mathlib.Core.List.{List, [], _∷_}
 use native.Mathlib.Omega.{arith}
 use borrow.Author.Tests.{lt-ltb, le-ltb}
-use lib.ListN.{getD}
+use lib.ListN.{length, getD}
 use Rattle.wire.specs.Bits.{bit}
 use Rattle.wire.specs.Identifier.{p0, p1, protectedByte}
 use Rattle.cluster.specs.Table.{identifier, entryKind, entryTarget, entryDelay}
 use Rattle.cluster.specs.Lists.{members, firstEntry, nextEntry}
+use Rattle.cluster.specs.declared.Verdict.the-variants.{Accepted}
 use Rattle.transport.proofs.Tests.{whether, order}
 use Rattle.master.specs.declared.state.Plan.{Plan}
 use Rattle.master.specs.declared.state.Current.{Current}
@@ -33,7 +34,7 @@ use Rattle.master.specs.State.{withPlan}
 use Rattle.master.specs.Message.{messageFailed}
 use Rattle.master.specs.Closing.{failed}
 use Rattle.master.proofs.FitsExactly.{sends-message}
-use Rattle.master.specs.Tick.{firstPending, slotOpens, abandoned, opensOrSilent, slotAt, slot, tickEffect}
+use Rattle.master.specs.Tick.{firstPending, slotOpens, abandoned, opensOrSilent, slotAt, slot, tickEffect, tickVerdict, tickOf}
 use Rattle.master.proofs.PendingLaws.{NonePending, First, first-pending-is, first-pending-none}
 use Rattle.master.proofs.PendingLength.{abandoned-pending}
 use Rattle.master.proofs.SlotFits.{abandoned-nothing, abandoned-plan}
@@ -226,9 +227,13 @@ module _ (t bs m : List ℕ) (s : State) where
     opens = λ k l c. rw (one-due k e c d) (slot-says t bs m s e);
   })
 
-  -- an accepted tick, of every state
-  pub tick-exactly : TickSays t s (tickEffect t bs m s)
-  tick-exactly =
+  effect-exactly : TickSays t s (tickEffect t bs m s)
+  effect-exactly =
       order (s .plan .wait) 1
       (λ l. ⊎-elim (tick-idles l) (λ w. tick-begins l (w .0) (w .1)) none-or-due)
       tick-waits
+
+  -- an accepted tick, of every state
+  pub tick-exactly : tickVerdict t (length bs) (length m) s ≡ Accepted → TickSays t s (tickOf t bs m s)
+  unfolding tickOf
+  tick-exactly a = rw a effect-exactly

@@ -50,6 +50,7 @@ use Rattle.master.specs.Calls.{Call}
 use Rattle.master.specs.Run.{Held, held, answerOf}
 use Rattle.master.specs.Step.{verdictOf, toldOf}
 use Rattle.master.specs.Told.{toldAs, sizeTest, stateTest, testsOf, valuesOf, callTold, freshCallTold, admitTold}
+use Rattle.master.proofs.Answered.{then-accepted}
 use Rattle.master.proofs.StepLaws.{verdict-told}
 
 module _ (vs : List ℕ) where
@@ -103,10 +104,6 @@ module _ (t : List ℕ) (s : State) (vs : List ℕ) where
   -- and of one with no test of its own
   asked-told : toldAs (admitted t (bufferSize t) s) vs ≡ behindTable (takenOf t) (firstFailing (stateTest t s ∷ []) vs)
   asked-told = ap (λ (w : Verdict). toldAs w vs) (sym (then-accepted (admitted t (bufferSize t) s))) ∙ unlent-told Accepted [] (done vs)
-    where
-      then-accepted : (v : Verdict) → then v Accepted ≡ v
-      then-accepted Accepted = refl
-      then-accepted (Refused r) = refl
 
 -- the tests of every call
 tests-told : (t : List ℕ) (x : Held) (c : Call) (vs : List ℕ) → toldAs (verdictOf t x c) vs ≡ behindTable (takenOf t) (firstFailing (testsOf t x c) vs)

@@ -1,7 +1,7 @@
 -- Part (f) leaves no choice: of every call after every history, what the core answers is the only answer that `Replies` takes. The claim's proof uses none of this.
 use Prim.Native.Nat.{ℕ, _≤_, _<_}
 use mathlib.Core.Path.{_≡_, refl, sym, ap, subst, _∙_}
-use mathlib.Core.Logic.{⊎-elim}
+use mathlib.Core.Logic.{_↔_, ⊎-elim}
 use mathlib.Core.Bool.{false, cond}
 use mathlib.Core.List.{List, [], _∷_, _++_, List·Memᴰ, List·Memᴰ·head, List·Memᴰ·tail, List·Memᴰ·not-nil, List·Memᴰ·cases-cons, Memᴰ·append-right}
 use native.Mathlib.Decide.{ℕ-discrete}
@@ -166,15 +166,26 @@ only-answer t bs accepted cs c a r =
 
 -- ---- whatever the core
 
--- events that meet (f) are those of the core on the same calls
-core-meets : (t bs : List ℕ) → freshOf t bs .given .answer ≡ Fresh → (h : Seq Event) → Meets t h → h ≡ historyOf t bs (callsOf h)
-unfolding historyOf
-core-meets t bs accepted ∅ m = refl
-core-meets t bs accepted (h ▹ (c ⇒ a)) m =
-    let e = core-meets t bs accepted h (m .0) in
-    let r : Replies t (recordOf t bs (callsOf h)) c a = rw e at (m .1) in
-    let q = only-answer t bs accepted (callsOf h) c a r in
-    cc
+module _ (t bs : List ℕ) (accepted : freshOf t bs .given .answer ≡ Fresh) where
+  -- the core's own events meet (f)
+  core-meets : (cs : Seq Call) → Meets t (historyOf t bs cs)
+  unfolding historyOf
+  core-meets ∅ = tt
+  core-meets (cs ▹ c) = (core-meets cs, steps t (table-taken t bs accepted) (recordOf t bs cs) (heldAfter t bs cs) (agrees t bs accepted cs) c .replies)
+
+  -- and events that meet it are those of the core on the same calls
+  meets-core : (h : Seq Event) → Meets t h → h ≡ historyOf t bs (callsOf h)
+  unfolding historyOf
+  meets-core ∅ m = refl
+  meets-core (h ▹ (c ⇒ a)) m =
+      let e = meets-core h (m .0) in
+      let r : Replies t (recordOf t bs (callsOf h)) c a = rw e at (m .1) in
+      let q = only-answer t bs accepted (callsOf h) c a r in
+      cc
+
+  -- any core meets (f) exactly where it answers as ours does
+  pub claim-exactly : (h : Seq Event) → Meets t h ↔ (h ≡ historyOf t bs (callsOf h))
+  claim-exactly h = (meets-core h, λ e. subst (Meets t) (sym e) (core-meets (callsOf h)))
 
 -- the claim decides every answer, whatever the core: two sequences of events with the same calls, each of whose answers meets `Replies` after the
 -- events before it, are equal
@@ -182,4 +193,4 @@ pub claim-decides : (t : List ℕ) → RightTable t → (g h : Seq Event) → ca
 claim-decides t ok g h e m n =
     let bs : List ℕ = replicate (bufferSize t) 0 in
     let accepted = fresh-taken t bs (right-taken t ok) (length-replicate (bufferSize t) 0) in
-    core-meets t bs accepted g m ∙ ap (historyOf t bs) e ∙ sym (core-meets t bs accepted h n)
+    meets-core t bs accepted g m ∙ ap (historyOf t bs) e ∙ sym (meets-core t bs accepted h n)
