@@ -59,6 +59,9 @@ impl Bench {
             Request::WriteArray { signal, bytes } => {
                 master.write_array(signal, &bytes).map(|()| text("written"))
             }
+            Request::WriteRow { signals, values } => master
+                .write_row(&signals, &values)
+                .map(|()| text("written")),
             Request::Read { signal } => master.read(signal).map(|value| format!("value {value}")),
             Request::ReadArray { signal } => master
                 .read_array(signal)

@@ -81,6 +81,7 @@ fn before_the_first_table() {
         "fresh => refused 1 0
         write 0 0 => refused 1 0
         writes 0 00 => refused 1 0
+        row 0 : 0 => refused 1 0
         read 0 => refused 1 0
         reads 0 => refused 1 0
         select 0 => refused 1 0
@@ -105,6 +106,7 @@ fn refusal_1_comes_before_all_others() {
         fresh => refused 1 10
         write 9 99999 => refused 1 10
         writes 9 => refused 1 10
+        row 9 : => refused 1 10
         read 9 => refused 1 10
         reads 9 => refused 1 10
         select 9 => refused 1 10
@@ -127,6 +129,7 @@ fn refusal_2() {
         fresh => refused 2
         write 9 99999 => refused 2
         writes 9 => refused 2
+        row 9 : => refused 2
         read 9 => refused 2
         reads 9 => refused 2
         tick => refused 2

@@ -45,6 +45,11 @@ pub fn words(fields: &[&[u8]]) -> Option<Vec<u16>> {
     fields.iter().map(|field| word(field)).collect()
 }
 
+/// Reads none or more decimal numbers of at most 4,294,967,295.
+pub fn long_numbers(fields: &[&[u8]]) -> Option<Vec<u32>> {
+    fields.iter().map(|field| long_number(field)).collect()
+}
+
 /// Reads one upper-case hexadecimal digit.
 fn hex_digit(byte: u8) -> Option<u8> {
     match byte {
@@ -83,6 +88,9 @@ mod tests {
         assert_eq!(long_number(b"4294967295"), Some(u32::MAX));
         assert_eq!(long_number(b"4294967296"), None);
         assert_eq!(long_number(b"18446744073709551616"), None);
+        assert_eq!(long_numbers(&[]), Some(vec![]));
+        assert_eq!(long_numbers(&[b"0", b"65536"]), Some(vec![0, 65_536]));
+        assert_eq!(long_numbers(&[b"0", b"4294967296"]), None);
         assert_eq!(bit(b"0"), Some(false));
         assert_eq!(bit(b"1"), Some(true));
         assert_eq!(bit(b"01"), Some(true));

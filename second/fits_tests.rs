@@ -4,11 +4,15 @@ use crate::bench::tests::{play, play_on, TABLE};
 use crate::bench::Bench;
 
 /// Every call that tests whether the state fits.
-const CALLS: [&str; 16] = [
+const CALLS: [&str; 20] = [
     "write 0 0",
     "write 9 9",
     "writes 1 01 02",
     "writes 0",
+    "row 0 : 0",
+    "row 9 : 9",
+    "row 9 :",
+    "row :",
     "read 0",
     "reads 1",
     "reads 0",

@@ -1,6 +1,7 @@
-//! The master's calls and their refusals, by document 01.
+//! The master's calls and their refusals, by document 01 and Req 01 of document 02.
 //!
-//! Each call tests its refusals in the order of their numbers, before it changes anything.
+//! Each call tests its refusals in the order of their numbers, before it changes anything; a row
+//! of values tests 12 directly after 3.
 
 use crate::diagnostic::{Message, MESSAGE_LENGTH_MAX};
 use crate::fits::fits;
@@ -11,6 +12,7 @@ use crate::table::{Signal, SignalKind, Table, FRAME_BYTES};
 use crate::transfer::{Open, REQUEST_FRAME};
 
 /// The master: its table, its frame bytes and its state.
+#[derive(Clone)]
 pub struct Master {
     /// The table, or the refusal that its check gave.
     pub table: Result<Table, Refusal>,
@@ -108,6 +110,22 @@ impl Master {
         let data = self.data_of_mut(&signal);
         signals::put_scalar(data, signal.offset, signal.width, value as u16);
         self.state.mark_written(signal.frame);
+        Ok(())
+    }
+
+    /// Writes a row of scalars one by one, or none of them where one is refused.
+    pub fn write_row(&mut self, numbers: &[u16], values: &[u32]) -> Result<(), Refusal> {
+        self.admitted_table()?;
+        if numbers.len() != values.len() {
+            return Err(Refusal::UnequalRows);
+        }
+        // The writes go into a copy, which is kept where none of them is refused.
+        let mut written = self.clone();
+        for (place, (&number, &value)) in numbers.iter().zip(values).enumerate() {
+            let result = written.write(number.into(), value);
+            result.map_err(|refusal| refusal.of_pair(place))?;
+        }
+        *self = written;
         Ok(())
     }
 
@@ -228,3 +246,7 @@ impl Master {
 #[cfg(test)]
 #[path = "master_tests.rs"]
 mod tests;
+
+#[cfg(test)]
+#[path = "row_tests.rs"]
+mod row_tests;

@@ -1,4 +1,4 @@
-//! Refusals, by "Refusal numbers" of document 01.
+//! Refusals, by "Refusal numbers" of document 01 and Req 01 of document 02.
 
 use std::fmt;
 
@@ -27,6 +27,10 @@ pub enum Refusal {
     MessageBeingSent,
     /// Identifier above 63, wrong parity, or a wrong number of bytes.
     BytesRefused,
+    /// Rows of unequal length.
+    UnequalRows,
+    /// A pair of a row is refused with this number, at this place from 0.
+    BadPair { number: u8, place: usize },
 }
 
 impl Refusal {
@@ -44,15 +48,25 @@ impl Refusal {
             Refusal::MessageLength => 9,
             Refusal::MessageBeingSent => 10,
             Refusal::BytesRefused => 11,
+            Refusal::UnequalRows => 12,
+            Refusal::BadPair { number, .. } => number,
         }
+    }
+
+    /// Gives the refusal of a row whose pair at this place is refused so.
+    pub fn of_pair(self, place: usize) -> Refusal {
+        let number = self.number();
+        Refusal::BadPair { number, place }
     }
 }
 
-/// Writes the answer line of the bench script: the number, and for 1 also the position.
+/// Writes the answer line of the bench script: the number, and the position or place if it has one.
 impl fmt::Display for Refusal {
     fn fmt(&self, out: &mut fmt::Formatter) -> fmt::Result {
         match self {
-            Refusal::TableFault(position) => write!(out, "refused {} {position}", self.number()),
+            Refusal::TableFault(place) | Refusal::BadPair { place, .. } => {
+                write!(out, "refused {} {place}", self.number())
+            }
             _ => write!(out, "refused {}", self.number()),
         }
     }
@@ -76,6 +90,11 @@ mod tests {
             (Refusal::MessageLength, "refused 9"),
             (Refusal::MessageBeingSent, "refused 10"),
             (Refusal::BytesRefused, "refused 11"),
+            (Refusal::UnequalRows, "refused 12"),
+            (Refusal::NotThere.of_pair(0), "refused 4 0"),
+            (Refusal::NotPublished.of_pair(1), "refused 5 1"),
+            (Refusal::OtherKind.of_pair(255), "refused 6 255"),
+            (Refusal::ValueOutOfRange.of_pair(256), "refused 7 256"),
         ];
         for (refusal, text) in all {
             assert_eq!(refusal.to_string(), text);

@@ -1,6 +1,6 @@
 //! Lines of the bench script and the requests they stand for, by DESIGN.md and REQUESTS.md.
 
-use crate::fields::{byte_number, long_number, number, pair, pairs, word, words};
+use crate::fields::{byte_number, long_number, long_numbers, number, pair, pairs, word, words};
 use crate::settings::Setting;
 use crate::wire::ChecksumModel;
 
@@ -29,6 +29,8 @@ pub enum Request {
     Write { signal: usize, value: u32 },
     /// `writes S HH ..`
     WriteArray { signal: usize, bytes: Vec<u8> },
+    /// `row S .. : V ..`
+    WriteRow { signals: Vec<u16>, values: Vec<u32> },
     /// `read S`
     Read { signal: usize },
     /// `reads S`
@@ -137,6 +139,7 @@ fn master_request(fields: &[&[u8]]) -> Option<Request> {
             signal: word(signal)?.into(),
             bytes: pairs(bytes)?,
         }),
+        [b"row", rows @ ..] => row_request(rows),
         [b"read", signal] => Some(Request::Read {
             signal: word(signal)?.into(),
         }),
@@ -156,6 +159,15 @@ fn master_request(fields: &[&[u8]]) -> Option<Request> {
         }),
         _ => None,
     }
+}
+
+/// Reads the two rows behind `row`, between which a colon stands alone.
+fn row_request(rows: &[&[u8]]) -> Option<Request> {
+    let colon = rows.iter().position(|field| field == b":")?;
+    Some(Request::WriteRow {
+        signals: words(&rows[..colon])?,
+        values: long_numbers(&rows[colon + 1..])?,
+    })
 }
 
 /// Reads a request to the bench itself, the wire or the reassembler.

@@ -50,6 +50,77 @@ fn none_or_more_bytes() {
 }
 
 #[test]
+fn rows() {
+    let (signals, values) = (vec![3, 65_535], vec![0, u32::MAX]);
+    let row = |signals: &[u16], values: &[u32]| Request::WriteRow {
+        signals: signals.to_vec(),
+        values: values.to_vec(),
+    };
+    expect_request(b"row 3 65535 : 0 4294967295", row(&signals, &values));
+    expect_request(b"row 003 065535 : 00 04294967295", row(&signals, &values));
+    expect_request(b"row 1 2 3 : 4", row(&[1, 2, 3], &[4]));
+    expect_request(b"row 3 :", row(&[3], &[]));
+    expect_request(b"row : 5", row(&[], &[5]));
+    expect_request(b"row :", row(&[], &[]));
+}
+
+#[test]
+fn lines_that_are_no_rows() {
+    expect_no_request(&[
+        b"row",
+        b"row ",
+        b"row 1",
+        b"row 1 2",
+        b"row : :",
+        b"row 1 : 2 : 3",
+        b"row 1 2 : : 3",
+        b"row:",
+        b"row 1: 2",
+        b"row 1 :2",
+        b"row 1:2",
+        b"row 1 :: 2",
+        b"row 1 ; 2",
+        b"row  :",
+        b"row : ",
+        b"row  1 : 2",
+        b"row 1  : 2",
+        b"row 1 :  2",
+        b"row 1 : 2 ",
+        b" row 1 : 2",
+        b"row 1 : 2\r",
+        b"row 1\t: 2",
+        b"row x : 2",
+        b"row 1 : 0x2",
+        b"row -1 : 2",
+        b"row 1 : -2",
+        b"row 65536 : 0",
+        b"row 1 65536 : 0 0",
+        b"row 1 : 4294967296",
+        b"row 1 1 : 0 4294967296",
+        b"ROW 1 : 2",
+        b"Row 1 : 2",
+        b"rows 1 : 2",
+        b": 1",
+    ]);
+}
+
+#[test]
+fn rows_at_the_length_limit() {
+    let mut line = b"row 000".to_vec();
+    line.extend(b" 0".repeat(4_998));
+    line.extend(b" :");
+    line.extend(b" 0".repeat(4_997));
+    line.extend(b"\r");
+    assert_eq!(line.len(), LINE_LENGTH_MAX);
+    expect(&line, "?");
+    line.pop();
+    line.extend(b"0");
+    expect(&line, "refused 1 0");
+    line.extend(b"0");
+    expect(&line, "?");
+}
+
+#[test]
 fn numbers_above_their_limits() {
     expect_no_request(&[
         b"buffer 513",
