@@ -49,6 +49,8 @@ mod reassembler;
 mod reassembly;
 #[path = "../second/refusal.rs"]
 mod refusal;
+#[path = "scripts/rows.rs"]
+mod rows;
 #[path = "scripts/runs.rs"]
 mod runs;
 #[path = "../second/script.rs"]

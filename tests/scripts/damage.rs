@@ -6,6 +6,29 @@ use crate::runs;
 use crate::settings_lines;
 use crate::tables::{right_table, table_line, Size};
 
+/// Every call of the master, and the lines that show what it may have changed.
+const CALLS: [&str; 19] = [
+    "fresh",
+    "write 0 0",
+    "writes 0 00",
+    "row 0 : 0",
+    "row 0 :",
+    "row :",
+    "read 0",
+    "reads 0",
+    "select 0",
+    "tick",
+    "byte 00",
+    "status",
+    "send 1 1",
+    "message",
+    "ahead 0",
+    "pending",
+    "frames",
+    "out",
+    "state",
+];
+
 /// Sets some parts of the state, whatever the table is.
 fn set_anything(script: &mut Script) {
     for _ in 0..script.random.between(1, 4) {
@@ -14,26 +37,9 @@ fn set_anything(script: &mut Script) {
     }
 }
 
-/// Every call on the current table, in any order.
+/// So many of the calls and looks on the current table, in any order.
 pub fn calls(script: &mut Script, count: usize) {
-    let mut lines = [
-        "fresh",
-        "write 0 0",
-        "writes 0 00",
-        "read 0",
-        "reads 0",
-        "select 0",
-        "tick",
-        "byte 00",
-        "status",
-        "send 1 1",
-        "message",
-        "ahead 0",
-        "pending",
-        "frames",
-        "out",
-        "state",
-    ];
+    let mut lines = CALLS;
     script.random.shuffle(&mut lines);
     for line in &lines[..count] {
         script.say(*line);
@@ -55,7 +61,7 @@ pub fn tables(script: &mut Script) {
     let table = right_table(&mut script.random, size);
     let right_line = table_line(&mut script.random, &table.concat());
     script.say(right_line.clone());
-    calls(script, 16);
+    calls(script, CALLS.len());
     for _ in 0..script.random.between(3, 8) {
         let damaged = damaged_table(&mut script.random, &table);
         let words = match script.random.below(10) {
@@ -67,7 +73,7 @@ pub fn tables(script: &mut Script) {
         if script.random.once_in(3) {
             set_anything(script);
         }
-        let count = script.random.one_of(&[3, 5, 16]);
+        let count = script.random.one_of(&[3, 5, CALLS.len()]);
         calls(script, count);
         if script.random.once_in(4) {
             script.say(right_line.clone());
@@ -78,7 +84,7 @@ pub fn tables(script: &mut Script) {
 
 /// Counts that begin no table or an empty one.
 pub fn empty_tables(script: &mut Script) {
-    calls(script, 16);
+    calls(script, CALLS.len());
     for line in [
         "table",
         "table 0",
@@ -94,7 +100,7 @@ pub fn empty_tables(script: &mut Script) {
         "table 0 0 0 0",
     ] {
         script.say(line);
-        let count = script.random.one_of(&[2, 5, 16]);
+        let count = script.random.one_of(&[2, 5, CALLS.len()]);
         calls(script, count);
     }
 }

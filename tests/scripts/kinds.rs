@@ -3,7 +3,7 @@
 use crate::draft::Script;
 use crate::tables::Size;
 use crate::{assemblies, borders, damage, limits, lines, messages, reassembly};
-use crate::{runs, setting, settings_lines, values};
+use crate::{rows, runs, setting, settings_lines, values};
 
 /// Fills a script with one to four acts and looks at the state at the end.
 pub fn fill(script: &mut Script) {
@@ -34,8 +34,9 @@ fn act(script: &mut Script) {
         372..=387 => borders::signal_borders(script),
         388..=395 => damage::empty_tables(script),
         396..=425 => runs::buffers(script),
-        426..=485 => values::every_signal(script),
-        486..=735 => message_act(script),
+        426..=470 => values::every_signal(script),
+        471..=495 => rows::rows(script),
+        496..=735 => message_act(script),
         736..=835 => line_act(script),
         836..=935 => setting::state_borders(script),
         936..=965 => setting::set_runs(script),

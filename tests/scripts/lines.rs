@@ -2,6 +2,7 @@
 
 use crate::draft::{with_bytes, Script};
 use crate::random::Random;
+use crate::rows::longest_rows;
 use crate::settings_lines;
 
 /// The most bytes of a line.
@@ -39,13 +40,17 @@ pub const NUMBERS: [u128; 24] = [
 ];
 
 /// Requests with one number, `N` in its place, and the largest number that it takes.
-const LIMITS: [(&str, u128); 15] = [
+const LIMITS: [(&str, u128); 19] = [
     ("table N", 65_535),
     ("table 0 0 0 N", 65_535),
     ("buffer N", 512),
     ("write N 0", 65_535),
     ("write 0 N", (1 << 32) - 1),
     ("writes N 00", 65_535),
+    ("row N : 0", 65_535),
+    ("row 0 N :", 65_535),
+    ("row 0 : N", (1 << 32) - 1),
+    ("row : 0 N", (1 << 32) - 1),
     ("read N", 65_535),
     ("reads N", 65_535),
     ("select N", 65_535),
@@ -137,7 +142,7 @@ fn any_line(random: &mut Random) -> String {
     let (one, two) = (number(random), number(random));
     let count = random.below(10);
     let bytes = with_bytes("", &random.bytes(count));
-    match random.below(38) {
+    match random.below(42) {
         0..=1 => format!("buffer {one}"),
         2 => "fresh".to_string(),
         3..=5 => format!("write {one} {two}"),
@@ -158,6 +163,11 @@ fn any_line(random: &mut Random) -> String {
         24..=26 => wire_line(random),
         27 => format!("room {one}"),
         28..=34 => settings_lines::any_line(random),
+        35..=36 => format!("row {one} : {two}"),
+        37 => format!("row {one} {two} : {two} {one}"),
+        38 => random
+            .one_of(&["row :", "row 0 :", "row : 0", "row 0 0 : 1 2"])
+            .to_string(),
         _ => format!("take{bytes}"),
     }
 }
@@ -172,7 +182,7 @@ fn damaged_table_line(random: &mut Random) -> Vec<u8> {
 }
 
 /// Damages a line in one place.
-fn damage(random: &mut Random, line: &mut Vec<u8>) {
+pub fn damage(random: &mut Random, line: &mut Vec<u8>) {
     let at = random.below(line.len());
     let byte = random.one_of(BYTES);
     let space = line.iter().position(|&byte| byte == b' ');
@@ -252,6 +262,7 @@ pub fn long_lines(script: &mut Script) {
     for length in [LINE_LENGTH_MAX, LINE_LENGTH_MAX + 1] {
         script.say(format!("pid {}5", "0".repeat(length - 5)));
     }
+    longest_rows(script);
     for _ in 0..script.random.between(3, 8) {
         let line = long_line(&mut script.random);
         script.say(line);
@@ -280,6 +291,9 @@ fn long_line(random: &mut Random) -> Vec<u8> {
         (b"table 00 0 0 0", b" 7", b""),
         (b"checksum 5 classic", b" 00", b""),
         (b"writes 0", b" 5A", b""),
+        (b"row", b" 0", b" :"),
+        (b"row :", b" 7", b""),
+        (b"row 0 : ", b"0", b"1"),
         (b"take 01 01", b" 00", b""),
         (b"lend", b" A5", b""),
         (b"write 0 ", b"0", b"1"),

@@ -3,6 +3,7 @@
 use crate::draft::Script;
 use crate::lines;
 use crate::messages;
+use crate::rows;
 use crate::setting;
 use crate::tables::{list_table, numerous_table, right_table, table_line, Sections, Size};
 use crate::transfer::Open;
@@ -85,8 +86,11 @@ pub fn select(script: &mut Script) {
     }
 }
 
-/// Writes one to four signals, mostly rightly.
+/// Writes one to four signals, mostly rightly, once in four times as a row.
 pub fn write_some(script: &mut Script) {
+    if script.random.once_in(4) {
+        return rows::write_some(script);
+    }
     for _ in 0..script.random.between(1, 4) {
         let number = values::published_number(script);
         write_signal(script, number, 93);
@@ -124,7 +128,8 @@ pub fn slot(script: &mut Script) {
 /// Something between two bytes of a transfer: mostly a write to the frame that is going out.
 pub fn interlude(script: &mut Script) {
     match script.random.below(20) {
-        0..=8 => write_open_frame(script),
+        0..=4 => write_open_frame(script),
+        5..=8 => write_open_row(script),
         9..=10 => write_some(script),
         11..=16 => peek(script),
         17 => select(script),
@@ -148,6 +153,14 @@ fn write_open_frame(script: &mut Script) {
     };
     let number = found.unwrap_or_else(|| signal_number(script));
     write_signal(script, number, 97);
+}
+
+/// Writes a row that has signals of the frame whose transfer is open, if it is one of the table.
+fn write_open_row(script: &mut Script) {
+    match script.open() {
+        Open::Frame(frame) => rows::write_frame(script, frame),
+        _ => write_open_frame(script),
+    }
 }
 
 /// Looks at a part of the state.
@@ -185,7 +198,7 @@ pub fn ahead(script: &mut Script) -> String {
 
 /// Something that a run does seldom.
 fn unusual(script: &mut Script) {
-    match script.random.below(14) {
+    match script.random.below(15) {
         0 => wrong_buffer(script, any_call),
         1..=4 => begin_anew(script),
         5 => {
@@ -197,6 +210,7 @@ fn unusual(script: &mut Script) {
             script.say("status");
         }
         7..=9 => setting::disturb(script),
+        10 => rows::malformed_row(script),
         _ => lines::damaged_line(script),
     }
 }

@@ -4,6 +4,7 @@ use crate::diagnostic::Message;
 use crate::draft::Script;
 use crate::messages;
 use crate::misfits::{pair, pairs};
+use crate::rows;
 use crate::runs::{self, ahead, select};
 use crate::state::State;
 use crate::states::{fitting, set};
@@ -12,7 +13,7 @@ use crate::transfers;
 use crate::values::{read_signal, signal_number, write_signal};
 
 /// The number of calls that `call` knows.
-const CALLS: usize = 10;
+const CALLS: usize = 11;
 
 /// A table on which states are set; mostly small, with slots of all kinds.
 fn table(script: &mut Script) {
@@ -166,6 +167,7 @@ fn call(script: &mut Script, number: usize) {
         8 => {
             ahead(script);
         }
+        9 => rows::write_some(script),
         _ => {
             let line = script.random.one_of(&["status", "message"]);
             script.say(line);

@@ -8,10 +8,16 @@ use crate::tables::{right_table, table_line, Size};
 pub fn signal_number(script: &mut Script) -> usize {
     let count = script.signal_count();
     if count == 0 || script.random.once_in(30) {
-        let beyond = [count, count + 1, count + 256, 255, 256, 65_535];
-        return script.random.one_of(&beyond);
+        return missing_number(script);
     }
     script.random.below(count)
+}
+
+/// A signal number that is mostly not there.
+pub fn missing_number(script: &mut Script) -> usize {
+    let count = script.signal_count();
+    let beyond = [count, count + 1, count + 256, 255, 256, 65_535];
+    script.random.one_of(&beyond)
 }
 
 /// A signal number to write: mostly of a signal that the master publishes.
@@ -38,7 +44,7 @@ fn signal(script: &Script, number: usize) -> Option<Signal> {
 }
 
 /// A value for a scalar of this width, at an end of the range or inside it.
-fn value_inside(script: &mut Script, width: usize) -> u64 {
+pub fn value_inside(script: &mut Script, width: usize) -> u64 {
     let end = 1 << width;
     match script.random.below(5) {
         0 => 0,
@@ -49,7 +55,7 @@ fn value_inside(script: &mut Script, width: usize) -> u64 {
 }
 
 /// A value that a scalar of this width does not take.
-fn value_beyond(script: &mut Script, width: usize) -> u64 {
+pub fn value_beyond(script: &mut Script, width: usize) -> u64 {
     let end = 1 << width;
     let inside = script.random.next() % end;
     let values = [
