@@ -8,7 +8,7 @@ mod signals;
 use refusal::Refusal;
 
 fn main() {
-    show::text(b"refusal numbers, in the order of 01's table:");
+    show::text(b"refusal numbers, in the order of the papers:");
     let numbers = Refusal::numbers();
     show::numbers(&numbers);
     show::text(b"\n");

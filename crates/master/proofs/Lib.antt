@@ -14,6 +14,8 @@ pub mod Keeps
 pub mod LastByte
 pub mod Lengths
 pub mod Marking
+pub mod RowTurns
+pub mod RowTold
 pub mod LowestNumber
 pub mod MessageFits
 pub mod Nine

@@ -6,6 +6,7 @@ pub mod Admit
 pub mod Start
 pub mod Put
 pub mod Write
+pub mod WriteRow
 pub mod Read
 pub mod Plan
 pub mod Select

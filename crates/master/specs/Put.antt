@@ -1,6 +1,6 @@
--- Document 01, "Write": what a write is given, a signal and a scalar or an array.
+-- Document 01, "Write": what a write is given, a signal and a scalar or an array; document 02, Req 01: a row of them.
 use Prim.Native.Nat.{ℕ}
-use mathlib.Core.List.{List}
+use mathlib.Core.List.{List, [], _∷_}
 use Rattle.cluster.specs.Values.{withScalar, withArray}
 
 -- what a write puts into a signal: a number, or bytes
@@ -20,3 +20,9 @@ put s v = record { signal = s; value = v }
 abbrev pub withValue : List ℕ → List ℕ → ℕ → Value → List ℕ
 withValue t bs s (scalar v) = withScalar t bs s v
 withValue t bs s (array vs) = withArray t bs s vs
+
+-- "two lent rows, signal numbers and scalar values": the single writes, in row order
+unfoldable pub puts : List ℕ → List ℕ → List Put
+puts [] vs = []
+puts (s ∷ ss) [] = []
+puts (s ∷ ss) (v ∷ vs) = put s (scalar v) ∷ puts ss vs

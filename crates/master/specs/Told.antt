@@ -1,11 +1,11 @@
 -- Document 01, "Refusal numbers": what each call tells. "Each call tests those that concern it; the lowest number is given."; where every test holds, its
 -- values. Every public call has a clause that says so by these definitions.
-use Prim.Native.Nat.{ℕ, _*_}
+use Prim.Native.Nat.{ℕ, suc, _*_}
 use mathlib.Core.Bool.{true, false, cond, not, Bool·beq}
 use mathlib.Core.List.{List, [], _∷_}
 use lib.Dec.{ltb, eqb}
 use lib.ListN.{length}
-use Rattle.refusal.specs.Answers.{Told, Test, test, gives, refuses, firstFailing}
+use Rattle.refusal.specs.Answers.{Told, Test, test, gives, refuses, firstFailing, behind, toldAt}
 use Rattle.cluster.specs.declared.Verdict.{Verdict}
 use Rattle.cluster.specs.declared.Verdict.the-variants.{Accepted, Refused}
 use Rattle.cluster.specs.Check.{takenOf}
@@ -25,6 +25,7 @@ use Rattle.master.specs.Status.{statusWord}
 use Rattle.master.specs.Ahead.{pendingCount}
 use Rattle.master.specs.Calls as call
 use Rattle.master.specs.Calls.{Call}
+use Rattle.master.specs.Put.{Put, puts}
 use Rattle.master.specs.Run.{Held}
 
 -- a verdict, and the values where it accepts
@@ -40,16 +41,19 @@ sizeTest t size = test 2 (eqb size (8 * frameCount t))
 abbrev pub stateTest : List ℕ → State → Test
 stateTest t s = test 3 (stateFits t s)
 
--- the tests of a call behind 1, in the order of their numbers
-unfoldable pub testsOf : List ℕ → Held → Call → List Test
-testsOf t x (call.write w) =
-    sizeTest t (length (x .bytes))
-    ∷ stateTest t (x .state)
-    ∷ test 4 (ltb (w .signal) (signalCount t))
+-- "no such signal", "write to a signal the master doesn't publish", "scalar call on an array or the reverse", "value of 2^width or more; array of
+-- another length"
+abbrev pub putTests : List ℕ → Put → List Test
+putTests t w =
+    test 4 (ltb (w .signal) (signalCount t))
     ∷ test 5 (signalPublished t (w .signal))
     ∷ test 6 (Bool·beq (isArray t (w .signal)) (isBytes (w .value)))
     ∷ test 7 (fitsSignal t (w .signal) (w .value))
     ∷ []
+
+-- the tests of a call behind 1, in the order of their numbers
+unfoldable pub testsOf : List ℕ → Held → Call → List Test
+testsOf t x (call.write w) = sizeTest t (length (x .bytes)) ∷ stateTest t (x .state) ∷ putTests t w
 testsOf t x (call.read s) =
     sizeTest t (length (x .bytes))
     ∷ stateTest t (x .state)
@@ -93,6 +97,19 @@ valuesOf t x (call.numberAhead f) = pendingCount (x .state .pending) (framesAhea
 -- what a call tells
 unfoldable pub callTold : List ℕ → Held → Call → Told
 callTold t x c = behindTable (takenOf t) (firstFailing (testsOf t x c) (valuesOf t x c))
+
+-- what the pairs of a row tell, of which the first has place i
+unfoldable pub pairsTold : List ℕ → ℕ → List Put → Told
+pairsTold t i [] = gives []
+pairsTold t i (w ∷ ws) = behind (toldAt i (firstFailing (putTests t w) [])) (pairsTold t (suc i) ws)
+
+-- what a row of values tells: "rows of unequal length are 12, tested after 1 to 3; then the number of the first bad pair, with its place, by 4 to 7"
+unfoldable pub rowTold : List ℕ → Held → List ℕ → List ℕ → Told
+rowTold t x ss vs =
+    behindTable (takenOf t)
+    (behind
+    (firstFailing (sizeTest t (length (x .bytes)) ∷ stateTest t (x .state) ∷ test 12 (eqb (length ss) (length vs)) ∷ []) [])
+    (pairsTold t 0 (puts ss vs)))
 
 -- what fresh tells, which is lent some frame bytes
 unfoldable pub freshCallTold : List ℕ → ℕ → Told

@@ -3,14 +3,14 @@ use crate::state::Opened;
 use cluster::Limits;
 use cluster::frames;
 use cluster::members;
-use cluster::values;
+use cluster::signals;
 ghost use mathlib.Core.Bool.{true, cond, false, _&&_};
 ghost use mathlib.Core.Path.{_≡_};
 ghost use Prim.Native.Nat.{_<_, _≤_};
 ghost use Rattle.cluster.specs.Check.{RightTable};
 ghost use Rattle.master.specs.Fits.{frameThere, bitFits, pendingFits};
 ghost use Rattle.master.specs.Closing.{clearedBit, pendingSent};
-ghost use Rattle.cluster.specs.Table.{mostFrames, signalCount, memberCount, memberList, memberFrame};
+ghost use Rattle.cluster.specs.Table.{mostFrames, memberCount, memberList, memberFrame};
 ghost use Rattle.master.specs.Write.{markedFrom};
 ghost use lib.Dec.{eqb};
 ghost use lib.ListN.{getD};
@@ -46,25 +46,14 @@ fn bit_fits(t: &[u16], f: u16, bit: bool) -> bool
     frames::published(t, f)
 }
 
-// The pending bits with those of the frames that a signal touches.
-pub(crate) fn touched_too(
-    t: &[u16],
-    s: u16,
-    pending: [bool; Limits::FRAMES],
-) -> [bool; Limits::FRAMES]
-    requires { ⌜ RightTable (now t) × (s < signalCount (now t)) ⌝ }
-    ensures { λ r. ⌜ r ≡ markedFrom (now (t .entry)) s 0 pending ⌝ }
+// Marks the frames that a signal touches as pending.
+pub(crate) fn mark(t: &[u16], s: u16, pending: &mut [bool])
+    ensures { λ _. ⌜ now (pending .exit) ≡ markedFrom (now (t .entry)) s 0 (now (pending .entry)) ⌝ }
 {
-    let mut bits = pending;
-    let n = frames::count(t);
-    let mut f: u16 = 0;
-    while f < n {
-        if values::touches(t, s, f) {
-            bits[f as usize] = true;
-        }
-        f += 1;
+    let f = signals::frame(t, s) as usize;
+    if f < pending.len() {
+        pending[f] = true;
     }
-    bits
 }
 
 impl Opened {

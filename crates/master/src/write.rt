@@ -1,6 +1,6 @@
 // The two writes.
 use crate::admit::refused;
-use crate::pending::touched_too;
+use crate::pending::mark;
 use crate::state::State;
 use cluster::Verdict;
 use cluster::signals;
@@ -8,10 +8,7 @@ use cluster::values;
 use refusal::Refusal;
 ghost use mathlib.Core.Bool.{true, false};
 ghost use mathlib.Core.Path.{_≡_};
-ghost use Prim.Native.Nat.{_<_};
-ghost use Rattle.cluster.specs.Check.{RightTable};
 ghost use Rattle.master.specs.Admit.{Leaves};
-ghost use Rattle.cluster.specs.Table.{signalCount};
 ghost use Rattle.master.specs.Write.{writable as writableOf, marked as markedOf, refusedWrite, writeVerdict, writeOf};
 ghost use Rattle.master.specs.Put.{scalar, array, put};
 ghost use Rattle.master.specs.Answers.{writeTold};
@@ -85,7 +82,7 @@ impl State {
     }
 
     // A refused write.
-    fn not_written(self, refusal: Refusal) -> Wrote
+    pub(crate) fn not_written(self, refusal: Refusal) -> Wrote
         ensures { λ r. ⌜ r ≡ refusedWrite self refusal ⌝ }
     {
         let unchanged = self;
@@ -97,18 +94,18 @@ impl State {
 
     // The frames of a signal are pending, and an open transfer of one of them was written since.
     fn marked(self, t: &[u16], s: u16) -> State
-        requires { ⌜ RightTable (now t) × (s < signalCount (now t)) ⌝ }
         ensures { λ r. ⌜ r ≡ markedOf (now (t .entry)) s self ⌝ }
     {
-        let pending = self.pending;
         let transfer = self.transfer;
-        self.with_pending(touched_too(t, s, pending))
+        let mut pending = self.pending;
+        mark(t, s, &mut pending);
+        self.with_pending(pending)
             .with_transfer(transfer.rewritten(t, s))
     }
 }
 
 // Refusals 4 to 7 of a write.
-fn writable(t: &[u16], s: u16, array: bool, fits: bool) -> Verdict
+pub(crate) fn writable(t: &[u16], s: u16, array: bool, fits: bool) -> Verdict
     ensures { λ r. ⌜ r ≡ writableOf (now (t .entry)) s array fits ⌝ }
 {
     if signals::count(t) <= s {

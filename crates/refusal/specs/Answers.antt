@@ -3,6 +3,7 @@
 use Prim.Native.Nat.{ℕ}
 use mathlib.Core.Bool.{Bool, cond}
 use mathlib.Core.List.{List, [], _∷_}
+use lib.Dec.{eqb}
 use lib.ListN.{getD}
 use Rattle.refusal.specs.Numbers.{refused}
 use Rattle.refusal.specs.declared.Refusal.{Refusal}
@@ -37,3 +38,11 @@ test n b = record { number = n; holds = b }
 unfoldable pub firstFailing : List Test → List ℕ → Told
 firstFailing [] vs = gives vs
 firstFailing (x ∷ xs) vs = cond (x .holds) (firstFailing xs vs) (refuses (refused (x .number)))
+
+-- what comes behind some tests is told where they refuse nothing
+unfoldable pub behind : Told → Told → Told
+behind x y = cond (eqb (x .number) 0) y x
+
+-- with its place, where something is refused
+unfoldable pub toldAt : ℕ → Told → Told
+toldAt i x = cond (eqb (x .number) 0) x (record { number = x .number; place = i; values = [] })

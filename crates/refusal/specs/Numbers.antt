@@ -1,8 +1,8 @@
--- Document 01, "Refusal numbers": each number by name, and the refusal that an answer carries.
+-- Document 01, "Refusal numbers", and those of document 02: each number by name, and the refusal that an answer carries.
 use Prim.Native.Nat.{ℕ}
-use mathlib.Core.Bool.{Bool}
+use mathlib.Core.Bool.{Bool, _&&_, _||_}
 use mathlib.Core.List.{List, [], _∷_}
-use lib.Dec.{eqb}
+use lib.Dec.{leb, eqb}
 use Rattle.refusal.specs.declared.Refusal.{Refusal}
 
 -- 1: the table check finds a fault
@@ -49,7 +49,11 @@ sending = 10
 abbrev pub frame : ℕ
 frame = 11
 
--- the table's first column
+-- 12: rows of unequal length
+abbrev pub rows : ℕ
+rows = 12
+
+-- the table's first column, and the numbers that the requests add
 abbrev pub numbers : List ℕ
 numbers =
     table
@@ -63,16 +67,18 @@ numbers =
     ∷ messageLength
     ∷ sending
     ∷ frame
+    ∷ rows
     ∷ []
 
 -- "return only the number": a refusal with no place
 abbrev pub refused : ℕ → Refusal
 refused n = record { number = n; place = 0 }
 
--- "1 also the position": a refusal at a place
+-- "1 also the position", "the number of the first bad pair, with its place": a refusal at a place
 abbrev pub refusedAt : ℕ → ℕ → Refusal
 refusedAt n p = record { number = n; place = p }
 
--- "1 also the position": the numbers that are given with a position
-unfoldable pub tellsPlace : ℕ → Bool
-tellsPlace n = eqb n 1
+-- "1 also the position"; of a row of values "the number of the first bad pair, with its place, by 4 to 7": whether a number is given with a place, by a
+-- row of values or by any other call
+unfoldable pub tellsPlace : Bool → ℕ → Bool
+tellsPlace row n = eqb n 1 || (row && (leb 4 n && leb n 7))

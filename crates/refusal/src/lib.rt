@@ -1,9 +1,9 @@
-// The refusal numbers of document 01 by name, and the refusal that every refusing answer carries.
+// The refusal numbers of documents 01 and 02 by name, and the refusal that every refusing answer carries.
 ghost use mathlib.Core.Path.{_≡_};
-ghost use Rattle.refusal.specs.Numbers.{numbers, refused, refusedAt};
+ghost use Rattle.refusal.specs.Numbers.{numbers, refused, refusedAt, tellsPlace};
 
-// The number says which row of document 01's table applies. The place is the position that the paper gives with it, and
-// 0 where it gives none.
+// The number says which row of the papers' tables applies. The place is the one that the paper gives with it, and 0 where
+// it gives none.
 pub struct Refusal {
     pub number: u8,
     pub place: usize,
@@ -32,6 +32,8 @@ impl Refusal {
     pub const SENDING: u8 = 10;
     // An identifier above 63, wrong parity, or a number of bytes that no frame has.
     pub const FRAME: u8 = 11;
+    // Rows of unequal length.
+    pub const ROWS: u8 = 12;
 
     // A refusal with no place.
     pub fn of(number: u8) -> Refusal
@@ -47,8 +49,21 @@ impl Refusal {
         Refusal { number, place }
     }
 
-    // All numbers, in the order of document 01's table.
-    pub fn numbers() -> [u8; 11]
+    // Whether the place is told with the number, by a row of values or by any other call.
+    pub fn tells_place(self, row: bool) -> bool
+        ensures { λ r. ⌜ r ≡ tellsPlace row (self .number) ⌝ }
+    {
+        if self.number == Refusal::TABLE {
+            return true;
+        }
+        if self.number < Refusal::UNKNOWN {
+            return false;
+        }
+        row && self.number <= Refusal::VALUE
+    }
+
+    // All numbers, in the order of the papers.
+    pub fn numbers() -> [u8; 12]
         ensures { λ r. ⌜ r ≡ numbers ⌝ }
     {
         [
@@ -63,6 +78,7 @@ impl Refusal {
             Refusal::MESSAGE_LENGTH,
             Refusal::SENDING,
             Refusal::FRAME,
+            Refusal::ROWS,
         ]
     }
 }

@@ -7,9 +7,8 @@ use Rattle.master.proofs.state.State.marked.Tie as tie
 returns : tie.Need-returns
 unfolding marked
 returns c =
-    let bits = c .before .before .before .touched-too in
-    rw (c .with-transfer .ensures, c .before .rewritten .ensures, c .before .before .with-pending .ensures, bits .ensures)
+    rw (c .with-transfer .ensures, c .before .rewritten .ensures, c .before .before .with-pending .ensures, c .before .before .before .before .mark .ensures)
 
 pub marked-spec : {M : Type 1} → statement M
 marked-spec =
-    tie.close (tie.spec (λ c κs. search needs) (λ c κs. search needs) (λ c κs. search needs) (λ c κs. search needs) returns)
+    tie.close (tie.spec (λ c. search needs) (λ c κs. search needs) (λ c κs. search needs) (λ c κs. search needs) (λ c κs. search needs) returns)

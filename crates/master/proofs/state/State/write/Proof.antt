@@ -29,17 +29,6 @@ cast-put-scalar c =
       );
     }
 
-marked-requires : tie.Need-marked-requires
-marked-requires c κs =
-    let a = c .before .before .before .before .before .before .before .before .before .args in
-    let judge-scalar = c .before .before .before .before .before .before .judge-scalar in
-    let enum-told = c .before .before .before .before .enum-told in
-    let e = (sym (judge-scalar .ensures) ∙ enum-told .given .1) in (
-      write-table (a .t .now) (length (a .bytes .now)) (a .self) (a .s) false (valueFits (a .t .now) (a .s) (a .v)) e,
-      write-signal
-          (a .t .now) (length (a .bytes .now)) (a .self) (a .s) false (valueFits (a .t .now) (a .s) (a .v)) e .below,
-    )
-
 returns-2 : tie.Need-returns-2
 unfolding writeOf
 returns-2 c =
@@ -52,4 +41,4 @@ pub write-spec : {M : Type 1} → statement M
 write-spec =
     tie.close
     (tie.spec (λ c κs. search needs) (λ c. search needs) (λ c κs. search needs) returns (λ c. search needs)
-    cast-put-scalar (λ c κs. search needs) marked-requires (λ c. search needs) returns-2)
+    cast-put-scalar (λ c κs. search needs) (λ c κs. search needs) (λ c. search needs) returns-2)

@@ -17,16 +17,6 @@ returns c =
     let e = (sym (c .before .before .before .before .judge-array .ensures) ∙ c .before .before .refusal .given .1) in
     write-told _ _ _ _ _ _ (record { handed = rw (e, c .not-written .ensures); kept = rw e })
 
-marked-requires : tie.Need-marked-requires
-marked-requires c κs =
-    let a = c .before .before .before .before .before .before .before .before .before .before .args in
-    let judge-array = c .before .before .before .before .before .before .judge-array in
-    let enum-told = c .before .before .before .before .enum-told in
-    let e = (sym (judge-array .ensures) ∙ enum-told .given .1) in (
-      write-table (a .t .now) (length (a .bytes .now)) (a .self) (a .s) true (arrayFits (a .t .now) (a .s) (a .values .now)) e,
-      write-signal (a .t .now) (length (a .bytes .now)) (a .self) (a .s) true (arrayFits (a .t .now) (a .s) (a .values .now)) e .below,
-    )
-
 returns-2 : tie.Need-returns-2
 unfolding writeOf
 returns-2 c =
@@ -39,4 +29,4 @@ pub write-array-spec : {M : Type 1} → statement M
 write-array-spec =
     tie.close
     (tie.spec (λ c κs. search needs) (λ c. search needs) (λ c κs. search needs) returns (λ c. search needs)
-    (λ c κs. search needs) marked-requires (λ c. search needs) returns-2)
+    (λ c κs. search needs) (λ c κs. search needs) (λ c. search needs) returns-2)
