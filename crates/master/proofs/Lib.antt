@@ -16,6 +16,7 @@ pub mod Lengths
 pub mod Marking
 pub mod RowTurns
 pub mod RowTold
+pub mod RowExactly
 pub mod LowestNumber
 pub mod MessageFits
 pub mod Nine

@@ -29,3 +29,4 @@ pub mod Answering
 pub mod Replies
 pub mod Claim
 pub mod InWords
+pub mod RowInWords
