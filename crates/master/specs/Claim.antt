@@ -13,7 +13,7 @@ use Rattle.master.specs.declared.byte.ByteAnswer.the-variants as byte
 use Rattle.master.specs.declared.ahead.AheadAnswer.{AheadAnswer}
 use Rattle.master.specs.Seq.{Seq, ∅, _▹_, _⋈_, Each}
 use Rattle.master.specs.Calls.{Call, tick, byteIn, numberAhead, Answer, Reply, Event, _⇒_}
-use Rattle.master.specs.Run.{answerOf, heldAfter, historyOf}
+use Rattle.master.specs.Run.{Held, answerOf, heldAfter, historyOf}
 use Rattle.master.specs.Acts.{nothing, actOf}
 use Rattle.master.specs.Schedule.{Slot, entry, Scheduled, scheduled}
 use Rattle.master.specs.History.{writes, opens, closes, openAfter, Succeeded, Pending, successes, writtenBytes, eightOf, responseOf, gotAfter}
@@ -32,33 +32,27 @@ event c a s k = record { event = c ⇒ a; slot = s; within = k }
 abbrev pub Spares : List ℕ → List ℕ → Scheduled → Type 0
 Spares t fs x = (g : ℕ) → List·Memᴰ g fs → writes t x g ≡ false
 
-pub record Claim (t bs : List ℕ) (cs : Seq Call) : Type 0 where
-  -- (a) after every call, the bit of a frame is set exactly when the frame is pending
-  pub bits :
-      (before after : Seq Call) →
-      cs ≡ before ⋈ after →
-      (f : ℕ) → (getD (heldAfter t bs before .state .pending) f false ≡ true) ↔ Pending t (recordOf t bs before) f
+-- what demand 3 says of the state and the frame bytes after a history, part (a)
+pub record HeldClaim (t : List ℕ) (h : Seq Scheduled) (x : Held) : Type 0 where
+  -- (a) the bit of a frame is set exactly when the frame is pending
+  pub bits : (f : ℕ) → (getD (x .state .pending) f false ≡ true) ↔ Pending t h f
   -- (a) and the bytes of a published frame are as fresh and the accepted writes left them
-  pub bytes :
-      (before after : Seq Call) →
-      cs ≡ before ⋈ after →
-      (f : ℕ) → f < frameCount t → published t f ≡ true →
-      eightOf (heldAfter t bs before .bytes) f ≡ eightOf (writtenBytes t (recordOf t bs before)) f
+  pub bytes : (f : ℕ) → f < frameCount t → published t f ≡ true → eightOf (x .bytes) f ≡ eightOf (writtenBytes t h) f
   -- (a) and all frame bytes are as fresh, the accepted writes and the frames received with success left them
-  pub all-bytes :
-      (before after : Seq Call) →
-      cs ≡ before ⋈ after →
-      heldAfter t bs before .bytes ≡ bytesAfter t (recordOf t bs before)
+  pub all-bytes : x .bytes ≡ bytesAfter t h
+
+-- what demand 3 says of one history under a table, parts (b) to (e)
+pub record HistoryClaim (t : List ℕ) (h : Seq Scheduled) : Type 0 where
   -- (b) a slot of a list opens the first member that is pending just before its tick, and is silent exactly when there is none
   pub slots :
       (before after : Seq Scheduled) (m : List ℕ) (a : TickAnswer) (e : ℕ) (k : Slot) →
-      recordOf t bs cs ≡ before ▹ event (tick m) a (entry e) k ⋈ after →
+      h ≡ before ▹ event (tick m) a (entry e) k ⋈ after →
       entryKind t e ≡ 1 →
       Takes t (Pending t before) (members t (entryTarget t e)) a
   -- (c) in a transfer of a published frame success is answered exactly at byte length + 1, when the bytes were those at its opening tick
   pub success :
       (before : Seq Scheduled) (start : Scheduled) (during after : Seq Scheduled) (b : ℕ) (r : Reply) (s k : Slot) (f : ℕ) →
-      recordOf t bs cs ≡ before ▹ start ⋈ during ▹ event (byteIn b) r s k ⋈ after →
+      h ≡ before ▹ start ⋈ during ▹ event (byteIn b) r s k ⋈ after →
       opens t start ≡ Frame f →
       published t f ≡ true →
       Each (λ x. closes x ≡ false) during →
@@ -66,13 +60,13 @@ pub record Claim (t bs : List ℕ) (cs : Seq Call) : Type 0 where
   -- (d) number ahead is the number of pending members ahead in the frame's list
   pub ahead :
       (before after : Seq Scheduled) (f : ℕ) (a : AheadAnswer) (s k : Slot) →
-      recordOf t bs cs ≡ before ▹ event (numberAhead f) a s k ⋈ after →
+      h ≡ before ▹ event (numberAhead f) a s k ⋈ after →
       AheadReply t before f a
   -- (e) at a moment with no transfer open, a pending member f of list l with p pending members ahead of it: unless one of those is written, f is
   -- sent by the time that the list's slots have had p + 1 more successful transfers
   pub progress :
       (h₁ h₂ : Seq Scheduled) (l f p : ℕ) (ahead behind : List ℕ) →
-      recordOf t bs cs ≡ h₁ ⋈ h₂ →
+      h ≡ h₁ ⋈ h₂ →
       openAfter t h₁ ≡ Nothing →
       members t l ≡ ahead ++ (f ∷ behind) →
       Pending t h₁ f →
@@ -80,6 +74,16 @@ pub record Claim (t bs : List ℕ) (cs : Seq Call) : Type 0 where
       Each (Spares t ahead) h₂ →
       p < successes t l h₂ →
       Succeeded t h₂ f
+
+-- and of all calls after a fresh one
+pub record Claim (t bs : List ℕ) (cs : Seq Call) : Type 0 where
+  -- (a) after every call
+  pub after-each :
+      (before after : Seq Call) →
+      cs ≡ before ⋈ after →
+      HeldClaim t (recordOf t bs before) (heldAfter t bs before)
+  -- (b) to (e) hold of its history
+  pub history : HistoryClaim t (recordOf t bs cs)
   -- (f) every answer is the one that the table and the history before it give
   pub answers :
       (before after : Seq Scheduled) (c : Call) (a : Answer c) (s k : Slot) →

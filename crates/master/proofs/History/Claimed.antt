@@ -62,18 +62,22 @@ demand-3 t bs accepted cs =
     let good : (before : Seq Scheduled) (x : Scheduled) (after : Seq Scheduled) → recordOf t bs cs ≡ before ▹ x ⋈ after → Good t before x =
     λ before x after p. along-at (Good t) before x after (rw p at (goods t bs accepted cs)) in
     record {
-      bits = λ before after p f. rw (agrees t bs accepted before .frames .bits-are f) (pending-iff t (recordOf t bs before) f);
-      bytes = λ before after p f b q.
+      after-each = λ before after p.
           let is = agrees t bs accepted before .frames in
-          same-eight t _ _ (is .size) (is .written-are) f q;
-      all-bytes = λ before after p. agrees t bs accepted before .frames .bytes-are;
-      slots = λ before after m a e s p k. list-slot t before m a e s (good before _ after p) k;
-      success = λ before start during after b r s k f p o q d. sent-exactly t before start during b r s k f (good _ _ after p) o q d;
-      ahead = λ before after f a s k p. good before _ after p .replies;
-      progress = λ h₁ h₂ l f p ahead behind split idle place waits count unwritten enough.
-          sent-in-time t h₁ l f ahead behind idle place (pending-iff t h₁ f .1 waits) h₂
-          (along-each (λ h x g. g .lawful) (h₁ ⋈ h₂) (rw split at (goods t bs accepted cs))) unwritten
-          (rw (count-is (pendingAfter t h₁) (Pending t h₁) (pending-iff t h₁) count) enough);
+          record {
+            bits = λ f. rw (is .bits-are f) (pending-iff t (recordOf t bs before) f);
+            bytes = λ f b q. same-eight t _ _ (is .size) (is .written-are) f q;
+            all-bytes = is .bytes-are;
+          };
+      history = record {
+        slots = λ before after m a e s p k. list-slot t before m a e s (good before _ after p) k;
+        success = λ before start during after b r s k f p o q d. sent-exactly t before start during b r s k f (good _ _ after p) o q d;
+        ahead = λ before after f a s k p. good before _ after p .replies;
+        progress = λ h₁ h₂ l f p ahead behind split idle place waits count unwritten enough.
+            sent-in-time t h₁ l f ahead behind idle place (pending-iff t h₁ f .1 waits) h₂
+            (along-each (λ h x g. g .lawful) (h₁ ⋈ h₂) (rw split at (goods t bs accepted cs))) unwritten
+            (rw (count-is (pendingAfter t h₁) (Pending t h₁) (pending-iff t h₁) count) enough);
+      };
       answers = λ before after c a s k p. good before _ after p .replies;
       unchanged = λ before after c p n. unchanged t (heldAfter t bs before) c n;
     }

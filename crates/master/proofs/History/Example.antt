@@ -111,7 +111,7 @@ unfolding openAfter closes opens transferNamed frameNamed firstFrom frameCount w
     rewrittenAfter wipes pendingAfter writes succeeds touches signalFrame successes slotAfter members membersFrom memberCount
     memberList memberFrame signalCount entryKind entryTarget
 sent-second =
-    demand-3 table buffer accepted calls .progress writing sending 0 1 1 (0 ∷ []) [] record-is refl refl
+    demand-3 table buffer accepted calls .history .progress writing sending 0 1 1 (0 ∷ []) [] record-is refl refl
     (pending-iff table writing 1 .0 refl)
     (one-more (pending-iff table writing 0 .0 refl) none-left)
     ((((((tt, λ g i. refl), λ g i. refl), λ g i. refl), λ g i. refl), λ g i. refl), λ g i. refl)
