@@ -1,0 +1,4 @@
+pub mod AsCalls
+pub mod RowReplies
+pub mod Claimed
+pub mod Only

@@ -1,0 +1,4 @@
+pub mod Orders
+pub mod Run
+pub mod Replies
+pub mod Claim
