@@ -2,3 +2,4 @@ pub mod AsCalls
 pub mod RowReplies
 pub mod Claimed
 pub mod Only
+pub mod Worked
