@@ -2,7 +2,7 @@
 -- number exactly when the single writes before that place would be accepted and the one there refused with that number.
 use Prim.Native.Nat.{ℕ, suc, _+_}
 use mathlib.Core.Path.{_≡_, refl, sym, _∙_, ap}
-use mathlib.Core.Logic.{_↔_, _⊎_, inl, inr, ⊎-elim}
+use mathlib.Core.Logic.{_↔_}
 use mathlib.Core.Bool.{Bool, true, false, Bool·beq}
 use mathlib.Core.List.{List, [], _∷_, _++_}
 use native.Mathlib.Omega.{arith}
@@ -13,16 +13,15 @@ use Rattle.refusal.specs.declared.Refusal.{Refusal}
 use Rattle.refusal.specs.Numbers.{refused, refusedAt}
 use Rattle.cluster.specs.declared.Verdict.{Verdict}
 use Rattle.cluster.specs.declared.Verdict.the-variants as verdict
-use Rattle.cluster.specs.Check.{TakenTable, then}
+use Rattle.cluster.specs.Check.{then}
 use Rattle.cluster.specs.Table.{signalCount, isArray}
 use Rattle.cluster.specs.Values.{signalPublished}
 use Rattle.cluster.proofs.Accepted.{then-first, then-second}
 use Rattle.transport.proofs.Tests.{whether}
 use Rattle.master.specs.declared.state.State.{State}
-use Rattle.master.specs.declared.write.WriteAnswer.{WriteAnswer}
 use Rattle.master.specs.declared.write.WriteAnswer.the-variants.{Written, Refused}
 use Rattle.master.specs.declared.write.Wrote.{Wrote}
-use Rattle.master.specs.Admit.{unless, admitted, bufferSize, answered, Step}
+use Rattle.master.specs.Admit.{unless, admitted, Step}
 use Rattle.master.specs.Put.{Put, put, scalar, puts}
 use Rattle.master.specs.Write.{isBytes, fitsSignal, writable, marked, writeVerdict, writeOf}
 use Rattle.master.specs.WriteRow.{atPlace, putVerdict, firstBad, rowVerdict, markedBits, rewrittenBy, withRow, markedRow, rowOf}
@@ -32,7 +31,7 @@ use Rattle.master.specs.Step.{verdictOf, effectOf, refusalOf}
 use Rattle.master.specs.RowInWords.{rowAnswer, rowLeft, afterWrites, AllWritten, Admitted, RowRefused, as-every-call, unequal, bad-pair}
 use Rattle.master.proofs.Admitted.{admits, admitted-taken, admitted-size, admitted-fits}
 use Rattle.master.proofs.Answered.{by-verdict}
-use Rattle.master.proofs.RowTurns.{RowKnows, row-knows, placed-accepted}
+use Rattle.master.proofs.RowTurns.{row-knows, placed-accepted}
 use Rattle.master.proofs.StepLaws.{goes, left-by-verdict, keeps-fit, keeps-bytes, refused-exactly}
 use Rattle.master.proofs.WriteLaws.{write-accepts}
 

@@ -2,16 +2,15 @@
 use Prim.Native.Nat.{ℕ}
 use mathlib.Core.Path.{_≡_, refl, sym, _∙_, ap}
 use mathlib.Core.List.{List, [], _∷_}
-use Rattle.refusal.specs.declared.Refusal.{Refusal}
 use Rattle.master.specs.declared.write.WriteAnswer.{WriteAnswer}
 use Rattle.master.specs.declared.write.WriteAnswer.the-variants.{Written, Refused}
 use Rattle.master.specs.Put.{Put, puts}
 use Rattle.master.specs.Seq.{Seq, ∅, _▹_}
-use Rattle.master.specs.Calls.{Call, write, Event, _⇒_}
-use Rattle.master.specs.Run.{Held, answerOf, leftBy, heldAfter, historyOf}
+use Rattle.master.specs.Calls.{Call, write}
+use Rattle.master.specs.Run.{Held, leftBy, heldAfter, historyOf}
 use Rattle.master.specs.RowInWords.{rowAnswer, rowLeft, afterWrites, AllWritten}
 use Rattle.master.proofs.RowExactly.{row-written-exactly, row-is-writes, row-refused-unchanged}
-use Rattle.orders.specs.Orders.{Order, one, row, _⇛_, withWrites, readRow, readOrder, readOrders}
+use Rattle.orders.specs.Orders.{Order, one, row, withWrites, readRow, readOrder, readOrders}
 use Rattle.orders.specs.Run.{orderAnswer, orderLeft, heldBy, orderedOf}
 
 -- some calls, and behind them some writes

@@ -1,19 +1,18 @@
 -- Demand 3 with rows of values: the claim holds of every sequence of orders.
 use Prim.Native.Nat.{ℕ}
-use mathlib.Core.Path.{_≡_, refl, sym, _∙_, ap, subst}
+use mathlib.Core.Path.{_≡_, refl, _∙_, ap}
 use mathlib.Core.List.{List, [], _∷_}
 use native.Mathlib.Omega.{arith}
-use Rattle.cluster.specs.Check.{TakenTable}
 use Rattle.master.specs.declared.start.FreshAnswer.the-variants.{Fresh}
 use Rattle.master.specs.declared.write.WriteAnswer.{WriteAnswer}
 use Rattle.master.specs.declared.write.WriteAnswer.the-variants.{Written, Refused}
 use Rattle.master.specs.Start.{freshOf}
-use Rattle.master.specs.Seq.{Seq, ∅, _▹_, _⋈_, Each}
+use Rattle.master.specs.Seq.{Seq, ∅, _▹_, Each}
 use Rattle.master.specs.Calls.{Call, write, Event, _⇒_}
 use Rattle.master.specs.Put.{Put, puts}
 use Rattle.master.specs.Acts.{nothing, actOf}
-use Rattle.master.specs.Run.{Held, answerOf, leftBy, heldAfter, historyOf}
-use Rattle.master.specs.Schedule.{Scheduled, schedule, scheduled}
+use Rattle.master.specs.Run.{Held, answerOf, heldAfter, historyOf}
+use Rattle.master.specs.Schedule.{schedule, scheduled}
 use Rattle.master.specs.Claim.{recordOf, HeldClaim, HistoryClaim, Claim}
 use Rattle.master.specs.Replies.{Replies}
 use Rattle.master.specs.RowInWords.{rowAnswer, rowLeft, afterWrites, Admitted}

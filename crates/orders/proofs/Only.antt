@@ -14,18 +14,16 @@ use Rattle.master.specs.declared.start.FreshAnswer.the-variants.{Fresh}
 use Rattle.master.specs.Admit.{bufferSize}
 use Rattle.master.specs.Start.{freshOf}
 use Rattle.master.specs.Seq.{Seq, ∅, _▹_}
-use Rattle.master.specs.Run.{answerOf, heldAfter}
-use Rattle.master.specs.Schedule.{Scheduled, scheduled}
-use Rattle.master.specs.Claim.{recordOf}
+use Rattle.master.specs.Run.{answerOf}
 use Rattle.master.specs.InWords.{lastValue, ReadsAs}
 use Rattle.master.proofs.History.Only.{only-answer}
 use Rattle.master.proofs.History.LastWrite.{last-write}
 use Rattle.master.proofs.History.Runs.{fresh-taken}
-use Rattle.orders.specs.Orders.{Order, one, row, OrderAnswer, Ordered, _⇛_, readOrders}
+use Rattle.orders.specs.Orders.{Order, one, row, OrderAnswer, Ordered, _⇛_}
 use Rattle.orders.specs.Run.{orderAnswer, heldBy, orderedOf}
 use Rattle.orders.specs.Replies.{OrderReplies}
 use Rattle.orders.specs.Claim.{readOf, ordersOf, Meets}
-use Rattle.orders.proofs.AsCalls.{asCalls, read-as-calls}
+use Rattle.orders.proofs.AsCalls.{asCalls}
 use Rattle.orders.proofs.RowReplies.{row-replies}
 use Rattle.orders.proofs.Claimed.{same-held, same-record, admitted-after, replies}
 

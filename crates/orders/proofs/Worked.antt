@@ -9,7 +9,7 @@ use Rattle.refusal.specs.Numbers.{refused, refusedAt}
 use Rattle.wire.specs.Bits.{bit}
 use Rattle.wire.specs.Identifier.{p0, p1, protectedByte}
 use Rattle.wire.specs.Checksum.{withCarry, sum, covered, modelOf, inverted, checksumByte}
-use Rattle.signal.specs.Signal.{bitAt, number, bytesOf, inside, replaced, putBits, putScalar, putArray, getScalar, getArray}
+use Rattle.signal.specs.Signal.{bitAt, number, bytesOf, inside, replaced, putBits, putScalar, putArray, getScalar}
 use Rattle.cluster.specs.Table.{word, frameCount, signalCount, memberCount, entryCount, size, identifier, frameLength, flags, published, classic}
 use Rattle.cluster.specs.Table.{signalFrame, signalKind, signalOffset, signalWidth, signalStart, isArray, memberList, memberFrame}
 use Rattle.cluster.specs.Table.{entrySchedule, entryKind, entryTarget, entryDelay, counted, listCount, scheduleCount}
@@ -19,18 +19,13 @@ use Rattle.cluster.specs.Places.{signalPlace, occupies}
 use Rattle.cluster.specs.Right.{anyBelow, headerRight, frameRight, occupiedBefore, overlaps, signalRight, memberRight, entryRight, records, wordsRight}
 use Rattle.cluster.specs.Check.{takenOf, faults, surplus, judged}
 use Rattle.cluster.specs.Fresh.{arrayLength, putStart, filled, freshBytes}
-use Rattle.cluster.specs.Values.{touches, signalPublished, valueFits, arrayFits, scalarValue, arrayValue, withScalar, withArray, arrayRead}
-use Rattle.transport.specs.Cutting as cutting
-use Rattle.transport.specs.Reassembly as lent
+use Rattle.cluster.specs.Values.{touches, signalPublished, valueFits, scalarValue, withScalar}
 use Rattle.master.specs.declared.write.WriteAnswer.the-variants as write
 use Rattle.master.specs.declared.read.ReadAnswer.the-variants as read
-use Rattle.master.specs.declared.read.ArrayAnswer.the-variants as array
-use Rattle.master.specs.declared.read.StatusAnswer.the-variants as status
 use Rattle.master.specs.declared.select.SelectAnswer.the-variants as select
 use Rattle.master.specs.declared.tick.TickAnswer.the-variants as tick
 use Rattle.master.specs.declared.byte.ByteAnswer.the-variants as byte
 use Rattle.master.specs.declared.send.SendAnswer.the-variants as send
-use Rattle.master.specs.declared.send.MessageAnswer.the-variants as message
 use Rattle.master.specs.declared.ahead.AheadAnswer.the-variants as ahead
 use Rattle.master.specs.Admit.{bufferSize, admitted}
 use Rattle.master.specs.Start.{freshVerdict, freshOf}
@@ -38,20 +33,18 @@ use Rattle.master.specs.Fresh.{fresh}
 use Rattle.master.specs.Fits.{waitFits, bitFits, pendingFits, entryOpens, canOpen, countFits, messageFits, stateFits}
 use Rattle.master.specs.Transfers.{formatOf, openProtected, openChecksum, frameData, sentData, copied, opening}
 use Rattle.master.specs.Select.{selectVerdict, selectOf}
-use Rattle.master.specs.Write.{writable, markedFrom, rewritten, marked, writeOf}
-use Rattle.master.specs.Read.{readVerdict, readScalarOf, readArrayOf}
+use Rattle.master.specs.Write.{writable, markedFrom, rewritten, marked}
+use Rattle.master.specs.Read.{readVerdict, readScalarOf}
 use Rattle.master.specs.Tick as ticks
 use Rattle.master.specs.Status as reading
-use Rattle.master.specs.Message as messages
 use Rattle.master.specs.Ahead.{pendingCount, aheadVerdict, aheadOf}
-use Rattle.master.specs.Closing.{clearedBit, pendingSent, failed, sent, received}
+use Rattle.master.specs.Closing.{clearedBit, pendingSent, sent, received}
 use Rattle.master.specs.Byte.{passed, sentByte, checksumRight, accepted, lastByte, receivedByte, byteEffect, byteVerdict, byteOf}
 use Rattle.master.specs.Seq.{Seq, ∅, _▹_, _⋈_}
 use Rattle.master.specs.Calls as call
-use Rattle.master.specs.Calls.{Call, Event, _⇒_}
-use Rattle.master.specs.Run.{answerOf, leftBy, heldAfter, historyOf}
+use Rattle.master.specs.Calls.{Event, _⇒_}
+use Rattle.master.specs.Run.{answerOf, leftBy, heldAfter}
 use Rattle.master.specs.Replies.{plain}
-use Rattle.master.specs.Claim.{callsOf}
 use Rattle.master.specs.Put.{put, scalar, puts}
 use Rattle.master.specs.WriteRow.{firstBad, rowVerdict, markedBits, rewrittenBy, withRow, markedRow, rowOf}
 use Rattle.orders.specs.Orders.{Order, one, row, Ordered, _⇛_, withWrites, readOrder, readOrders}
@@ -149,6 +142,16 @@ pub worked-rows : (orderedOf table (replicate 24 0) orders ≡ answered)
     × (readOrders answered ≡ history)
     × (heldBy table (replicate 24 0) orders .bytes ≡ eight (253 ∷ []) ++ (eight (9 ∷ 9 ∷ 200 ∷ []) ++ eight (1 ∷ [])))
     × (heldBy table (replicate 24 0) orders .state .pending ≡ false ∷ true ∷ replicate 58 false)
-unfolding orderedOf heldBy orderAnswer orderLeft readOrders readOrder withWrites firstBad rowVerdict markedBits rewrittenBy withRow markedRow rowOf puts
-    historyOf heldAfter leftBy answerOf freshOf freshVerdict fresh bufferSize admitted takenOf judged faults surplus wordsRight records headerRight frameRight anyBelow signalRight offsetRight widthRight startLimit occupiedBefore overlaps memberRight entryRight targetRight word frameCount signalCount memberCount entryCount size identifier frameLength flags published classic signalFrame signalKind signalOffset signalWidth signalStart isArray memberList memberFrame entrySchedule entryKind entryTarget entryDelay counted listCount scheduleCount firstFrom membersFrom members memberOf framesAhead firstEntry nextEntry signalPlace arrayLength putStart filled freshBytes touches signalPublished valueFits arrayFits scalarValue arrayValue withScalar withArray arrayRead bitAt number bytesOf inside replaced putBits putScalar putArray getScalar getArray bit p0 p1 xor protectedByte withCarry sum covered modelOf inverted checksumByte stateFits waitFits bitFits pendingFits isOneOf entryOpens canOpen countFits messageFits openProtected openChecksum frameData sentData copied opening selectVerdict selectOf writable markedFrom rewritten marked writeOf readVerdict readScalarOf readArrayOf ticks.firstPending ticks.slotOpens ticks.abandoned ticks.opensOrSilent ticks.slotAt ticks.slot ticks.tickEffect ticks.tickVerdict ticks.tickOf reading.withCounted reading.statusWord reading.statusOf messages.moved messages.sendVerdict messages.sendOf messages.messageOf pendingCount aheadVerdict aheadOf clearedBit pendingSent failed sent received passed sentByte checksumRight accepted lastByte receivedByte byteEffect byteVerdict byteOf formatOf entryColumns follows frameColumns headerColumns memberColumns occupies signalColumns cutting.messageFrames cutting.dataBytes cutting.singleFrame cutting.firstFrame cutting.nextFrame cutting.messageFrame cutting.cutOf lent.written
+unfolding orderedOf heldBy orderAnswer orderLeft readOrders readOrder withWrites firstBad rowVerdict markedBits rewrittenBy withRow markedRow rowOf
+    puts heldAfter leftBy answerOf freshOf freshVerdict fresh bufferSize admitted takenOf judged faults surplus wordsRight records headerRight
+    frameRight anyBelow signalRight offsetRight widthRight startLimit occupiedBefore overlaps memberRight entryRight targetRight word frameCount
+    signalCount memberCount entryCount size identifier frameLength flags published classic signalFrame signalKind signalOffset signalWidth signalStart
+    isArray memberList memberFrame entrySchedule entryKind entryTarget entryDelay counted listCount scheduleCount firstFrom membersFrom members
+    memberOf framesAhead firstEntry nextEntry signalPlace arrayLength putStart filled freshBytes touches signalPublished valueFits scalarValue
+    withScalar bitAt number bytesOf inside replaced putBits putScalar putArray getScalar bit p0 p1 xor protectedByte withCarry sum covered modelOf
+    inverted checksumByte stateFits waitFits bitFits pendingFits isOneOf entryOpens canOpen countFits messageFits openProtected openChecksum frameData
+    sentData copied opening selectVerdict selectOf writable markedFrom rewritten readVerdict readScalarOf ticks.firstPending ticks.slotOpens
+    ticks.abandoned ticks.opensOrSilent ticks.slotAt ticks.slot ticks.tickEffect ticks.tickVerdict ticks.tickOf reading.withCounted pendingCount
+    aheadVerdict aheadOf clearedBit pendingSent sent received passed sentByte checksumRight accepted lastByte receivedByte byteEffect byteVerdict
+    byteOf formatOf entryColumns follows frameColumns headerColumns memberColumns occupies signalColumns
 worked-rows = (refl, refl, refl, refl)

@@ -6,7 +6,7 @@ use Rattle.master.specs.Seq.{Seq, ∅, _▹_, _⋈_, Each}
 use Rattle.master.specs.Acts.{nothing, actOf}
 use Rattle.master.specs.Schedule.{Scheduled, scheduled}
 use Rattle.master.specs.Claim.{HeldClaim, HistoryClaim}
-use Rattle.orders.specs.Orders.{Order, OrderAnswer, Ordered, _⇛_, readOrder, readOrders}
+use Rattle.orders.specs.Orders.{Order, Ordered, _⇛_, readOrder, readOrders}
 use Rattle.orders.specs.Run.{orderAnswer, heldBy, orderedOf}
 use Rattle.orders.specs.Replies.{OrderReplies}
 

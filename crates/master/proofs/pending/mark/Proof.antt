@@ -1,8 +1,6 @@
 -- `pending::mark` meets its contract: the bit of the signal's frame is set, where it has one.
-use mathlib.Core.Bool.{true}
 use mathlib.Core.Path.{sym}
 use native.Mathlib.Omega.{arith}
-use lib.ListN.{length-set}
 use borrow.Author.Needs.{needs}
 use Rattle.master.proofs.Marking.{mark-one, mark-none}
 use Rattle.master.proofs.pending.mark.Statement.{statement}

@@ -2,11 +2,9 @@
 -- What a call asks follows from what is asked here and from the tests before it.
 use borrow.Author.Needs.{needs}
 use lib.ListN.{length}
-use mathlib.Core.Bool.{false}
 use mathlib.Core.Path.{_∙_, sym}
 use native.Mathlib.Omega.{arith}
-use Rattle.cluster.specs.Values.{valueFits}
-use Rattle.master.proofs.Verdicts.{write-signal, write-table, write-value-below}
+use Rattle.master.proofs.Verdicts.{write-value-below}
 use Rattle.master.specs.Write.{writeOf}
 use Rattle.master.proofs.ToldLaws.{write-told}
 use Rattle.master.proofs.state.State.write.Statement.{statement}

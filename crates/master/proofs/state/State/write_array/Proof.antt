@@ -1,11 +1,7 @@
 -- `state::State::write_array` meets its contract: each way out has the tests that led to it, and what the calls answer is put in.
 -- What a call asks follows from what is asked here and from the tests before it.
 use borrow.Author.Needs.{needs}
-use lib.ListN.{length}
-use mathlib.Core.Bool.{true}
 use mathlib.Core.Path.{_∙_, sym}
-use Rattle.cluster.specs.Values.{arrayFits}
-use Rattle.master.proofs.Verdicts.{write-signal, write-table}
 use Rattle.master.specs.Write.{writeOf}
 use Rattle.master.proofs.ToldLaws.{write-told}
 use Rattle.master.proofs.state.State.write_array.Statement.{statement}

@@ -1,7 +1,7 @@
 -- `state::State::write_row` meets its contract: each way out has the verdict that led to it, and what the calls answer is put in.
 use borrow.Author.Needs.{needs}
 use lib.ListN.{length}
-use mathlib.Core.Path.{_≡_, _∙_, sym}
+use mathlib.Core.Path.{_∙_, sym}
 use Rattle.master.specs.WriteRow.{rowOf}
 use Rattle.master.proofs.RowTold.{row-told}
 use Rattle.master.proofs.RowTurns.{row-knows, row-table}
