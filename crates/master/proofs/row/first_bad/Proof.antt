@@ -24,17 +24,23 @@ shared-slice-read-scalar-fits c = omega (arith, c .before .before .before .befor
 
 returns : tie.Need-returns Inv-loop μ-loop
 returns c =
-    let a = c .before .before .before .before .before .before .before .before .before .before .before .before .before .args in
+    let start = c .before .before .before .before .before .before .before .before .before .before .before .before .before in
+    let a = start .args in
     let at = c .before .before .before .before .before .before .before .before .before .loop in
-    sym (at .inv .1 ∙ first-turn (a .t .now) (a .signals .now) (a .values .now) (c .before .before .before .before .before .before .before .before .before .before .before .before .before .pre) (at .i) (c .before .before .before .before .before .before .before .before .loop-test .taken)
+    let below = c .before .before .before .before .before .before .before .before .loop-test .taken in
+    sym
+    (at .inv .1
+    ∙ first-turn (a .t .now) (a .signals .now) (a .values .now) (start .pre) (at .i) below
     ∙ rw (← c .before .before .before .before .before .scalar-fits .ensures, ← c .before .before .before .before .writable .ensures, c .before .before .refusal .given .1, c .at .ensures))
 
 loop-again : tie.Need-loop-again Inv-loop μ-loop
 loop-again c =
-    let a = c .before .before .before .before .before .before .before .before .before .before .before .args in
-    let at = c .before .before .before .before .before .before .before .loop in (
-      omega (arith, c .before .before .before .before .before .before .loop-test .taken),
-      at .inv .1 ∙ first-turn (a .t .now) (a .signals .now) (a .values .now) (c .before .before .before .before .before .before .before .before .before .before .before .pre) (at .i) (c .before .before .before .before .before .before .loop-test .taken)
+    let start = c .before .before .before .before .before .before .before .before .before .before .before in
+    let a = start .args in
+    let at = c .before .before .before .before .before .before .before .loop in
+    let below = c .before .before .before .before .before .before .loop-test .taken in (
+      omega (arith, below),
+      at .inv .1 ∙ first-turn (a .t .now) (a .signals .now) (a .values .now) (start .pre) (at .i) below
           ∙ rw (← c .before .before .before .scalar-fits .ensures, ← c .before .before .writable .ensures, c .enum-told .given .1),
     )
 

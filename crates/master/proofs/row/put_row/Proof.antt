@@ -30,12 +30,14 @@ shared-slice-read-put-scalar-2 c = omega (arith, c .before .before .before .befo
 
 cast-put-scalar : tie.Need-cast-put-scalar Inv-loop μ-loop
 cast-put-scalar c =
-    let a = c .before .before .before .before .before .before .before .before .before .args in
+    let start = c .before .before .before .before .before .before .before .before .before in
+    let a = start .args in
     let at = c .before .before .before .before .loop in
+    let below = c .before .before .before .loop-test .taken in
     record {
       fits = omega (
         arith,
-        good-value (a .t .now) (a .signals .now) (a .values .now) (c .before .before .before .before .before .before .before .before .before .pre .1) (at .i) (c .before .before .before .loop-test .taken) (at .inv .2) (c .before .before .before .before .before .before .before .before .before .pre .0),
+        good-value (a .t .now) (a .signals .now) (a .values .now) (start .pre .1) (at .i) below (at .inv .2) (start .pre .0),
       );
     }
 
