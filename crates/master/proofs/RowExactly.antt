@@ -18,7 +18,6 @@ use Rattle.cluster.specs.Table.{signalCount, isArray}
 use Rattle.cluster.specs.Values.{signalPublished}
 use Rattle.cluster.proofs.Accepted.{then-first, then-second}
 use Rattle.transport.proofs.Tests.{whether}
-use Rattle.master.specs.declared.state.State.{State}
 use Rattle.master.specs.declared.write.WriteAnswer.the-variants.{Written, Refused}
 use Rattle.master.specs.declared.write.Wrote.{Wrote}
 use Rattle.master.specs.Admit.{unless, admitted, Step}
@@ -168,11 +167,7 @@ bad-is-first t x ad i (b ∷ before) w after n u e =
 
 -- ---- what a row leaves
 
--- the marks of a row are those of its signals one after the other
-marks-on : (t : List ℕ) (s : ℕ) (ss : List ℕ) (x : State) → markedRow t (s ∷ ss) x ≡ markedRow t ss (marked t s x)
-unfolding markedRow markedBits rewrittenBy marked
-marks-on t s ss x = refl
-
+-- the marks and the values of a row are those of its writes one after the other
 leaves-all : (t : List ℕ) (x : Held) → Admitted t x → (ss vs : List ℕ) → length ss ≡ length vs → AllWritten t x (puts ss vs)
     → held (markedRow t ss (x .state)) (withRow t (x .bytes) (puts ss vs)) ≡ afterWrites t x (puts ss vs)
 unfolding puts markedRow markedBits rewrittenBy withRow afterWrites effectOf marked
