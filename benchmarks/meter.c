@@ -3,9 +3,12 @@
 
 #include <stdio.h>
 
-enum { WORDS = 2608, BYTES = 480, LETTERS_MAX = 4096, REFUSED = 512 };
+enum { WORDS = 2608, BYTES = 480, LETTERS_MAX = 4096, VALUES = 20, WRITTEN = 7, REFUSED = 512 };
 
-static uint16_t words[WORDS];
+static uint16_t words[WORDS], signals[VALUES];
+static uint32_t values[VALUES];
+static uint8_t bytes[BYTES];
+static const struct table table = { words, WORDS };
 
 /* Makes the largest table: 15 lists of four members, four schedules of 64 entries with delay 1. */
 static void make_table(void)
@@ -40,6 +43,15 @@ static void make_table(void)
     }
 }
 
+/* Makes the row: every twelfth signal, so scalars of seven bits, four in each of five frames. */
+static void make_row(void)
+{
+    for (unsigned i = 0; i < VALUES; i++) {
+        signals[i] = (uint16_t)(12 * i);
+        values[i] = 127 - 6 * i;
+    }
+}
+
 static unsigned tick_code(const struct ticked *ticked)
 {
     if (ticked->answer == TICK_REFUSED)
@@ -52,36 +64,103 @@ static unsigned byte_code(const struct took *took)
     return took->answer == BYTE_REFUSED ? (unsigned)REFUSED + took->number : 3u + took->answer;
 }
 
+static unsigned write_code(unsigned refusal)
+{
+    return refusal == 0 ? WRITTEN : (unsigned)REFUSED + refusal;
+}
+
+/* A call, and its answer as a number. */
+
+static unsigned tick(struct state *state)
+{
+    struct ticked ticked = plain_tick(*state, table, bytes, BYTES, (struct lent){ bytes, 0 });
+    *state = ticked.state;
+    return tick_code(&ticked);
+}
+
+static unsigned byte_in(struct state *state)
+{
+    struct took took = plain_byte_in(*state, table, bytes, BYTES, state->transfer.bytes[state->transfer.count]);
+    *state = took.state;
+    return byte_code(&took);
+}
+
+static unsigned write_row(struct state *state)
+{
+    struct row row = { signals, VALUES, values, VALUES };
+    return write_code(plain_write_row(state, table, bytes, BYTES, row) >> 16);
+}
+
+/* The values of the row one by one; the code is the largest. */
+static unsigned write_singly(struct state *state)
+{
+    unsigned code = 0;
+    for (size_t i = 0; i < VALUES; i++) {
+        unsigned one = write_code(plain_write(state, table, bytes, BYTES, signals[i], values[i]));
+        code = one > code ? one : code;
+    }
+    return code;
+}
+
+static unsigned call(struct state *state, uint8_t letter)
+{
+    switch (letter) {
+    case 'T':
+        return tick(state);
+    case 'R':
+        return write_row(state);
+    case 'W':
+        return write_singly(state);
+    default:
+        return byte_in(state);
+    }
+}
+
 static unsigned long folded(unsigned long digest, unsigned long code)
 {
     return (31 * digest + code) % 65521;
 }
 
+/* The digest with the frame bytes. */
+static unsigned long with_bytes(unsigned long digest)
+{
+    for (size_t i = 0; i < BYTES; i++)
+        digest = folded(digest, bytes[i]);
+    return digest;
+}
+
+/* The digest with the numbers of the pending frames. */
+static unsigned long with_pending(unsigned long digest, const struct state *state)
+{
+    for (size_t f = 0; f < FRAMES_MAX; f++)
+        if (state->pending[f])
+            digest = folded(digest, f);
+    return digest;
+}
+
+/* Starts, selects schedule 0 and writes; gives 0, or a refusal number. */
+static unsigned make_ready(struct state *state)
+{
+    unsigned refusal = plain_start(state, table, bytes, BYTES);
+    refusal |= plain_select(state, table, 0);
+    for (uint16_t s = 14; s < 60; s += 8)
+        refusal |= plain_write(state, table, bytes, BYTES, s, 85);
+    return refusal;
+}
+
 int main(void)
 {
-    static uint8_t letters[LETTERS_MAX], bytes[BYTES];
-    struct table table = { words, WORDS };
+    static uint8_t letters[LETTERS_MAX];
     struct state state;
     size_t count = fread(letters, 1, LETTERS_MAX, stdin);
     make_table();
-    unsigned refusal = plain_start(&state, table, bytes, BYTES);
-    refusal |= plain_select(&state, table, 0);
-    for (uint16_t s = 14; s < 60; s += 8)
-        refusal |= plain_write(&state, table, bytes, BYTES, s, 85);
-    if (refusal != 0)
+    make_row();
+    if (make_ready(&state) != 0)
         return 1;
     unsigned long digest = 0;
-    for (size_t i = 0; i < count; i++) {
-        if (letters[i] == 'T') {
-            struct ticked ticked = plain_tick(state, table, bytes, BYTES, (struct lent){ bytes, 0 });
-            digest = folded(digest, tick_code(&ticked));
-            state = ticked.state;
-        } else {
-            struct took took = plain_byte_in(state, table, bytes, BYTES, state.transfer.bytes[state.transfer.count]);
-            digest = folded(digest, byte_code(&took));
-            state = took.state;
-        }
-    }
-    printf("%zu calls, digest %lu\n", count, folded(digest, state.last));
+    for (size_t i = 0; i < count; i++)
+        digest = folded(digest, call(&state, letters[i]));
+    digest = with_pending(with_bytes(folded(digest, state.last)), &state);
+    printf("%zu calls, digest %lu\n", count, digest);
     return 0;
 }

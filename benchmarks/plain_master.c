@@ -6,7 +6,7 @@
 #include <string.h>
 
 /* Refusal numbers, and the longest message. */
-enum { TABLE = 1, BUFFER, STATE, UNKNOWN, NOT_PUBLISHED, KIND, VALUE, NO_TRANSFER };
+enum { TABLE = 1, BUFFER, STATE, UNKNOWN, NOT_PUBLISHED, KIND, VALUE, NO_TRANSFER, ROWS = 12 };
 enum { LONGEST = 4095 };
 
 /* The records of a table that was checked. */
@@ -156,12 +156,13 @@ static unsigned admit(const struct state *s, struct table table, size_t size)
 
 /* Start, select and write. */
 
+/* Puts a scalar into its frame: the eight bytes are one number, the first the lowest, as x86-64 reads them. */
 static void put_bits(uint8_t *data, unsigned offset, unsigned width, unsigned value)
 {
-    for (unsigned i = 0; i < width; i++, offset++) {
-        uint8_t bit = (uint8_t)(1u << offset % 8);
-        data[offset / 8] = value >> i & 1 ? data[offset / 8] | bit : data[offset / 8] & (uint8_t)~bit;
-    }
+    uint64_t frame, field = UINT64_MAX >> (64 - width) << offset;
+    memcpy(&frame, data, sizeof frame);
+    frame = (frame & ~field) | (uint64_t)value << offset;
+    memcpy(data, &frame, sizeof frame);
 }
 
 static void put_start(const uint16_t *signal, uint8_t *bytes)
@@ -201,24 +202,62 @@ unsigned plain_select(struct state *state, struct table table, uint16_t schedule
     return 0;
 }
 
-unsigned plain_write(struct state *state, struct table table, uint8_t *bytes, size_t size, uint16_t signal, uint32_t value)
+/* 0, or one of the refusals 4 to 7. */
+static unsigned writable(const uint16_t *t, uint16_t signal, uint32_t value)
 {
-    unsigned refusal = admit(state, table, size);
-    if (refusal != 0)
-        return refusal;
-    if (signal >= table.words[1])
+    if (signal >= t[1])
         return UNKNOWN;
-    const uint16_t *record = signal_of(table.words, signal);
-    if (!is_published(table.words, record[0]))
+    const uint16_t *record = signal_of(t, signal);
+    if (!is_published(t, record[0]))
         return NOT_PUBLISHED;
     if (record[1] != 0)
         return KIND;
-    if (value >> record[3] != 0)
-        return VALUE;
+    return value >> record[3] != 0 ? VALUE : 0;
+}
+
+/* Puts a value that was judged, and marks its frame. */
+static void put(struct state *state, const uint16_t *t, uint8_t *bytes, uint16_t signal, uint32_t value)
+{
+    const uint16_t *record = signal_of(t, signal);
     put_bits(bytes + 8 * record[0], record[2], record[3], value);
     state->pending[record[0]] = true;
     if (state->transfer.opened == OPENED_FRAME && state->transfer.frame == record[0])
         state->transfer.written = true;
+}
+
+unsigned plain_write(struct state *state, struct table table, uint8_t *bytes, size_t size, uint16_t signal, uint32_t value)
+{
+    unsigned refusal = admit(state, table, size);
+    if (refusal == 0)
+        refusal = writable(table.words, signal, value);
+    if (refusal == 0)
+        put(state, table.words, bytes, signal, value);
+    return refusal;
+}
+
+/* 0, or the refusal number of the first bad pair above its place. */
+static unsigned first_bad(const uint16_t *t, struct row row)
+{
+    for (size_t i = 0; i < row.signal_count; i++) {
+        unsigned refusal = writable(t, row.signals[i], row.values[i]);
+        if (refusal != 0)
+            return refusal << 16 | (unsigned)i;
+    }
+    return 0;
+}
+
+unsigned plain_write_row(struct state *state, struct table table, uint8_t *bytes, size_t size, struct row row)
+{
+    unsigned refusal = admit(state, table, size);
+    if (refusal == 0 && row.signal_count != row.value_count)
+        refusal = ROWS;
+    if (refusal != 0)
+        return refusal << 16;
+    refusal = first_bad(table.words, row);
+    if (refusal != 0)
+        return refusal;
+    for (size_t i = 0; i < row.signal_count; i++)
+        put(state, table.words, bytes, row.signals[i], row.values[i]);
     return 0;
 }
 

@@ -44,6 +44,14 @@ struct lent {
     size_t length;
 };
 
+/* A row of values, each with its signal. */
+struct row {
+    const uint16_t *signals;
+    size_t signal_count;
+    const uint32_t *values;
+    size_t value_count;
+};
+
 enum tick_answer { TICK_WAITING, TICK_IDLE, TICK_SILENT, TICK_OPENED, TICK_REFUSED };
 enum byte_answer { BYTE_MORE, BYTE_SUCCESS, BYTE_FAILURE, BYTE_RESPONSE, BYTE_REFUSED };
 
@@ -61,10 +69,11 @@ struct took {
     uint8_t response[8];
 };
 
-/* 0, or the refusal number; the state changes only at 0. */
+/* 0, or the refusal number (of a row, above the place of the bad pair); the state changes only at 0. */
 unsigned plain_start(struct state *state, struct table table, uint8_t *bytes, size_t size);
 unsigned plain_select(struct state *state, struct table table, uint16_t schedule);
 unsigned plain_write(struct state *state, struct table table, uint8_t *bytes, size_t size, uint16_t signal, uint32_t value);
+unsigned plain_write_row(struct state *state, struct table table, uint8_t *bytes, size_t size, struct row row);
 
 struct ticked plain_tick(struct state state, struct table table, const uint8_t *bytes, size_t size, struct lent lent);
 struct took plain_byte_in(struct state state, struct table table, uint8_t *bytes, size_t size, uint8_t byte);

@@ -1,4 +1,7 @@
-// The calls: a master made ready, then a tick for each T and a byte in for each other letter.
+// The calls: a master made ready, then for each letter a tick (T), a row (R), its single writes (W), or else a byte in.
+use crate::row;
+use crate::row::VALUES;
+use cluster::Limits;
 use master::byte::ByteAnswer;
 use master::state::State;
 use master::state::Transfer;
@@ -6,18 +9,21 @@ use master::tick::TickAnswer;
 use refusal::Refusal;
 
 // The state behind a call, and its answer as a number.
-struct Done {
-    state: State,
-    code: u64,
+pub(crate) struct Done {
+    pub(crate) state: State,
+    pub(crate) code: u64,
 }
 
-// Starts, selects schedule 0, writes, makes the calls, and gives the digest of their answers.
+// Starts, selects schedule 0, writes, makes the calls, and gives the digest of their answers and of what they left.
 pub(crate) fn all(t: &[u16], bytes: &mut [u8], letters: &[u8]) -> u64 {
     let started = State::start(t, bytes);
     let state = started.state;
     let chosen = state.select(t, 0);
     let ready = written(chosen.state, t, bytes);
-    each(ready, t, bytes, letters)
+    let mut numbers = [0u16; VALUES];
+    let mut values = [0u32; VALUES];
+    row::build(t, &mut numbers, &mut values);
+    each(ready, t, bytes, letters, &numbers, &values)
 }
 
 // A scalar in one frame of each of the lists 1, 3, 5, 7, 9 and 11 is written, so that each has a pending frame.
@@ -37,23 +43,42 @@ fn write(state: State, t: &[u16], bytes: &mut [u8], s: u16) -> State {
 }
 
 // A call for each letter.
-fn each(ready: State, t: &[u16], bytes: &mut [u8], letters: &[u8]) -> u64 {
+fn each(
+    ready: State,
+    t: &[u16],
+    bytes: &mut [u8],
+    letters: &[u8],
+    numbers: &[u16; VALUES],
+    values: &[u32; VALUES],
+) -> u64 {
     let mut state = ready;
     let mut digest: u64 = 0;
     let mut i: usize = 0;
     while i < letters.len() {
-        let done = call(state, t, bytes, letters[i]);
+        let done = call(state, t, bytes, letters[i], numbers, values);
         digest = folded(digest, done.code);
         state = done.state;
         i += 1;
     }
-    let status = state.status;
-    folded(digest, status.last as u64)
+    with_left(digest, state, bytes)
 }
 
-fn call(state: State, t: &[u16], bytes: &mut [u8], letter: u8) -> Done {
+fn call(
+    state: State,
+    t: &[u16],
+    bytes: &mut [u8],
+    letter: u8,
+    numbers: &[u16; VALUES],
+    values: &[u32; VALUES],
+) -> Done {
     if letter == b'T' {
         return tick(state, t, bytes);
+    }
+    if letter == b'R' {
+        return row::write(state, t, bytes, numbers, values);
+    }
+    if letter == b'W' {
+        return row::write_singly(state, t, bytes, numbers, values);
     }
     byte_in(state, t, bytes)
 }
@@ -107,8 +132,44 @@ fn byte_code(answer: ByteAnswer) -> u64 {
     }
 }
 
-fn refused(refusal: Refusal) -> u64 {
+pub(crate) fn refused(refusal: Refusal) -> u64 {
     512 + refusal.number as u64
+}
+
+// The digest with what the calls left: the last transfer counted, the frame bytes and the pending bits.
+fn with_left(digest: u64, state: State, bytes: &[u8]) -> u64 {
+    let status = state.status;
+    let pending = state.pending;
+    let last = folded(digest, status.last as u64);
+    with_pending(with_bytes(last, bytes), pending)
+}
+
+// The digest with the frame bytes.
+fn with_bytes(digest: u64, bytes: &[u8]) -> u64 {
+    let mut next = digest;
+    let mut i: usize = 0;
+    while i < bytes.len() {
+        next = with_byte(next, bytes[i]);
+        i += 1;
+    }
+    next
+}
+
+fn with_byte(digest: u64, byte: u8) -> u64 {
+    folded(digest, byte as u64)
+}
+
+// The digest with the numbers of the pending frames.
+fn with_pending(digest: u64, pending: [bool; Limits::FRAMES]) -> u64 {
+    let mut next = digest;
+    let mut f: usize = 0;
+    while f < Limits::FRAMES {
+        if pending[f] {
+            next = folded(next, f as u64);
+        }
+        f += 1;
+    }
+    next
 }
 
 // The digest with one more number.

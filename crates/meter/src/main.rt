@@ -1,7 +1,8 @@
-// Runs ticks and bytes in on the largest table, one call for each letter on standard input, and prints a digest of the answers.
+// Makes calls on the largest table, one for each letter on standard input, and prints a digest of their answers and what is left.
 // benchmarks/run counts its instructions beside those of benchmarks/meter.c, which prints the same.
 mod calls;
 mod largest;
+mod row;
 
 use libc::STDIN_FILENO;
 use libc::STDOUT_FILENO;
