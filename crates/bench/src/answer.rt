@@ -8,6 +8,7 @@ use crate::buffers::within;
 use crate::buffers::words_within;
 use crate::bus;
 use crate::calls;
+use crate::desk::ANSWER;
 use crate::desk::Desk;
 use crate::desk::FORM;
 use crate::desk::FRAMES_USED;
@@ -22,6 +23,8 @@ use crate::replies::Reply;
 use crate::sets;
 use crate::setup;
 use crate::shows;
+use crate::texts;
+use crate::texts::Text;
 
 // Answers a line, and passes over an empty one and a comment.
 pub(crate) fn line(
@@ -44,9 +47,9 @@ pub(crate) fn line(
         show(desk, table, frames, room, out);
     } else {
         let reply = reply(line, desk, table, frames, message, room);
-        print::reply(out, reply, desk);
+        print::reply(out, desk, reply);
     }
-    print::character(out, b'\n');
+    texts::put(out, desk, Text::END, ANSWER);
 }
 
 // Whether a line shows something.
@@ -93,19 +96,19 @@ fn call(line: &[u8], desk: &mut Desk, table: &[u16], frames: &mut [u8], message:
 }
 
 // Shows what the line at hand asks for.
-fn show(desk: &Desk, table: &[u16], frames: &[u8], room: &[u8], out: &mut Output) {
+fn show(desk: &mut Desk, table: &[u16], frames: &[u8], room: &[u8], out: &mut Output) {
     match desk[FORM] {
         Form::PENDING => shows::pending(desk, out),
-        Form::FRAMES => shows::bytes(b"frames", desk[FRAMES_USED], frames, out),
+        Form::FRAMES => shows::bytes(Text::FRAMES, desk[FRAMES_USED], frames, desk, out),
         Form::OUT => sent(desk, table, out),
         Form::STATE => shows::state(desk, out),
-        Form::TAKEN => shows::bytes(b"taken", desk[ROOM_USED], room, out),
+        Form::TAKEN => shows::bytes(Text::TAKEN, desk[ROOM_USED], room, desk, out),
         _ => shows::assembly(desk, out),
     }
 }
 
 // Shows what the master sends.
-fn sent(desk: &Desk, table: &[u16], out: &mut Output) {
+fn sent(desk: &mut Desk, table: &[u16], out: &mut Output) {
     let words = words_within(size(desk[WORDS_USED]), table);
     shows::sent(desk, &table[..words], out);
 }

@@ -19,8 +19,11 @@ pub(crate) const ROOM_BYTES: usize = 4096;
 // The characters of the script that are read at once, with those kept before them.
 pub(crate) const TEXT_BYTES: usize = 65536;
 
-// The answers that are not written out yet, two bytes that count them, and one that tells a failure.
-pub(crate) const OUTPUT_BYTES: usize = 65538;
+// The answers that are not written out yet.
+pub(crate) const OUTPUT_BYTES: usize = 65536;
+
+// The longest answer, with its newline: `taken` and a pair behind a space for each byte of the reassembler's.
+pub(crate) const LONGEST_ANSWER: usize = 6 + 3 * ROOM_BYTES;
 
 pub(crate) type Table = [u16; LINE_WORDS];
 

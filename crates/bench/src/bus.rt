@@ -10,9 +10,10 @@ use crate::desk::ROOM_USED;
 use crate::desk::byte;
 use crate::desk::size;
 use crate::forms::Form;
-use crate::lists;
-use crate::lists::List;
 use crate::replies::Reply;
+use crate::texts::Text;
+use script::lists;
+use script::lists::Count;
 use wire::checksum;
 use wire::checksum::Model;
 use wire::identifier;
@@ -21,7 +22,7 @@ use wire::identifier;
 pub(crate) fn answer(line: &[u8], desk: &Desk) -> Reply {
     let n = byte(desk[NUMBERS]);
     match desk[FORM] {
-        Form::PID => Reply::made(*b"pid      ", identifier::build(n)),
+        Form::PID => Reply::made(Text::PID, identifier::build(n)),
         Form::ID => Reply::identifier(identifier::read(n)),
         Form::CLASSIC => sum(n, Model::Classic, line, size(desk[LIST])),
         _ => sum(n, Model::Enhanced, line, size(desk[LIST])),
@@ -31,17 +32,17 @@ pub(crate) fn answer(line: &[u8], desk: &Desk) -> Reply {
 // Makes the checksum of the bytes that end the line under an identifier.
 fn sum(id: u8, model: Model, line: &[u8], list: usize) -> Reply {
     let mut data = [0u8; LINE_BYTES];
-    let List::Of(count) = lists::pairs(line, list, &mut data) else {
+    let Count::Of(count) = lists::bytes(line, list, &mut data) else {
         return Reply::malformed();
     };
     let n = within(count, &data);
-    Reply::made(*b"checksum ", checksum::of(id, model, &data[..n]))
+    Reply::made(Text::CHECKSUM, checksum::of(id, model, &data[..n]))
 }
 
 // The reassembler takes a frame, the bytes that end the line.
 pub(crate) fn take(line: &[u8], desk: &mut Desk, room: &mut [u8]) -> Reply {
     let mut frame = [0u8; LINE_BYTES];
-    let List::Of(count) = lists::pairs(line, size(desk[LIST]), &mut frame) else {
+    let Count::Of(count) = lists::bytes(line, size(desk[LIST]), &mut frame) else {
         return Reply::malformed();
     };
     let n = within(count, &frame);

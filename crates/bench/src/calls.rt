@@ -10,11 +10,11 @@ use crate::desk::byte as byte_of;
 use crate::desk::size;
 use crate::desk::word;
 use crate::forms::Form;
-use crate::lists;
-use crate::lists::List;
 use crate::replies::Reply;
 use master::start::FreshAnswer;
 use master::state::State;
+use script::lists;
+use script::lists::Count;
 
 // Makes the call that the line at hand is, on what is in use of each buffer.
 pub(crate) fn make(
@@ -71,7 +71,7 @@ fn write(desk: &mut Desk, t: &[u16], frames: &mut [u8]) -> Reply {
 // Writes an array, the bytes that end the line.
 fn writes(line: &[u8], desk: &mut Desk, t: &[u16], frames: &mut [u8]) -> Reply {
     let mut values = [0u8; LINE_BYTES];
-    let List::Of(count) = lists::pairs(line, size(desk[LIST]), &mut values) else {
+    let Count::Of(count) = lists::bytes(line, size(desk[LIST]), &mut values) else {
         return Reply::malformed();
     };
     let n = within(count, &values);

@@ -9,6 +9,8 @@ use master::state::Sending;
 use master::state::State;
 use master::state::Status;
 use master::state::Transfer;
+use script::forms::Line;
+use script::forms::MOST;
 use transport::reassembly::Assembly as Open;
 use transport::reassembly::Reassembly;
 
@@ -64,6 +66,11 @@ pub(crate) const MESSAGE_USED: usize = 90;
 
 pub(crate) const ROOM_USED: usize = 91;
 
+// The characters of the answers that are not written out yet, and whether a writing failed.
+pub(crate) const PRINTED: usize = 92;
+
+pub(crate) const WRITE_FAILED: usize = 93;
+
 // The line at hand: which form it has, where its list begins, and its numbers and bytes.
 pub(crate) const FORM: usize = 96;
 
@@ -71,11 +78,11 @@ pub(crate) const LIST: usize = 97;
 
 pub(crate) const NUMBERS: usize = 98;
 
-// The bytes of an answer.
+// The numbers or bytes of an answer.
 pub(crate) const ANSWER: usize = 110;
 
 // In the place of an entry or a schedule: none; in that of a frame: nothing is open, or a transfer that is of no frame.
-pub(crate) const NONE: u32 = 65536;
+pub(crate) const NONE: u32 = script::print::NONE;
 
 pub(crate) const OPEN_REQUEST: u32 = 65537;
 
@@ -96,6 +103,23 @@ pub(crate) fn word(n: u32) -> u16 {
 // A number of 8 bits.
 pub(crate) fn byte(n: u32) -> u8 {
     (n % 256) as u8
+}
+
+// Puts the line at hand.
+pub(crate) fn put_line(desk: &mut Desk, line: Line) {
+    let numbers = line.numbers;
+    desk[FORM] = (line.form % 65536) as u32;
+    desk[LIST] = (line.list % 65536) as u32;
+    put_numbers(desk, &numbers);
+}
+
+// Puts the numbers of the line at hand.
+fn put_numbers(desk: &mut Desk, numbers: &[u32; MOST]) {
+    let mut i: usize = 0;
+    while i < MOST {
+        desk[NUMBERS + i] = numbers[i];
+        i += 1;
+    }
 }
 
 // Puts the bytes of an answer.

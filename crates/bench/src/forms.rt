@@ -1,22 +1,12 @@
-// The lines of a script. A form is written as a line is: a word is that word, a number stands for a number up to it, `HH` for a byte
-// as an upper-case hexadecimal pair, and `..` at the end for a list; `|` stands between forms.
+// The lines of a script by their forms, as `script::forms` reads them.
 use crate::buffers::LONGEST_LINE;
+use crate::desk;
 use crate::desk::Desk;
 use crate::desk::FORM;
-use crate::desk::LIST;
-use crate::desk::NUMBERS;
-use crate::desk::SIZE;
-use crate::fields;
-use crate::fields::Field;
+use script::forms;
 
 // The forms by their names.
 pub(crate) struct Form {}
-
-// Whether a line has a form, and where its list begins then.
-enum Read {
-    At(usize),
-    No,
-}
 
 impl Form {
     // In the order of the list below.
@@ -75,20 +65,19 @@ impl Form {
     pub(crate) const ENHANCED: u32 = 26;
     // The first of the lines that set a part of the state.
     pub(crate) const SETS: u32 = 27;
-    // No form.
-    pub(crate) const NONE: u32 = 100;
+    // No form: the number of all.
+    pub(crate) const NONE: u32 = 47;
 }
 
-// Reads a line as the first form that it has, and puts the form, the numbers and the place of the list on the desk; a line that is
-// too long has no form.
+// Reads a line as the first form that it has, and puts the form, the place of the list and the numbers on the desk; a line that is too
+// long has no form.
 pub(crate) fn take(line: &[u8], desk: &mut Desk) {
     desk[FORM] = Form::NONE;
     if LONGEST_LINE < line.len() {
         return;
     }
-    find(
+    let read = forms::read(
         line,
-        desk,
         b"tick|byte HH|write 65535 4294967295|writes 65535 ..|read 65535|reads 65535|ahead 65535|select 65535|fresh|\
         status|send 255 4294967295|message|pending|frames|out|state|taken|assembly|table ..|buffer 512|lend ..|\
         room 4096|take ..|pid 255|id HH|checksum 255 classic ..|checksum 255 enhanced ..|\
@@ -98,65 +87,5 @@ pub(crate) fn take(line: &[u8], desk: &mut Desk) {
         set message completed|set message failed|set status 1 1 1 HH|set pending 59 1|\
         set assembly none|set assembly 255 65535 65535 255",
     );
-}
-
-// Reads a line as the first of some forms that it has.
-fn find(line: &[u8], desk: &mut Desk, forms: &[u8]) {
-    let mut k: u32 = 0;
-    let mut at: usize = 0;
-    while at < forms.len() {
-        let end = bytes::scan::find(forms, at, forms.len(), b'|');
-        if let Read::At(list) = read_as(line, &forms[at..end], desk) {
-            desk[FORM] = k;
-            desk[LIST] = (list % 65536) as u32;
-            return;
-        }
-        k = next(k);
-        at = end + 1;
-    }
-}
-
-// The number of the next form.
-fn next(k: u32) -> u32 {
-    if k < Form::NONE { k + 1 } else { k }
-}
-
-// Reads a line as one form, field by field.
-fn read_as(line: &[u8], form: &[u8], desk: &mut Desk) -> Read {
-    let mut n: usize = NUMBERS;
-    let mut place: usize = 0;
-    let mut at: usize = 0;
-    while at < form.len() {
-        let end = bytes::scan::find(form, at, form.len(), b' ');
-        if form[at] == b'.' {
-            return Read::At(place);
-        }
-        if line.len() < place {
-            return Read::No;
-        }
-        let stop = bytes::scan::find(line, place, line.len(), b' ');
-        let field = fields::read(&line[place..stop], &form[at..end]);
-        if let Field::Wrong = field {
-            return Read::No;
-        }
-        n = gathered(desk, n, field);
-        place = stop + 1;
-        at = end + 1;
-    }
-    if place <= line.len() {
-        return Read::No;
-    }
-    Read::At(place)
-}
-
-// Puts a number that a field has at a place of the desk, and tells the next place.
-fn gathered(desk: &mut Desk, place: usize, field: Field) -> usize {
-    let Field::Number(v) = field else {
-        return place;
-    };
-    if place < SIZE {
-        desk[place] = v;
-        return place + 1;
-    }
-    place
+    desk::put_line(desk, read);
 }

@@ -4,15 +4,14 @@ mod buffers;
 mod bus;
 mod calls;
 mod desk;
-mod fields;
 mod forms;
-mod lists;
 mod print;
 mod replies;
-mod script;
+mod run;
 mod sets;
 mod setup;
 mod shows;
+mod texts;
 
 // Lays out the buffers, and runs the script; with an argument, says how the program is used.
 fn main() {
@@ -27,7 +26,7 @@ fn main() {
     let mut message = [0u8; buffers::MESSAGE_BYTES];
     let mut room = [0u8; buffers::ROOM_BYTES];
     let mut out = [0u8; buffers::OUTPUT_BYTES];
-    script::run(
+    run::script(
         &mut text,
         &mut desk,
         &mut table,

@@ -1,4 +1,5 @@
-// The answers before they are printed: a word, and what stands behind it.
+// The answers before they are printed: a text, and the numbers that stand in it.
+use crate::texts::Text;
 use cluster::Verdict;
 use master::ahead::AheadAnswer;
 use master::byte::ByteAnswer;
@@ -15,66 +16,47 @@ use refusal::Refusal;
 use transport::reassembly::Answer;
 use wire::Answer as Made;
 
-// The word of an answer with spaces behind it, what stands behind the word, and the number or the two numbers that stand there.
+// An answer before it is printed: its text, and the numbers that stand in it.
 pub(crate) struct Reply {
-    pub(crate) word: [u8; 9],
-    pub(crate) kind: u32,
+    pub(crate) text: u32,
     pub(crate) n: u32,
     pub(crate) place: u32,
 }
 
 impl Reply {
-    // What stands behind the word: nothing, a number, a byte, four hexadecimal digits, so many bytes, a number and a place.
-    pub(crate) const ALONE: u32 = 0;
-
-    pub(crate) const NUMBER: u32 = 1;
-
-    pub(crate) const BYTE: u32 = 2;
-
-    pub(crate) const WORD: u32 = 3;
-
-    pub(crate) const LISTED: u32 = 4;
-
-    pub(crate) const PLACED: u32 = 5;
-
-    // A word alone.
-    pub(crate) fn alone(word: [u8; 9]) -> Reply {
-        Reply::of(word, Reply::ALONE, 0)
+    // A text alone.
+    pub(crate) fn alone(text: u32) -> Reply {
+        Reply::two(text, 0, 0)
     }
 
-    // A word and what stands behind it.
-    pub(crate) fn of(word: [u8; 9], kind: u32, n: u32) -> Reply {
-        Reply {
-            word,
-            kind,
-            n,
-            place: 0,
-        }
+    // A text with a number.
+    pub(crate) fn of(text: u32, n: u32) -> Reply {
+        Reply::two(text, n, 0)
+    }
+
+    // A text with two numbers.
+    fn two(text: u32, n: u32, place: u32) -> Reply {
+        Reply { text, n, place }
     }
 
     // A refusal: its number, and the position that a fault of the table has.
     fn refused(refusal: Refusal) -> Reply {
         let n = refusal.number as u32;
         if refusal.number == Refusal::TABLE {
-            return Reply {
-                word: *b"refused  ",
-                kind: Reply::PLACED,
-                n,
-                place: (refusal.place % 65536) as u32,
-            };
+            return Reply::two(Text::REFUSED_AT, n, (refusal.place % 65536) as u32);
         }
-        Reply::of(*b"refused  ", Reply::NUMBER, n)
+        Reply::of(Text::REFUSED, n)
     }
 
     // The line is none of the script's.
     pub(crate) fn malformed() -> Reply {
-        Reply::alone(*b"?        ")
+        Reply::alone(Text::MALFORMED)
     }
 
     // The table check.
     pub(crate) fn check(answer: Verdict) -> Reply {
         match answer {
-            Verdict::Accepted => Reply::alone(*b"accepted "),
+            Verdict::Accepted => Reply::alone(Text::ACCEPTED),
             Verdict::Refused(refusal) => Reply::refused(refusal),
         }
     }
@@ -82,7 +64,7 @@ impl Reply {
     // Fresh.
     pub(crate) fn fresh(answer: FreshAnswer) -> Reply {
         match answer {
-            FreshAnswer::Fresh => Reply::alone(*b"fresh    "),
+            FreshAnswer::Fresh => Reply::alone(Text::FRESH),
             FreshAnswer::Refused(refusal) => Reply::refused(refusal),
         }
     }
@@ -90,7 +72,7 @@ impl Reply {
     // A write.
     pub(crate) fn write(answer: WriteAnswer) -> Reply {
         match answer {
-            WriteAnswer::Written => Reply::alone(*b"written  "),
+            WriteAnswer::Written => Reply::alone(Text::WRITTEN),
             WriteAnswer::Refused(refusal) => Reply::refused(refusal),
         }
     }
@@ -98,7 +80,7 @@ impl Reply {
     // A scalar read.
     pub(crate) fn read(answer: ReadAnswer) -> Reply {
         match answer {
-            ReadAnswer::Value(v) => Reply::of(*b"value    ", Reply::NUMBER, v as u32),
+            ReadAnswer::Value(v) => Reply::of(Text::VALUE, v as u32),
             ReadAnswer::Refused(refusal) => Reply::refused(refusal),
         }
     }
@@ -106,11 +88,7 @@ impl Reply {
     // An array read.
     pub(crate) fn read_array(answer: ArrayAnswer) -> Reply {
         match answer {
-            ArrayAnswer::Bytes(count) => Reply::of(
-                *b"bytes    ",
-                Reply::LISTED,
-                (count % 256) as u32,
-            ),
+            ArrayAnswer::Bytes(count) => Reply::alone(Text::BYTES + (count % 9) as u32),
             ArrayAnswer::Refused(refusal) => Reply::refused(refusal),
         }
     }
@@ -118,7 +96,7 @@ impl Reply {
     // A schedule asked for.
     pub(crate) fn select(answer: SelectAnswer) -> Reply {
         match answer {
-            SelectAnswer::Selected => Reply::alone(*b"selected "),
+            SelectAnswer::Selected => Reply::alone(Text::SELECTED),
             SelectAnswer::Refused(refusal) => Reply::refused(refusal),
         }
     }
@@ -126,14 +104,10 @@ impl Reply {
     // A tick.
     pub(crate) fn tick(answer: TickAnswer) -> Reply {
         match answer {
-            TickAnswer::Waiting => Reply::alone(*b"waiting  "),
-            TickAnswer::Idle => Reply::alone(*b"idle     "),
-            TickAnswer::Silent => Reply::alone(*b"silent   "),
-            TickAnswer::Opened(protected) => Reply::of(
-                *b"open     ",
-                Reply::BYTE,
-                protected as u32,
-            ),
+            TickAnswer::Waiting => Reply::alone(Text::WAITING),
+            TickAnswer::Idle => Reply::alone(Text::IDLE),
+            TickAnswer::Silent => Reply::alone(Text::SILENT),
+            TickAnswer::Opened(protected) => Reply::of(Text::OPEN, protected as u32),
             TickAnswer::Refused(refusal) => Reply::refused(refusal),
         }
     }
@@ -141,10 +115,10 @@ impl Reply {
     // A byte in.
     pub(crate) fn byte(answer: ByteAnswer) -> Reply {
         match answer {
-            ByteAnswer::More => Reply::alone(*b"more     "),
-            ByteAnswer::Success => Reply::alone(*b"success  "),
-            ByteAnswer::Failure => Reply::alone(*b"failure  "),
-            ByteAnswer::Response => Reply::of(*b"response ", Reply::LISTED, 8),
+            ByteAnswer::More => Reply::alone(Text::MORE),
+            ByteAnswer::Success => Reply::alone(Text::SUCCESS),
+            ByteAnswer::Failure => Reply::alone(Text::FAILURE),
+            ByteAnswer::Response => Reply::alone(Text::RESPONSE),
             ByteAnswer::Refused(refusal) => Reply::refused(refusal),
         }
     }
@@ -152,7 +126,7 @@ impl Reply {
     // A status reading.
     pub(crate) fn status(answer: StatusAnswer) -> Reply {
         match answer {
-            StatusAnswer::Word(word) => Reply::of(*b"status   ", Reply::WORD, word as u32),
+            StatusAnswer::Word(word) => Reply::two(Text::STATUS, word as u32 / 256, word as u32),
             StatusAnswer::Refused(refusal) => Reply::refused(refusal),
         }
     }
@@ -160,7 +134,7 @@ impl Reply {
     // A message to send.
     pub(crate) fn send(answer: SendAnswer) -> Reply {
         match answer {
-            SendAnswer::Sending => Reply::alone(*b"sending  "),
+            SendAnswer::Sending => Reply::alone(Text::SENDING),
             SendAnswer::Refused(refusal) => Reply::refused(refusal),
         }
     }
@@ -168,10 +142,10 @@ impl Reply {
     // The message state.
     pub(crate) fn message(answer: MessageAnswer) -> Reply {
         match answer {
-            MessageAnswer::None => Reply::alone(*b"none     "),
-            MessageAnswer::Sending => Reply::alone(*b"sending  "),
-            MessageAnswer::Completed => Reply::alone(*b"completed"),
-            MessageAnswer::Failed => Reply::alone(*b"failed   "),
+            MessageAnswer::None => Reply::alone(Text::NONE),
+            MessageAnswer::Sending => Reply::alone(Text::SENDING),
+            MessageAnswer::Completed => Reply::alone(Text::COMPLETED),
+            MessageAnswer::Failed => Reply::alone(Text::FAILED),
             MessageAnswer::Refused(refusal) => Reply::refused(refusal),
         }
     }
@@ -179,7 +153,7 @@ impl Reply {
     // The number ahead.
     pub(crate) fn ahead(answer: AheadAnswer) -> Reply {
         match answer {
-            AheadAnswer::Count(n) => Reply::of(*b"ahead    ", Reply::NUMBER, n as u32),
+            AheadAnswer::Count(n) => Reply::of(Text::AHEAD, n as u32),
             AheadAnswer::Refused(refusal) => Reply::refused(refusal),
         }
     }
@@ -187,19 +161,19 @@ impl Reply {
     // A frame taken by the reassembler.
     pub(crate) fn take(answer: Answer) -> Reply {
         match answer {
-            Answer::Ignored => Reply::alone(*b"ignored  "),
-            Answer::Started => Reply::alone(*b"started  "),
-            Answer::More => Reply::alone(*b"more     "),
-            Answer::Done(length) => Reply::of(*b"done     ", Reply::NUMBER, length as u32),
-            Answer::Broken => Reply::alone(*b"broken   "),
+            Answer::Ignored => Reply::alone(Text::IGNORED),
+            Answer::Started => Reply::alone(Text::STARTED),
+            Answer::More => Reply::alone(Text::MORE),
+            Answer::Done(length) => Reply::of(Text::DONE, length as u32),
+            Answer::Broken => Reply::alone(Text::BROKEN),
             Answer::Refused(refusal) => Reply::refused(refusal),
         }
     }
 
     // A byte that was made.
-    pub(crate) fn made(word: [u8; 9], answer: Made) -> Reply {
+    pub(crate) fn made(text: u32, answer: Made) -> Reply {
         match answer {
-            Made::Byte(byte) => Reply::of(word, Reply::BYTE, byte as u32),
+            Made::Byte(byte) => Reply::of(text, byte as u32),
             Made::Refused(refusal) => Reply::refused(refusal),
         }
     }
@@ -207,7 +181,7 @@ impl Reply {
     // An identifier that was read.
     pub(crate) fn identifier(answer: Made) -> Reply {
         match answer {
-            Made::Byte(id) => Reply::of(*b"id       ", Reply::NUMBER, id as u32),
+            Made::Byte(id) => Reply::of(Text::ID, id as u32),
             Made::Refused(refusal) => Reply::refused(refusal),
         }
     }

@@ -2,6 +2,7 @@
 use crate::desk::*;
 use crate::forms::Form;
 use crate::replies::Reply;
+use crate::texts::Text;
 ghost use Prim.Native.Nat.{_≤_};
 
 // What a line sets: a value at a place, and behind it so many of the line's numbers, from one of them on.
@@ -24,7 +25,7 @@ pub(crate) fn set(desk: &mut Desk) -> Reply {
         desk[place] = setting.value;
         put_numbers(desk, place + 1, setting.from, setting.count);
     }
-    Reply::alone(*b"set      ")
+    Reply::alone(Text::SET)
 }
 
 // What a line sets, by the order of the forms.

@@ -18,16 +18,17 @@ use crate::desk::NUMBERS;
 use crate::desk::ROOM_USED;
 use crate::desk::WORDS_USED;
 use crate::desk::size;
-use crate::lists;
-use crate::lists::List;
 use crate::replies::Reply;
+use crate::texts::Text;
 use cluster::Limits;
 use master::state::State;
+use script::lists;
+use script::lists::Count;
 
 // Lays out a table, right or not, with frame bytes for its frames and a fresh state, and answers the table check.
 pub(crate) fn table(line: &[u8], desk: &mut Desk, table: &mut Table, frames: &mut Frames) -> Reply {
     let mut words = [0u16; LINE_WORDS];
-    let List::Of(count) = lists::words(line, size(desk[LIST]), &mut words) else {
+    let Count::Of(count) = lists::words(line, size(desk[LIST]), &mut words) else {
         return Reply::malformed();
     };
     *table = words;
@@ -59,12 +60,12 @@ fn frame_bytes(t: &[u16]) -> u32 {
 // Lays out the message that later ticks are lent.
 pub(crate) fn lend(line: &[u8], desk: &mut Desk, message: &mut Message) -> Reply {
     let mut lent = [0u8; MESSAGE_BYTES];
-    let List::Of(n) = lists::pairs(line, size(desk[LIST]), &mut lent) else {
+    let Count::Of(n) = lists::bytes(line, size(desk[LIST]), &mut lent) else {
         return Reply::malformed();
     };
     *message = lent;
     desk[MESSAGE_USED] = (n % 65536) as u32;
-    Reply::of(*b"lent     ", Reply::NUMBER, desk[MESSAGE_USED])
+    Reply::of(Text::LENT, desk[MESSAGE_USED])
 }
 
 // Lays out so many frame bytes, all 0.
@@ -72,7 +73,7 @@ pub(crate) fn buffer(desk: &mut Desk, frames: &mut Frames) -> Reply {
     let n = desk[NUMBERS];
     *frames = [0u8; FRAME_BYTES];
     desk[FRAMES_USED] = n;
-    Reply::of(*b"buffer   ", Reply::NUMBER, n)
+    Reply::of(Text::BUFFER, n)
 }
 
 // Lays out so many bytes for the reassembler, all 0, with nothing open.
@@ -81,5 +82,5 @@ pub(crate) fn room(desk: &mut Desk, room: &mut Room) -> Reply {
     *room = [0u8; ROOM_BYTES];
     desk[ROOM_USED] = n;
     desk[ASSEMBLY] = 0;
-    Reply::of(*b"room     ", Reply::NUMBER, n)
+    Reply::of(Text::ROOM, n)
 }

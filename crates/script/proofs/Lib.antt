@@ -1,0 +1,6 @@
+pub mod Reading
+pub mod Splitting
+pub mod Forming
+pub mod Listing
+pub mod Putting
+pub mod Patterns
