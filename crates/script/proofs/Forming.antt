@@ -1,14 +1,13 @@
 -- What reading a line by its forms comes to, field by field.
 use Prim.Native.Nat.{ℕ, _+_, _-_, _<_, _≤_}
-use mathlib.Core.Path.{_≡_, refl, sym, ap, _∙_}
+use mathlib.Core.Path.{_≡_, refl, _∙_}
 use mathlib.Core.Bool.{true, false}
 use mathlib.Core.List.{List, [], _∷_}
 use native.Mathlib.Omega.{arith}
 use lib.ListN.{length, take, drop}
 use Rattle.bytes.specs.Bytes.{indexOf, slice}
 use Rattle.script.specs.declared.forms.Numbers.{Numbers}
-use Rattle.script.specs.declared.forms.Line.{Line}
-use Rattle.script.specs.Fields.{fieldsOf, fieldsFrom, fieldOf, isRight}
+use Rattle.script.specs.Fields.{fieldsFrom, fieldOf, isRight}
 use Rattle.script.specs.Forms.{noNumbers, withField, isList, unfit, fitting, formed, readAs, readOf, lineIn, lineOf}
 use Rattle.script.proofs.Splitting.{from-start, from-behind, field-at, field-length, end-within}
 

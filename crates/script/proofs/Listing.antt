@@ -2,13 +2,13 @@
 use Prim.Native.Nat.{ℕ, suc, _+_, _-_, _<_, _≤_}
 use mathlib.Core.Path.{_≡_, refl, sym, ap, _∙_}
 use mathlib.Core.Bool.{true, false, and-false}
-use mathlib.Core.List.{List, [], _∷_, _++_, map, append-nil, append-assoc}
+use mathlib.Core.List.{List, [], _∷_, _++_, map}
 use native.Mathlib.Numerals.{add-one}
 use native.Mathlib.Omega.{arith}
 use borrow.Author.Tests.{le-leb, lt-leb}
 use lib.Dec.{leb}
-use lib.ListN.{length, take, drop, set, length-set, length-drop, length-append, drop-of-length-le, take-append-drop}
-use lib.Seq.{take-nil, take-suc-set, drop-set-lt, take-all, drop-drop, append-snoc}
+use lib.ListN.{length, take, drop, set, length-set, take-append-drop}
+use lib.Seq.{take-nil, take-suc-set, drop-set-lt, drop-drop, append-snoc}
 use Rattle.bytes.specs.Bytes.{indexOf, slice}
 use Rattle.buslog.specs.Report.{fronted}
 use Rattle.script.specs.declared.fields.Field.{Field}

@@ -1,11 +1,11 @@
 -- Texts put into a buffer, one behind the other.
-use Prim.Native.Nat.{ℕ, suc, min, _+_, _-_, _<_, _≤_}
-use mathlib.Core.Path.{_≡_, refl, sym, ap, _∙_}
-use mathlib.Core.List.{List, [], _∷_, _++_, append-nil, append-assoc}
+use Prim.Native.Nat.{ℕ, min, _+_, _-_, _<_, _≤_}
+use mathlib.Core.Path.{_≡_, sym, ap, _∙_}
+use mathlib.Core.List.{List, [], _++_, append-nil, append-assoc}
 use native.Mathlib.Omega.{arith}
 use borrow.Rule.Slice.PartMut.{putMid}
 use lib.ListN.{length, take, drop, length-take, length-drop, length-append, drop-of-length-le, take-append-drop}
-use lib.Seq.{take-nil, take-length, take-all, take-take, drop-drop, take-append-le, take-append-add, take-at, drop-at, length-take-le}
+use lib.Seq.{take-nil, take-length, take-all, drop-drop, take-append-le, take-append-add, take-at, drop-at, length-take-le}
 use Rattle.signal.proofs.Inside.{order}
 use Rattle.buslog.specs.Report.{fronted}
 use Rattle.script.specs.Print.{cut, Puts}

@@ -1,6 +1,5 @@
 // The list that ends a line: its fields begin at a place, each one space behind the field before it.
 use crate::fields;
-ghost use mathlib.Core.Path.{_≡_};
 ghost use Rattle.script.specs.Lists.{Listed, wordsAt, bytesAt};
 
 // How many fields were read up to the line's end.

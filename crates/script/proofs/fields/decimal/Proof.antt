@@ -1,9 +1,9 @@
 -- `fields::decimal` meets its contract. The invariant: the field is what the digits passed and the rest make of it.
 use Prim.Native.Nat.{_≤_, _-_}
-use mathlib.Core.Path.{_≡_, refl, sym, ap, _∙_}
+use mathlib.Core.Path.{_≡_, sym, _∙_}
 use native.Mathlib.Omega.{arith}
 use borrow.Author.Needs.{needs}
-use lib.ListN.{length, getD, drop}
+use lib.ListN.{length, drop}
 use Rattle.script.specs.Fields.{decimalField, digitsFrom}
 use Rattle.script.proofs.Reading.{no-decimal, some-decimal, no-digit, too-large, next-digit, all-digits}
 use Rattle.script.proofs.fields.decimal.Statement.{statement}

@@ -1,5 +1,4 @@
 -- `fields::pair` meets its contract: each way out has the tests that led to it, and what the calls answer is put in.
-use native.Mathlib.Omega.{arith}
 use borrow.Author.Needs.{needs}
 use Rattle.script.proofs.Reading.{no-two, no-high, no-low, a-pair}
 use Rattle.script.proofs.fields.pair.Statement.{statement}

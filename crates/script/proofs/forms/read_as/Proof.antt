@@ -1,12 +1,12 @@
 -- `forms::read_as` meets its contract. The invariant: the line is by the form what is left of both comes to.
 use Prim.Native.Nat.{_≤_, _+_, _-_}
-use mathlib.Core.Path.{_≡_, refl, sym, ap, _∙_}
+use mathlib.Core.Path.{_≡_, sym, ap, _∙_}
 use native.Mathlib.Omega.{arith}
 use borrow.Author.Needs.{needs}
 use borrow.Author.Tests.{not-true, not-false}
 use lib.ListN.{length}
 use Rattle.script.specs.Fields.{fieldsFrom, isRight}
-use Rattle.script.specs.Forms.{withField, readAs, readOf}
+use Rattle.script.specs.Forms.{readAs, readOf}
 use Rattle.script.proofs.Forming.{begins, form-ends, line-left, list-at, line-ends, wrong-at, right-at}
 use Rattle.script.proofs.forms.read_as.Statement.{statement}
 use Rattle.script.proofs.forms.read_as.Tie as tie

@@ -1,7 +1,7 @@
 -- `print::by_number` meets its contract. The invariant: the pattern is the one behind as many as are left to pass.
 use Prim.Native.Nat.{_≤_, _+_, _-_}
 use mathlib.Core.List.{[]}
-use mathlib.Core.Path.{_≡_, refl, sym, _∙_}
+use mathlib.Core.Path.{_≡_, refl, _∙_}
 use native.Mathlib.Omega.{arith}
 use borrow.Author.Needs.{needs}
 use lib.ListN.{length, getD}

@@ -1,5 +1,4 @@
 -- `print::stands_for` meets its contract: each way out has the tests that led to it.
-use borrow.Author.Needs.{needs}
 use borrow.Author.Tests.{eq-eqb, ne-eqb}
 use Rattle.script.specs.Print.{standsFor}
 use Rattle.script.proofs.print.stands_for.Statement.{statement}
