@@ -4,3 +4,4 @@ pub mod Forming
 pub mod Listing
 pub mod Putting
 pub mod Patterns
+pub mod TwoRows
