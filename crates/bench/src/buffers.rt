@@ -4,7 +4,7 @@ ghost use Rattle.io.specs.Counts.{Counts};
 // The longest line that can be right.
 pub(crate) const LONGEST_LINE: usize = 20000;
 
-// Room for the words of the longest line, and for the bytes of one.
+// Room for the words of the longest line, also of each of its rows, and for the bytes of one.
 pub(crate) const LINE_WORDS: usize = 10000;
 
 pub(crate) const LINE_BYTES: usize = 6700;
@@ -47,4 +47,11 @@ pub(crate) fn words_within(n: usize, words: &[u16]) -> usize
     ensures { λ r. ⌜ Counts r (now (words .entry)) ⌝ }
 {
     if n < words.len() { n } else { words.len() }
+}
+
+// The lesser of a number and how many numbers there are.
+pub(crate) fn numbers_within(n: usize, numbers: &[u32]) -> usize
+    ensures { λ r. ⌜ Counts r (now (numbers .entry)) ⌝ }
+{
+    if n < numbers.len() { n } else { numbers.len() }
 }

@@ -1,6 +1,9 @@
 // The calls of the master: each takes the state from the desk, makes the call, and puts the state back that it hands on.
 use crate::buffers::LINE_BYTES;
+use crate::buffers::LINE_WORDS;
+use crate::buffers::numbers_within;
 use crate::buffers::within;
+use crate::buffers::words_within;
 use crate::desk;
 use crate::desk::Desk;
 use crate::desk::FORM;
@@ -15,6 +18,8 @@ use master::start::FreshAnswer;
 use master::state::State;
 use script::lists;
 use script::lists::Count;
+use script::rows;
+use script::rows::Rows;
 
 // Makes the call that the line at hand is, on what is in use of each buffer.
 pub(crate) fn make(
@@ -29,6 +34,7 @@ pub(crate) fn make(
         Form::BYTE => byte(desk, t, frames),
         Form::WRITE => write(desk, t, frames),
         Form::WRITES => writes(line, desk, t, frames),
+        Form::ROW => row(line, desk, t, frames),
         Form::READ => read(desk, t, frames),
         Form::READS => reads(desk, t, frames),
         Form::FRESH => fresh(desk, t, frames),
@@ -86,6 +92,38 @@ fn write_array(desk: &mut Desk, t: &[u16], frames: &mut [u8], values: &[u8]) -> 
     let answer = wrote.answer;
     desk::put(desk, state);
     Reply::write(answer)
+}
+
+// Writes a row, the signals and the values that end the line.
+fn row(line: &[u8], desk: &mut Desk, t: &[u16], frames: &mut [u8]) -> Reply {
+    let mut signals = [0u16; LINE_WORDS];
+    let mut values = [0u32; LINE_WORDS];
+    let Rows::Of(signals_read, values_read) = rows::read(
+        line,
+        size(desk[LIST]),
+        &mut signals,
+        &mut values,
+    ) else {
+        return Reply::malformed();
+    };
+    let n = words_within(signals_read, &signals);
+    let m = numbers_within(values_read, &values);
+    write_row(desk, t, frames, &signals[..n], &values[..m])
+}
+
+// Writes a row.
+fn write_row(
+    desk: &mut Desk,
+    t: &[u16],
+    frames: &mut [u8],
+    signals: &[u16],
+    values: &[u32],
+) -> Reply {
+    let wrote = desk::state(desk).write_row(t, frames, signals, values);
+    let state = wrote.state;
+    let answer = wrote.answer;
+    desk::put(desk, state);
+    Reply::row(answer)
 }
 
 // Reads a scalar.

@@ -18,55 +18,57 @@ impl Form {
 
     pub(crate) const WRITES: u32 = 3;
 
-    pub(crate) const READ: u32 = 4;
+    pub(crate) const ROW: u32 = 4;
 
-    pub(crate) const READS: u32 = 5;
+    pub(crate) const READ: u32 = 5;
 
-    pub(crate) const AHEAD: u32 = 6;
+    pub(crate) const READS: u32 = 6;
 
-    pub(crate) const SELECT: u32 = 7;
+    pub(crate) const AHEAD: u32 = 7;
 
-    pub(crate) const FRESH: u32 = 8;
+    pub(crate) const SELECT: u32 = 8;
 
-    pub(crate) const STATUS: u32 = 9;
+    pub(crate) const FRESH: u32 = 9;
 
-    pub(crate) const SEND: u32 = 10;
+    pub(crate) const STATUS: u32 = 10;
 
-    pub(crate) const MESSAGE: u32 = 11;
+    pub(crate) const SEND: u32 = 11;
 
-    pub(crate) const PENDING: u32 = 12;
+    pub(crate) const MESSAGE: u32 = 12;
 
-    pub(crate) const FRAMES: u32 = 13;
+    pub(crate) const PENDING: u32 = 13;
 
-    pub(crate) const OUT: u32 = 14;
+    pub(crate) const FRAMES: u32 = 14;
 
-    pub(crate) const STATE: u32 = 15;
+    pub(crate) const OUT: u32 = 15;
 
-    pub(crate) const TAKEN: u32 = 16;
+    pub(crate) const STATE: u32 = 16;
 
-    pub(crate) const ASSEMBLY: u32 = 17;
+    pub(crate) const TAKEN: u32 = 17;
 
-    pub(crate) const TABLE: u32 = 18;
+    pub(crate) const ASSEMBLY: u32 = 18;
 
-    pub(crate) const BUFFER: u32 = 19;
+    pub(crate) const TABLE: u32 = 19;
 
-    pub(crate) const LEND: u32 = 20;
+    pub(crate) const BUFFER: u32 = 20;
 
-    pub(crate) const ROOM: u32 = 21;
+    pub(crate) const LEND: u32 = 21;
 
-    pub(crate) const TAKE: u32 = 22;
+    pub(crate) const ROOM: u32 = 22;
 
-    pub(crate) const PID: u32 = 23;
+    pub(crate) const TAKE: u32 = 23;
 
-    pub(crate) const ID: u32 = 24;
+    pub(crate) const PID: u32 = 24;
 
-    pub(crate) const CLASSIC: u32 = 25;
+    pub(crate) const ID: u32 = 25;
 
-    pub(crate) const ENHANCED: u32 = 26;
+    pub(crate) const CLASSIC: u32 = 26;
+
+    pub(crate) const ENHANCED: u32 = 27;
     // The first of the lines that set a part of the state.
-    pub(crate) const SETS: u32 = 27;
+    pub(crate) const SETS: u32 = 28;
     // No form: the number of all.
-    pub(crate) const NONE: u32 = 47;
+    pub(crate) const NONE: u32 = 48;
 }
 
 // Reads a line as the first form that it has, and puts the form, the place of the list and the numbers on the desk; a line that is too
@@ -78,8 +80,8 @@ pub(crate) fn take(line: &[u8], desk: &mut Desk) {
     }
     let read = forms::read(
         line,
-        b"tick|byte HH|write 65535 4294967295|writes 65535 ..|read 65535|reads 65535|ahead 65535|select 65535|fresh|\
-        status|send 255 4294967295|message|pending|frames|out|state|taken|assembly|table ..|buffer 512|lend ..|\
+        b"tick|byte HH|write 65535 4294967295|writes 65535 ..|row ..|read 65535|reads 65535|ahead 65535|select 65535|\
+        fresh|status|send 255 4294967295|message|pending|frames|out|state|taken|assembly|table ..|buffer 512|lend ..|\
         room 4096|take ..|pid 255|id HH|checksum 255 classic ..|checksum 255 enhanced ..|\
         set wait 65535|set entry 65535|set entry none|set request 65535|set request none|set open nothing|\
         set open frame 65535|set open request|set open response|set count 255|\

@@ -39,10 +39,15 @@ impl Reply {
         Reply { text, n, place }
     }
 
-    // A refusal: its number, and the position that a fault of the table has.
+    // A refusal of any call but a row of values.
     fn refused(refusal: Refusal) -> Reply {
+        Reply::refused_by(refusal, refusal.tells_place(false))
+    }
+
+    // A refusal: its number, and its place where that is told.
+    fn refused_by(refusal: Refusal, tells_place: bool) -> Reply {
         let n = refusal.number as u32;
-        if refusal.number == Refusal::TABLE {
+        if tells_place {
             return Reply::two(Text::REFUSED_AT, n, (refusal.place % 65536) as u32);
         }
         Reply::of(Text::REFUSED, n)
@@ -74,6 +79,14 @@ impl Reply {
         match answer {
             WriteAnswer::Written => Reply::alone(Text::WRITTEN),
             WriteAnswer::Refused(refusal) => Reply::refused(refusal),
+        }
+    }
+
+    // A row of values.
+    pub(crate) fn row(answer: WriteAnswer) -> Reply {
+        match answer {
+            WriteAnswer::Written => Reply::alone(Text::WRITTEN),
+            WriteAnswer::Refused(refusal) => Reply::refused_by(refusal, refusal.tells_place(true)),
         }
     }
 

@@ -5,3 +5,4 @@ pub mod Listing
 pub mod Putting
 pub mod Patterns
 pub mod FieldsExactly
+pub mod TwoRows

@@ -26,7 +26,7 @@ a-number (Number v) e = refl
 a-number Wrong e = absurd (let z : _≡_ {A = ℕ} 0 1 = cc in omega arith)
 
 -- nothing put behind the first n leaves a buffer as it is
-unchanged : (n : ℕ) (before : List ℕ) → before ≡ take n before ++ fronted [] (drop n before)
+pub unchanged : (n : ℕ) (before : List ℕ) → before ≡ take n before ++ fronted [] (drop n before)
 unfolding fronted
 unchanged n before = sym (take-append-drop n before)
 
@@ -55,7 +55,7 @@ module _ (n : ℕ) (before : List ℕ) where
 
     -- the next field is put behind those before it
     module _ (e : isNumber f ≡ true) (h : n < length before) where
-      next-told : {r : Count} → r ≡ countOf (n + 1) (length (set before n (numberIn f))) fs → r ≡ countOf n (length before) (f ∷ fs)
+      pub next-told : {r : Count} → r ≡ countOf (n + 1) (length (set before n (numberIn f))) fs → r ≡ countOf n (length before) (f ∷ fs)
       unfolding countOf areNumbers
       next-told q = let p : n + 1 + length fs ≡ n + suc (length fs) = omega arith in q ∙ simp (length-set, p, e)
 

@@ -2,3 +2,4 @@ pub mod Fields
 pub mod Forms
 pub mod Lists
 pub mod Print
+pub mod Rows

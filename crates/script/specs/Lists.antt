@@ -11,12 +11,15 @@ use Rattle.script.specs.declared.lists.Count.{Count}
 use Rattle.script.specs.declared.lists.Count.the-variants.{Of, Malformed}
 use Rattle.script.specs.Fields.{fieldsFrom, decimalField, pairField, isNumber, numberIn}
 
--- the fields of a list that begins at a place: numbers of 16 bits, or bytes
+-- the fields of a list that begins at a place: numbers of 16 bits, bytes, or numbers of 32 bits
 abbrev pub wordsAt : List ℕ → ℕ → List Field
 wordsAt line at = map (decimalField 65535) (fieldsFrom 32 line at)
 
 abbrev pub bytesAt : List ℕ → ℕ → List Field
 bytesAt line at = map pairField (fieldsFrom 32 line at)
+
+abbrev pub numbersAt : List ℕ → ℕ → List Field
+numbersAt line at = map (decimalField 4294967295) (fieldsFrom 32 line at)
 
 -- every field is a number
 unfoldable pub areNumbers : List Field → Bool

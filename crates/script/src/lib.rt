@@ -4,3 +4,4 @@ mod fields;
 pub mod forms;
 pub mod lists;
 pub mod print;
+pub mod rows;

@@ -1,0 +1,24 @@
+-- `rows::read` meets its contract: each way out is what the two rows come to.
+use borrow.Author.Needs.{needs}
+use borrow.Author.Tests.{not-true, not-false}
+use Rattle.script.proofs.TwoRows.{reads-wrong, reads-both}
+use Rattle.script.proofs.rows.read.Statement.{statement}
+use Rattle.script.proofs.rows.read.Tie as tie
+
+returns : tie.Need-returns
+returns c = reads-wrong _ _ _ _ (c .before .before .before .before .first-row .ensures) (not-true _ (c .if1 .taken))
+
+returns-2 : tie.Need-returns-2
+returns-2 c =
+    reads-both _ _ _ _ (c .before .before .before .before .before .before .before .before .before .before .before .first-row .ensures) (not-false _ (c .before .before .before .before .before .before .before .if1 .left)) (rw (c .before .n .given .1) at (c .before .before .before .before .before .second-row .ensures))
+
+returns-3 : tie.Need-returns-3
+returns-3 c =
+    reads-both _ _ _ _ (c .before .before .before .before .before .before .before .before .before .before .first-row .ensures) (not-false _ (c .before .before .before .before .before .before .if1 .left)) (rw (c .enum-told .given .1) at (c .before .before .before .before .second-row .ensures))
+
+pub read-spec : {M : Type 1} → statement M
+read-spec =
+    tie.close
+    (tie.spec (λ c κs. search needs) (λ c. search needs) returns (λ c κs. search needs) (λ c. search needs)
+    (λ c. search needs) (λ c. search needs) (λ c. search needs) returns-2 (λ c. search needs) (λ c. search needs)
+    returns-3)

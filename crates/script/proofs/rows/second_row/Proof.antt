@@ -1,0 +1,66 @@
+-- `rows::second_row` meets its contract. The invariant: reading on from here completes the list.
+use Prim.Native.Nat.{_≤_, _+_, _-_}
+use mathlib.Core.List.{List}
+use mathlib.Core.Path.{_≡_, sym, ap, _∙_}
+use Prim.Native.Nat.{ℕ}
+use native.Mathlib.Omega.{arith}
+use borrow.Author.Needs.{needs}
+use borrow.Author.Tests.{not-true, not-false}
+use lib.ListN.{length, length-set}
+use Rattle.script.specs.declared.lists.Count.{Count}
+use Rattle.script.specs.declared.lists.Count.the-variants.{Of, Malformed}
+use Rattle.script.specs.Fields.{decimalField, isNumber}
+use Rattle.script.specs.Lists.{numbersAt, Listed}
+use Rattle.script.proofs.Listing.{listed-all, listed-wrong, listed-full, listed-next, list-over, list-next}
+use Rattle.script.proofs.rows.second_row.Statement.{statement}
+use Rattle.script.proofs.rows.second_row.Tie as tie
+
+abbrev Inv-loop : tie.InvT-loop
+Inv-loop line at numbers₀ n₀ place₀ numbers n place =
+    (n ≤ length numbers)
+    × (length numbers ≡ length numbers₀)
+    × ((r : Count) (after : List ℕ) → Listed n (numbersAt line place) numbers r after → Listed 0 (numbersAt line at) numbers₀ r after)
+
+abbrev μ-loop : tie.MeasureT-loop
+μ-loop line at numbers₀ n₀ place₀ numbers n place = length numbers₀ - n
+
+loop-holds : tie.Need-loop-holds Inv-loop μ-loop
+loop-holds c = (omega arith, omega arith, λ r after l. l)
+
+returns : tie.Need-returns Inv-loop μ-loop
+returns c =
+    c .before .before .before .before .before .loop .inv .2 _ _
+    (rw (list-next (decimalField 4294967295) (c .before .before .before .before .before .before .before .before .args .line .now) (c .before .before .before .before .before .loop .place) (c .before .before .before .find .result) (c .before .before .before .before .loop-test .taken) (c .before .before .before .find .ensures .0)
+    (c .before .before .before .find .ensures .1)) (listed-full _ _ _ _ (c .if1 .taken)))
+
+returns-2 : tie.Need-returns-2 Inv-loop μ-loop
+returns-2 c =
+    c .before .before .before .before .before .before .before .loop .inv .2 _ _
+    (rw (list-next (decimalField 4294967295) (c .before .before .before .before .before .before .before .before .before .before .args .line .now) (c .before .before .before .before .before .before .before .loop .place) (c .before .before .before .before .before .find .result) (c .before .before .before .before .before .before .loop-test .taken) (c .before .before .before .before .before .find .ensures .0)
+    (c .before .before .before .before .before .find .ensures .1))
+    (listed-wrong _ _ _ _ (ap isNumber (sym (c .before .before .before .decimal .ensures)) ∙ sym (c .before .is-number .ensures) ∙ not-true _ (c .if2 .taken))))
+
+loop-again : tie.Need-loop-again Inv-loop μ-loop
+loop-again c = (
+  simp length-set (omega arith),
+  simp length-set (c .before .before .before .before .before .before .before .before .loop .inv .1),
+  λ r after l.
+      c .before .before .before .before .before .before .before .before .loop .inv .2 r after
+      (rw (list-next (decimalField 4294967295) (c .before .before .before .before .before .before .before .before .before .before .before .args .line .now) (c .before .before .before .before .before .before .before .before .loop .place) (c .before .before .before .before .before .before .find .result) (c .before .before .before .before .before .before .before .loop-test .taken) (c .before .before .before .before .before .before .find .ensures .0)
+      (c .before .before .before .before .before .before .find .ensures .1))
+      (listed-next _ _ _ _ (ap isNumber (sym (c .before .before .before .before .decimal .ensures)) ∙ sym (c .before .before .is-number .ensures) ∙ not-false _ (c .before .if2 .left))
+      (c .before .before .before .if1 .left) (rw (← c .before .before .before .before .decimal .ensures, ← c .number .ensures) l))),
+)
+
+returns-3 : tie.Need-returns-3 Inv-loop μ-loop
+returns-3 c =
+    c .before .loop .inv .2 _ _
+    (rw (list-over (decimalField 4294967295) (c .before .before .before .before .args .line .now) (c .before .loop .place) (c .loop-test .left)) (listed-all _ _ (c .before .loop .inv .0)))
+
+pub second-row-spec : {M : Type 1} → statement M
+second-row-spec =
+    tie.close
+    (tie.spec Inv-loop μ-loop loop-holds (λ c κs. search needs) (λ c. search needs) (λ c. search needs)
+    (λ c. search needs) (λ c κs. search needs) (λ c. search needs) returns (λ c κs. search needs)
+    (λ c. search needs) returns-2 (λ c κs. search needs) (λ c. search needs) (λ c. search needs)
+    (λ c. search needs) (λ c. search needs) (λ c. search needs) loop-again (λ c. search needs) returns-3)
