@@ -1,12 +1,12 @@
 -- What reading two rows comes to, field by field.
 use Prim.Native.Nat.{ℕ, _+_, _-_, _<_, _≤_}
-use mathlib.Core.Path.{_≡_, refl, sym, ap, _∙_}
-use mathlib.Core.Bool.{Bool, true, false, _&&_, and-false}
-use mathlib.Core.List.{List, [], _∷_, _++_, map}
+use mathlib.Core.Path.{_≡_, refl, sym, _∙_}
+use mathlib.Core.Bool.{Bool, true, false, and-false}
+use mathlib.Core.List.{List, [], _∷_, _++_}
 use native.Mathlib.Omega.{arith}
 use lib.ListN.{length, set, take, drop}
 use lib.Seq.{take-nil}
-use Rattle.wire.proofs.Tests.{and-left, and-right, whether}
+use Rattle.wire.proofs.Tests.{and-left, whether}
 use Rattle.buslog.specs.Report.{fronted}
 use Rattle.script.specs.declared.lists.Count.{Count}
 use Rattle.script.specs.declared.lists.Count.the-variants as count

@@ -1,5 +1,5 @@
 -- `rows::second_row` meets its contract. The invariant: reading on from here completes the list.
-use Prim.Native.Nat.{_≤_, _+_, _-_}
+use Prim.Native.Nat.{_≤_, _-_}
 use mathlib.Core.List.{List}
 use mathlib.Core.Path.{_≡_, sym, ap, _∙_}
 use Prim.Native.Nat.{ℕ}
@@ -8,7 +8,6 @@ use borrow.Author.Needs.{needs}
 use borrow.Author.Tests.{not-true, not-false}
 use lib.ListN.{length, length-set}
 use Rattle.script.specs.declared.lists.Count.{Count}
-use Rattle.script.specs.declared.lists.Count.the-variants.{Of, Malformed}
 use Rattle.script.specs.Fields.{decimalField, isNumber}
 use Rattle.script.specs.Lists.{numbersAt, Listed}
 use Rattle.script.proofs.Listing.{listed-all, listed-wrong, listed-full, listed-next, list-over, list-next}
