@@ -24,30 +24,40 @@ loop-holds c = (omega arith, omega arith, some-decimal _ _ (c .if1 .left))
 
 returns-2 : tie.Need-returns-2 Inv-loop μ-loop
 returns-2 c =
-    sym (c .before .before .before .before .loop .inv .2
-    ∙ no-digit (c .before .before .before .before .before .before .before .args .limit) (c .before .before .before .before .before .before .before .args .field .now) (c .before .before .before .before .loop .value) (c .before .before .before .before .loop .i) (c .before .before .before .loop-test .taken)
+    let c3 = c .before .before .before in
+    let c4 = c3 .before in
+    let c7 = c4 .before .before .before in
+    sym (c4 .loop .inv .2
+    ∙ no-digit (c7 .args .limit) (c7 .args .field .now) (c4 .loop .value) (c4 .loop .i) (c3 .loop-test .taken)
     (omega (arith, c .before .digit .ensures)))
 
 returns-3 : tie.Need-returns-3 Inv-loop μ-loop
 returns-3 c =
-    sym (c .before .before .before .before .before .loop .inv .2
-    ∙ too-large (c .before .before .before .before .before .before .before .before .args .limit) (c .before .before .before .before .before .before .before .before .args .field .now) (c .before .before .before .before .before .loop .value) (c .before .before .before .before .before .loop .i) (c .before .before .before .before .loop-test .taken)
+    let c4 = c .before .before .before .before in
+    let c5 = c4 .before in
+    let c8 = c5 .before .before .before in
+    sym (c5 .loop .inv .2
+    ∙ too-large (c8 .args .limit) (c8 .args .field .now) (c5 .loop .value) (c5 .loop .i) (c4 .loop-test .taken)
     (omega (arith, c .before .before .digit .ensures)))
 
 loop-again : tie.Need-loop-again Inv-loop μ-loop
 loop-again c =
+    let c4 = c .before .before .before .before in
+    let c5 = c4 .before in
+    let c8 = c5 .before .before .before in
     let e = c .before .before .digit .ensures in (
       omega arith,
       omega arith,
-      c .before .before .before .before .before .loop .inv .2
-          ∙ next-digit (c .before .before .before .before .before .before .before .before .args .limit) (c .before .before .before .before .before .before .before .before .args .field .now) (c .before .before .before .before .before .loop .value) (c .before .before .before .before .before .loop .i) (c .before .before .before .before .loop-test .taken)
+      c5 .loop .inv .2
+          ∙ next-digit (c8 .args .limit) (c8 .args .field .now) (c5 .loop .value) (c5 .loop .i) (c4 .loop-test .taken)
           (omega (arith, e)) (omega (arith, e))
           ∙ rw (← e),
     )
 
 returns-4 : tie.Need-returns-4 Inv-loop μ-loop
 returns-4 c =
-    sym (c .before .loop .inv .2 ∙ all-digits (c .before .before .before .before .args .limit) (c .before .before .before .before .args .field .now) (c .before .loop .value) (c .before .loop .i) (c .loop-test .left))
+    let c4 = c .before .before .before .before in
+    sym (c .before .loop .inv .2 ∙ all-digits (c4 .args .limit) (c4 .args .field .now) (c .before .loop .value) (c .before .loop .i) (c .loop-test .left))
 
 pub decimal-spec : {M : Type 1} → statement M
 decimal-spec =

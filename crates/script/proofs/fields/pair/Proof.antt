@@ -14,7 +14,10 @@ returns-3 : tie.Need-returns-3
 returns-3 c = no-low _ (c .before .before .before .before .before .before .if1 .left) (c .before .before .before .before .digit .ensures) (c .before .before .digit2 .ensures) (c .if3 .taken)
 
 returns-4 : tie.Need-returns-4
-returns-4 c = a-pair _ (c .before .before .before .before .before .before .if1 .left) (c .before .before .before .before .digit .ensures) (c .before .before .digit2 .ensures) (c .before .if2 .left) (c .if3 .left)
+returns-4 c =
+    let c4 = c .before .before .before .before in
+    let c6 = c4 .before .before in
+    a-pair _ (c6 .if1 .left) (c4 .digit .ensures) (c .before .before .digit2 .ensures) (c .before .if2 .left) (c .if3 .left)
 
 pub pair-spec : {M : Type 1} → statement M
 pair-spec =

@@ -13,10 +13,16 @@ returns-2 : tie.Need-returns-2
 returns-2 c = c .pair .ensures ∙ by-pair _ _ (c .before .before .before .if1 .left) (c .before .if2 .taken)
 
 returns-3 : tie.Need-returns-3
-returns-3 c = c .word .ensures ∙ by-word _ _ (c .before .before .before .before .before .before .if1 .left) (c .before .before .before .before .if2 .left) (omega (arith, c .before .before .digit .ensures))
+returns-3 c =
+    let c4 = c .before .before .before .before in
+    let c6 = c4 .before .before in
+    c .word .ensures ∙ by-word _ _ (c6 .if1 .left) (c4 .if2 .left) (omega (arith, c .before .before .digit .ensures))
 
 returns-4 : tie.Need-returns-4
-returns-4 c = c .number .ensures ∙ by-number _ _ (c .before .before .before .before .before .before .if1 .left) (c .before .before .before .before .if2 .left) (omega (arith, c .before .before .digit .ensures))
+returns-4 c =
+    let c4 = c .before .before .before .before in
+    let c6 = c4 .before .before in
+    c .number .ensures ∙ by-number _ _ (c6 .if1 .left) (c4 .if2 .left) (omega (arith, c .before .before .digit .ensures))
 
 pub read-spec : {M : Type 1} → statement M
 read-spec =

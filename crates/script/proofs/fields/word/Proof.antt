@@ -23,16 +23,22 @@ loop-holds c = (omega arith, refl)
 
 returns-2 : tie.Need-returns-2 Inv-loop μ-loop
 returns-2 c =
+    let c3 = c .before .before .before in
+    let c4 = c3 .before in
+    let c6 = c4 .before .before in
     is-wrong _ _
-    (c .before .before .before .before .loop .inv .1
-    ∙ other-character (c .before .before .before .before .before .before .args .form .now) (c .before .before .before .before .before .before .args .field .now) (c .before .before .before .before .loop .i) (omega arith) (c .before .before .before .loop-test .taken) (c .if2 .taken))
+    (c4 .loop .inv .1
+    ∙ other-character (c6 .args .form .now) (c6 .args .field .now) (c4 .loop .i) (omega arith) (c3 .loop-test .taken) (c .if2 .taken))
 
 loop-again : tie.Need-loop-again Inv-loop μ-loop
-loop-again c = (
-  omega arith,
-  c .before .before .before .before .loop .inv .1
-      ∙ same-character (c .before .before .before .before .before .before .args .form .now) (c .before .before .before .before .before .before .args .field .now) (c .before .before .before .before .loop .i) (omega arith) (c .before .before .before .loop-test .taken) (c .if2 .left),
-)
+loop-again c =
+    let c3 = c .before .before .before in
+    let c4 = c3 .before in
+    let c6 = c4 .before .before in (
+      omega arith,
+      c4 .loop .inv .1
+          ∙ same-character (c6 .args .form .now) (c6 .args .field .now) (c4 .loop .i) (omega arith) (c3 .loop-test .taken) (c .if2 .left),
+    )
 
 returns-3 : tie.Need-returns-3 Inv-loop μ-loop
 returns-3 c =

@@ -28,22 +28,29 @@ loop-holds c = (refl, omega arith, omega arith, patterns-begin _ _, refl)
 
 returns : tie.Need-returns Inv-loop μ-loop
 returns c =
+    let c5 = c .before .before .before .before .before in
+    let c6 = c5 .before in
+    let c7 = c6 .before in
+    let c8 = c7 .before in
+    let c12 = c8 .before .before .before .before in
     rw (
-      ← c .before .before .before .before .before .before .before .before .loop .inv .0,
-      c .before .before .before .before .before .before .before .before .loop .inv .3
-          ∙ this-pattern (c .before .before .before .before .before .before .before .before .before .before .before .before .args .patterns .now) (c .before .before .before .before .before .before .before .before .before .before .before .before .args .k) (c .before .before .before .before .before .before .before .before .loop .start) (c .before .before .before .before .before .before .find .result) (c .before .before .before .before .before .before .before .before .loop .passed)
-          (c .before .before .before .before .before .before .before .loop-test .taken) (c .before .before .before .before .before .before .find .ensures .0) (c .before .before .before .before .before .before .find .ensures .1) (c .before .before .before .before .before .if1 .taken),
+      ← c8 .loop .inv .0,
+      c8 .loop .inv .3
+          ∙ this-pattern (c12 .args .patterns .now) (c12 .args .k) (c8 .loop .start) (c6 .find .result) (c8 .loop .passed)
+          (c7 .loop-test .taken) (c6 .find .ensures .0) (c6 .find .ensures .1) (c5 .if1 .taken),
     ) (c .before .before .by-pattern .ensures)
 
 loop-again : tie.Need-loop-again Inv-loop μ-loop
 loop-again c =
-    let i = c .before .before .before .loop .inv in
+    let c3 = c .before .before .before in
+    let c7 = c3 .before .before .before .before in
+    let i = c3 .loop .inv in
     let q = c .if1 .left in (
       i .0,
       omega arith,
       omega (arith, c .before .find .ensures .1),
       i .3
-          ∙ other-pattern (c .before .before .before .before .before .before .before .args .patterns .now) (c .before .before .before .before .before .before .before .args .k) (c .before .before .before .loop .start) (c .before .find .result) (c .before .before .before .loop .passed)
+          ∙ other-pattern (c7 .args .patterns .now) (c7 .args .k) (c3 .loop .start) (c .before .find .result) (c3 .loop .passed)
           (c .before .before .loop-test .taken) (c .before .find .ensures .0) (c .before .find .ensures .1) (omega arith),
       i .4,
     )
@@ -51,9 +58,10 @@ loop-again c =
 returns-2 : tie.Need-returns-2 Inv-loop μ-loop
 unfolding textBy
 returns-2 c =
+    let c5 = c .before .before .before .before .before in
     rw (
       c .before .loop .inv .0,
-      c .before .loop .inv .3 ∙ no-pattern (c .before .before .before .before .before .args .patterns .now) (c .before .before .before .before .before .args .k) (c .before .loop .start) (c .before .loop .passed) (c .loop-test .left),
+      c .before .loop .inv .3 ∙ no-pattern (c5 .args .patterns .now) (c5 .args .k) (c .before .loop .start) (c .before .loop .passed) (c .loop-test .left),
     ) (puts-nothing _ _)
 
 pub by-number-spec : {M : Type 1} → statement M

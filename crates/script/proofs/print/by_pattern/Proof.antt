@@ -25,22 +25,28 @@ loop-holds : tie.Need-loop-holds Inv-loop μ-loop
 loop-holds c = (omega arith, omega arith, λ r after p. p)
 
 loop-again : tie.Need-loop-again Inv-loop μ-loop
-loop-again c = (
-  omega arith,
-  omega (arith, c .before .before .before .shown .kept .0),
-  λ r after p.
-      c .before .before .before .before .before .before .before .before .loop .inv .2 r after
-      (rw (
-        pattern-next (c .before .before .before .before .before .before .before .before .before .before .before .before .args .pattern .now) (drop (c .before .before .before .before .before .before .before .before .loop .place) (c .before .before .before .before .before .before .before .before .before .before .before .before .args .numbers .now)) (c .before .before .before .before .before .before .before .before .loop .i) (c .before .before .before .before .before .before .before .loop-test .taken),
-        ← c .before .before .before .before .number .ensures,
-        ← c .next .ensures,
-      ) (puts-then _ _ _ _ (c .before .before .before .shown .ensures) p)),
-)
+loop-again c =
+    let c3 = c .before .before .before in
+    let c4 = c3 .before in
+    let c7 = c4 .before .before .before in
+    let c8 = c7 .before in
+    let c12 = c8 .before .before .before .before in (
+      omega arith,
+      omega (arith, c3 .shown .kept .0),
+      λ r after p.
+          c8 .loop .inv .2 r after
+          (rw (
+            pattern-next (c12 .args .pattern .now) (drop (c8 .loop .place) (c12 .args .numbers .now)) (c8 .loop .i) (c7 .loop-test .taken),
+            ← c4 .number .ensures,
+            ← c .next .ensures,
+          ) (puts-then _ _ _ _ (c3 .shown .ensures) p)),
+    )
 
 returns : tie.Need-returns Inv-loop μ-loop
 returns c =
+    let c5 = c .before .before .before .before .before in
     c .before .loop .inv .2 _ _
-    (rw (pattern-over (c .before .before .before .before .before .args .pattern .now) (drop (c .before .loop .place) (c .before .before .before .before .before .args .numbers .now)) (c .before .loop .i) (c .loop-test .left)) (puts-nothing _ _))
+    (rw (pattern-over (c5 .args .pattern .now) (drop (c .before .loop .place) (c5 .args .numbers .now)) (c .before .loop .i) (c .loop-test .left)) (puts-nothing _ _))
 
 pub by-pattern-spec : {M : Type 1} → statement M
 by-pattern-spec =

@@ -35,7 +35,9 @@ loop-again c =
 
 returns : tie.Need-returns Inv-loop μ-loop
 returns c =
-    rw (← spelled (c .before .before .before .before .before .before .before .before .before .args .number) (c .before .before .before .before .before .before .before .loop .first) (c .before .before .before .before .before .before .before .loop .rest) (c .before .before .before .before .before .before .before .loop .digits) (c .before .before .before .before .before .before .before .loop .inv .3) (omega arith) (c .before .before .before .before .before .before .before .loop .inv .0))
+    let c7 = c .before .before .before .before .before .before .before in
+    let c9 = c7 .before .before in
+    rw (← spelled (c9 .args .number) (c7 .loop .first) (c7 .loop .rest) (c7 .loop .digits) (c7 .loop .inv .3) (omega arith) (c7 .loop .inv .0))
     (c .before .before .text .ensures)
 
 pub decimal-spec : {M : Type 1} → statement M

@@ -15,7 +15,8 @@ returns c = rw (sym (c .before .stands-for .ensures) ∙ not-true _ (c .if1 .tak
 returns-2 : tie.Need-returns-2
 unfolding leftBehind
 returns-2 c =
-    rw (sym (c .before .before .stands-for .ensures) ∙ not-false _ (c .before .if1 .left)) (sym (drop-drop 1 (c .before .before .before .before .args .place) (c .before .before .before .before .args .numbers .now)))
+    let c4 = c .before .before .before .before in
+    rw (sym (c .before .before .stands-for .ensures) ∙ not-false _ (c .before .if1 .left)) (sym (drop-drop 1 (c4 .args .place) (c4 .args .numbers .now)))
 
 returns-3 : tie.Need-returns-3
 unfolding leftBehind

@@ -24,13 +24,16 @@ loop-holds : tie.Need-loop-holds Inv-loop μ-loop
 loop-holds c = (omega arith, omega arith, λ r after p. p)
 
 loop-again : tie.Need-loop-again Inv-loop μ-loop
-loop-again c = (
-  omega arith,
-  omega (arith, c .before .before .spaced .kept .0),
-  λ r after p.
-      c .before .before .before .before .before .before .loop .inv .2 r after
-      (rw (pairs-next (c .before .before .before .before .before .before .before .before .before .args .bytes .now) (c .before .before .before .before .before .before .loop .i) (c .before .before .before .before .before .loop-test .taken)) (puts-then _ _ _ _ (c .before .before .spaced .ensures) p)),
-)
+loop-again c =
+    let c5 = c .before .before .before .before .before in
+    let c6 = c5 .before in
+    let c9 = c6 .before .before .before in (
+      omega arith,
+      omega (arith, c .before .before .spaced .kept .0),
+      λ r after p.
+          c6 .loop .inv .2 r after
+          (rw (pairs-next (c9 .args .bytes .now) (c6 .loop .i) (c5 .loop-test .taken)) (puts-then _ _ _ _ (c .before .before .spaced .ensures) p)),
+    )
 
 returns : tie.Need-returns Inv-loop μ-loop
 returns c = c .before .loop .inv .2 _ _ (rw (pairs-over (c .before .before .before .before .args .bytes .now) (c .before .loop .i) (c .loop-test .left)) (puts-nothing _ _))

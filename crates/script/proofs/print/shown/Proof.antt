@@ -15,11 +15,19 @@ returns-2 c = rw (ne-eqb _ _ (c .before .before .before .before .before .if1 .le
 
 returns-3 : tie.Need-returns-3
 unfolding shownBy
-returns-3 c = rw (ne-eqb _ _ (c .before .before .before .before .before .before .if1 .left), ne-eqb _ _ (c .before .before .before .before .before .if2 .left), eq-eqb _ _ (c .before .before .before .before .if3 .taken)) (c .before .before .pair .ensures)
+returns-3 c =
+    let c4 = c .before .before .before .before in
+    let c5 = c4 .before in
+    let c6 = c5 .before in
+    rw (ne-eqb _ _ (c6 .if1 .left), ne-eqb _ _ (c5 .if2 .left), eq-eqb _ _ (c4 .if3 .taken)) (c .before .before .pair .ensures)
 
 returns-4 : tie.Need-returns-4
 unfolding shownBy
-returns-4 c = rw (ne-eqb _ _ (c .before .before .before .before .before .before .before .if1 .left), ne-eqb _ _ (c .before .before .before .before .before .before .if2 .left), ne-eqb _ _ (c .before .before .before .before .before .if3 .left)) (c .before .before .text .ensures)
+returns-4 c =
+    let c5 = c .before .before .before .before .before in
+    let c6 = c5 .before in
+    let c7 = c6 .before in
+    rw (ne-eqb _ _ (c7 .if1 .left), ne-eqb _ _ (c6 .if2 .left), ne-eqb _ _ (c5 .if3 .left)) (c .before .before .text .ensures)
 
 pub shown-spec : {M : Type 1} → statement M
 shown-spec =

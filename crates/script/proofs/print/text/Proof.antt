@@ -11,7 +11,8 @@ returns c = puts-behind _ _ _ (c .if1 .taken)
 
 slice-aggregate-copy : tie.Need-slice-aggregate-copy
 slice-aggregate-copy c =
-    sym (copied-length (c .before .before .before .before .before .args .text .now) (c .before .before .before .before .before .args .out .now) (c .before .before .before .before .before .args .at) (c .before .least .result) (c .before .before .if1 .left) (c .before .least .ensures))
+    let c5 = c .before .before .before .before .before in
+    sym (copied-length (c5 .args .text .now) (c5 .args .out .now) (c5 .args .at) (c .before .least .result) (c .before .before .if1 .left) (c .before .least .ensures))
 
 copy-requires : tie.Need-copy-requires
 copy-requires c κs =
@@ -27,16 +28,22 @@ copy-requires c κs =
 
 add-result : tie.Need-add-result
 add-result c =
+    let c5 = c .before .before .before .before .before in
+    let c6 = c5 .before in
+    let c9 = c6 .before .before .before in
     omega (
       arith,
-      c .before .before .before .before .before .least .ensures,
+      c5 .least .ensures,
       c .before .before .copy .ensures .0,
-      copied-length (c .before .before .before .before .before .before .before .before .before .args .text .now) (c .before .before .before .before .before .before .before .before .before .args .out .now) (c .before .before .before .before .before .before .before .before .before .args .at) (c .before .before .before .before .before .least .result) (c .before .before .before .before .before .before .if1 .left) (c .before .before .before .before .before .least .ensures),
+      copied-length (c9 .args .text .now) (c9 .args .out .now) (c9 .args .at) (c5 .least .result) (c6 .if1 .left) (c5 .least .ensures),
     )
 
 returns-2 : tie.Need-returns-2
 returns-2 c =
-    puts-copied (c .before .before .before .before .before .before .before .before .before .args .text .now) (c .before .before .before .before .before .before .before .before .before .args .out .now) (c .before .before .before .before .before .before .before .before .before .args .at) (c .before .before .before .before .before .least .result) (c .before .before .before .before .before .before .if1 .left) (c .before .before .before .before .before .least .ensures)
+    let c5 = c .before .before .before .before .before in
+    let c6 = c5 .before in
+    let c9 = c6 .before .before .before in
+    puts-copied (c9 .args .text .now) (c9 .args .out .now) (c9 .args .at) (c5 .least .result) (c6 .if1 .left) (c5 .least .ensures)
     (c .before .before .copy .ensures .0) (c .before .before .copy .ensures .1) refl
 
 pub text-spec : {M : Type 1} → statement M

@@ -30,25 +30,42 @@ loop-holds c = (omega arith, omega arith, λ r after l. l)
 
 returns : tie.Need-returns Inv-loop μ-loop
 returns c =
+    let c4 = c .before .before .before .before in
+    let c5 = c4 .before in
+    let c6 = c5 .before in
+    let c9 = c6 .before .before .before in
     rw (c .ended .ensures)
-    (c .before .before .before .before .before .before .loop .inv .2 _ _
-    (rw (field-at 32 (c .before .before .before .before .before .before .before .before .before .args .line .now) (c .before .before .before .before .before .before .loop .place) (c .before .before .before .before .find .result) (c .before .before .before .before .before .loop-test .taken) (c .before .before .before .before .find .ensures .0) (c .before .before .before .before .find .ensures .1))
-    (first-colon _ _ _ _ _ (sym (c .before .before .is-colon .ensures) ∙ c .before .if1 .taken) (c .before .before .before .before .before .before .loop .inv .0) _ refl)))
+    (c6 .loop .inv .2 _ _
+    (rw (field-at 32 (c9 .args .line .now) (c6 .loop .place) (c4 .find .result) (c5 .loop-test .taken) (c4 .find .ensures .0) (c4 .find .ensures .1))
+    (first-colon _ _ _ _ _ (sym (c .before .before .is-colon .ensures) ∙ c .before .if1 .taken) (c6 .loop .inv .0) _ refl)))
 
 returns-2 : tie.Need-returns-2 Inv-loop μ-loop
 returns-2 c =
+    let c4 = c .before .before .before .before in
+    let c5 = c4 .before in
+    let c7 = c5 .before .before in
+    let c8 = c7 .before in
+    let c9 = c8 .before in
+    let c12 = c9 .before .before .before in
     rw (c .wrong .ensures)
-    (c .before .before .before .before .before .before .before .before .before .loop .inv .2 _ _
-    (rw (field-at 32 (c .before .before .before .before .before .before .before .before .before .before .before .before .args .line .now) (c .before .before .before .before .before .before .before .before .before .loop .place) (c .before .before .before .before .before .before .before .find .result) (c .before .before .before .before .before .before .before .before .loop-test .taken) (c .before .before .before .before .before .before .before .find .ensures .0) (c .before .before .before .before .before .before .before .find .ensures .1))
-    (first-full _ _ _ _ _ (sym (c .before .before .before .before .before .is-colon .ensures) ∙ c .before .before .before .before .if1 .left) (c .before .if2 .taken))))
+    (c9 .loop .inv .2 _ _
+    (rw (field-at 32 (c12 .args .line .now) (c9 .loop .place) (c7 .find .result) (c8 .loop-test .taken) (c7 .find .ensures .0) (c7 .find .ensures .1))
+    (first-full _ _ _ _ _ (sym (c5 .is-colon .ensures) ∙ c4 .if1 .left) (c .before .if2 .taken))))
 
 returns-3 : tie.Need-returns-3 Inv-loop μ-loop
 returns-3 c =
+    let c4 = c .before .before .before .before in
+    let c6 = c4 .before .before in
+    let c7 = c6 .before in
+    let c9 = c7 .before .before in
+    let c10 = c9 .before in
+    let c11 = c10 .before in
+    let c14 = c11 .before .before .before in
     rw (c .wrong2 .ensures)
-    (c .before .before .before .before .before .before .before .before .before .before .before .loop .inv .2 _ _
-    (rw (field-at 32 (c .before .before .before .before .before .before .before .before .before .before .before .before .before .before .args .line .now) (c .before .before .before .before .before .before .before .before .before .before .before .loop .place) (c .before .before .before .before .before .before .before .before .before .find .result) (c .before .before .before .before .before .before .before .before .before .before .loop-test .taken) (c .before .before .before .before .before .before .before .before .before .find .ensures .0) (c .before .before .before .before .before .before .before .before .before .find .ensures .1))
-    (first-wrong _ _ _ _ _ (sym (c .before .before .before .before .before .before .before .is-colon .ensures) ∙ c .before .before .before .before .before .before .if1 .left)
-    (ap isNumber (sym (c .before .before .before .before .decimal .ensures)) ∙ sym (c .before .before .is-number .ensures) ∙ not-true _ (c .before .if3 .taken)))))
+    (c11 .loop .inv .2 _ _
+    (rw (field-at 32 (c14 .args .line .now) (c11 .loop .place) (c9 .find .result) (c10 .loop-test .taken) (c9 .find .ensures .0) (c9 .find .ensures .1))
+    (first-wrong _ _ _ _ _ (sym (c7 .is-colon .ensures) ∙ c6 .if1 .left)
+    (ap isNumber (sym (c4 .decimal .ensures)) ∙ sym (c .before .before .is-number .ensures) ∙ not-true _ (c .before .if3 .taken)))))
 
 cast-words : tie.Need-cast-words Inv-loop μ-loop
 cast-words c =
@@ -56,21 +73,30 @@ cast-words c =
     omega (arith, decimal-within 65535 _ _ (sym (c .before .before .before .before .decimal .ensures) ∙ number), c .number .ensures)
 
 loop-again : tie.Need-loop-again Inv-loop μ-loop
-loop-again c = (
-  simp length-set (omega arith),
-  simp length-set (c .before .before .before .before .before .before .before .before .before .before .before .loop .inv .1),
-  λ r after l.
-      c .before .before .before .before .before .before .before .before .before .before .before .loop .inv .2 r after
-      (rw (field-at 32 (c .before .before .before .before .before .before .before .before .before .before .before .before .before .before .args .line .now) (c .before .before .before .before .before .before .before .before .before .before .before .loop .place) (c .before .before .before .before .before .before .before .before .before .find .result) (c .before .before .before .before .before .before .before .before .before .before .loop-test .taken) (c .before .before .before .before .before .before .before .before .before .find .ensures .0) (c .before .before .before .before .before .before .before .before .before .find .ensures .1))
-      (first-next _ _ _ _ _ (sym (c .before .before .before .before .before .before .before .is-colon .ensures) ∙ c .before .before .before .before .before .before .if1 .left)
-      (ap isNumber (sym (c .before .before .before .before .decimal .ensures)) ∙ sym (c .before .before .is-number .ensures) ∙ not-false _ (c .before .if3 .left)) (c .before .before .before .if2 .left)
-      (rw (← c .before .before .before .before .decimal .ensures, ← c .number .ensures) l))),
-)
+loop-again c =
+    let c3 = c .before .before .before in
+    let c4 = c3 .before in
+    let c6 = c4 .before .before in
+    let c7 = c6 .before in
+    let c9 = c7 .before .before in
+    let c10 = c9 .before in
+    let c11 = c10 .before in
+    let c14 = c11 .before .before .before in (
+      simp length-set (omega arith),
+      simp length-set (c11 .loop .inv .1),
+      λ r after l.
+          c11 .loop .inv .2 r after
+          (rw (field-at 32 (c14 .args .line .now) (c11 .loop .place) (c9 .find .result) (c10 .loop-test .taken) (c9 .find .ensures .0) (c9 .find .ensures .1))
+          (first-next _ _ _ _ _ (sym (c7 .is-colon .ensures) ∙ c6 .if1 .left)
+          (ap isNumber (sym (c4 .decimal .ensures)) ∙ sym (c .before .before .is-number .ensures) ∙ not-false _ (c .before .if3 .left)) (c3 .if2 .left)
+          (rw (← c4 .decimal .ensures, ← c .number .ensures) l))),
+    )
 
 returns-4 : tie.Need-returns-4 Inv-loop μ-loop
 returns-4 c =
+    let c5 = c .before .before .before .before .before in
     rw (c .wrong3 .ensures)
-    (c .before .before .loop .inv .2 _ _ (rw (from-behind 32 (c .before .before .before .before .before .args .line .now) (c .before .before .loop .place) (c .before .loop-test .left)) (first-over _ _ _)))
+    (c .before .before .loop .inv .2 _ _ (rw (from-behind 32 (c5 .args .line .now) (c .before .before .loop .place) (c .before .loop-test .left)) (first-over _ _ _)))
 
 pub first-row-spec : {M : Type 1} → statement M
 first-row-spec =

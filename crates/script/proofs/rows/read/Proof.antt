@@ -10,11 +10,17 @@ returns c = reads-wrong _ _ _ _ (c .before .before .before .before .first-row .e
 
 returns-2 : tie.Need-returns-2
 returns-2 c =
-    reads-both _ _ _ _ (c .before .before .before .before .before .before .before .before .before .before .before .first-row .ensures) (not-false _ (c .before .before .before .before .before .before .before .if1 .left)) (rw (c .before .n .given .1) at (c .before .before .before .before .before .second-row .ensures))
+    let c5 = c .before .before .before .before .before in
+    let c7 = c5 .before .before in
+    let c11 = c7 .before .before .before .before in
+    reads-both _ _ _ _ (c11 .first-row .ensures) (not-false _ (c7 .if1 .left)) (rw (c .before .n .given .1) at (c5 .second-row .ensures))
 
 returns-3 : tie.Need-returns-3
 returns-3 c =
-    reads-both _ _ _ _ (c .before .before .before .before .before .before .before .before .before .before .first-row .ensures) (not-false _ (c .before .before .before .before .before .before .if1 .left)) (rw (c .enum-told .given .1) at (c .before .before .before .before .second-row .ensures))
+    let c4 = c .before .before .before .before in
+    let c6 = c4 .before .before in
+    let c10 = c6 .before .before .before .before in
+    reads-both _ _ _ _ (c10 .first-row .ensures) (not-false _ (c6 .if1 .left)) (rw (c .enum-told .given .1) at (c4 .second-row .ensures))
 
 pub read-spec : {M : Type 1} → statement M
 read-spec =

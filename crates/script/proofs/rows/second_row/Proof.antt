@@ -28,28 +28,43 @@ loop-holds c = (omega arith, omega arith, λ r after l. l)
 
 returns : tie.Need-returns Inv-loop μ-loop
 returns c =
-    c .before .before .before .before .before .loop .inv .2 _ _
-    (rw (list-next (decimalField 4294967295) (c .before .before .before .before .before .before .before .before .args .line .now) (c .before .before .before .before .before .loop .place) (c .before .before .before .find .result) (c .before .before .before .before .loop-test .taken) (c .before .before .before .find .ensures .0)
-    (c .before .before .before .find .ensures .1)) (listed-full _ _ _ _ (c .if1 .taken)))
+    let c3 = c .before .before .before in
+    let c4 = c3 .before in
+    let c5 = c4 .before in
+    let c8 = c5 .before .before .before in
+    c5 .loop .inv .2 _ _
+    (rw (list-next (decimalField 4294967295) (c8 .args .line .now) (c5 .loop .place) (c3 .find .result) (c4 .loop-test .taken) (c3 .find .ensures .0)
+    (c3 .find .ensures .1)) (listed-full _ _ _ _ (c .if1 .taken)))
 
 returns-2 : tie.Need-returns-2 Inv-loop μ-loop
 returns-2 c =
-    c .before .before .before .before .before .before .before .loop .inv .2 _ _
-    (rw (list-next (decimalField 4294967295) (c .before .before .before .before .before .before .before .before .before .before .args .line .now) (c .before .before .before .before .before .before .before .loop .place) (c .before .before .before .before .before .find .result) (c .before .before .before .before .before .before .loop-test .taken) (c .before .before .before .before .before .find .ensures .0)
-    (c .before .before .before .before .before .find .ensures .1))
-    (listed-wrong _ _ _ _ (ap isNumber (sym (c .before .before .before .decimal .ensures)) ∙ sym (c .before .is-number .ensures) ∙ not-true _ (c .if2 .taken))))
+    let c3 = c .before .before .before in
+    let c5 = c3 .before .before in
+    let c6 = c5 .before in
+    let c7 = c6 .before in
+    let c10 = c7 .before .before .before in
+    c7 .loop .inv .2 _ _
+    (rw (list-next (decimalField 4294967295) (c10 .args .line .now) (c7 .loop .place) (c5 .find .result) (c6 .loop-test .taken) (c5 .find .ensures .0)
+    (c5 .find .ensures .1))
+    (listed-wrong _ _ _ _ (ap isNumber (sym (c3 .decimal .ensures)) ∙ sym (c .before .is-number .ensures) ∙ not-true _ (c .if2 .taken))))
 
 loop-again : tie.Need-loop-again Inv-loop μ-loop
-loop-again c = (
-  simp length-set (omega arith),
-  simp length-set (c .before .before .before .before .before .before .before .before .loop .inv .1),
-  λ r after l.
-      c .before .before .before .before .before .before .before .before .loop .inv .2 r after
-      (rw (list-next (decimalField 4294967295) (c .before .before .before .before .before .before .before .before .before .before .before .args .line .now) (c .before .before .before .before .before .before .before .before .loop .place) (c .before .before .before .before .before .before .find .result) (c .before .before .before .before .before .before .before .loop-test .taken) (c .before .before .before .before .before .before .find .ensures .0)
-      (c .before .before .before .before .before .before .find .ensures .1))
-      (listed-next _ _ _ _ (ap isNumber (sym (c .before .before .before .before .decimal .ensures)) ∙ sym (c .before .before .is-number .ensures) ∙ not-false _ (c .before .if2 .left))
-      (c .before .before .before .if1 .left) (rw (← c .before .before .before .before .decimal .ensures, ← c .number .ensures) l))),
-)
+loop-again c =
+    let c3 = c .before .before .before in
+    let c4 = c3 .before in
+    let c6 = c4 .before .before in
+    let c7 = c6 .before in
+    let c8 = c7 .before in
+    let c11 = c8 .before .before .before in (
+      simp length-set (omega arith),
+      simp length-set (c8 .loop .inv .1),
+      λ r after l.
+          c8 .loop .inv .2 r after
+          (rw (list-next (decimalField 4294967295) (c11 .args .line .now) (c8 .loop .place) (c6 .find .result) (c7 .loop-test .taken) (c6 .find .ensures .0)
+          (c6 .find .ensures .1))
+          (listed-next _ _ _ _ (ap isNumber (sym (c4 .decimal .ensures)) ∙ sym (c .before .before .is-number .ensures) ∙ not-false _ (c .before .if2 .left))
+          (c3 .if1 .left) (rw (← c4 .decimal .ensures, ← c .number .ensures) l))),
+    )
 
 returns-3 : tie.Need-returns-3 Inv-loop μ-loop
 returns-3 c =
