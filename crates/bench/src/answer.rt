@@ -8,14 +8,6 @@ use crate::buffers::within;
 use crate::buffers::words_within;
 use crate::bus;
 use crate::calls;
-use crate::desk::ANSWER;
-use crate::desk::Desk;
-use crate::desk::FORM;
-use crate::desk::FRAMES_USED;
-use crate::desk::MESSAGE_USED;
-use crate::desk::ROOM_USED;
-use crate::desk::WORDS_USED;
-use crate::desk::size;
 use crate::forms;
 use crate::forms::Form;
 use crate::print;
@@ -25,6 +17,14 @@ use crate::setup;
 use crate::shows;
 use crate::texts;
 use crate::texts::Text;
+use desk::ANSWER;
+use desk::Desk;
+use desk::FORM;
+use desk::FRAMES_USED;
+use desk::MESSAGE_USED;
+use desk::ROOM_USED;
+use desk::WORDS_USED;
+use desk::size;
 
 // Answers a line, and passes over an empty one and a comment.
 pub(crate) fn line(

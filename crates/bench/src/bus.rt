@@ -1,17 +1,17 @@
 // Bytes on the bus: protected identifiers and checksums, and the frames that the reassembler takes.
 use crate::buffers::LINE_BYTES;
 use crate::buffers::within;
-use crate::desk;
-use crate::desk::Desk;
-use crate::desk::FORM;
-use crate::desk::LIST;
-use crate::desk::NUMBERS;
-use crate::desk::ROOM_USED;
-use crate::desk::byte;
-use crate::desk::size;
 use crate::forms::Form;
 use crate::replies::Reply;
 use crate::texts::Text;
+use desk::Desk;
+use desk::FORM;
+use desk::LIST;
+use desk::NUMBERS;
+use desk::ROOM_USED;
+use desk::assembly;
+use desk::byte;
+use desk::size;
 use script::lists;
 use script::lists::Count;
 use wire::checksum;
@@ -52,9 +52,9 @@ pub(crate) fn take(line: &[u8], desk: &mut Desk, room: &mut [u8]) -> Reply {
 // The reassembler takes a frame.
 fn take_frame(desk: &mut Desk, frame: &[u8], room: &mut [u8]) -> Reply {
     let end = within(size(desk[ROOM_USED]), room);
-    let taken = desk::reassembly(desk).take(frame, &mut room[..end]);
+    let taken = assembly::take(desk).take(frame, &mut room[..end]);
     let state = taken.state;
     let answer = taken.answer;
-    desk::put_reassembly(desk, state);
+    assembly::put(desk, state);
     Reply::take(answer)
 }

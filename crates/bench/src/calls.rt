@@ -4,16 +4,17 @@ use crate::buffers::LINE_WORDS;
 use crate::buffers::numbers_within;
 use crate::buffers::within;
 use crate::buffers::words_within;
-use crate::desk;
-use crate::desk::Desk;
-use crate::desk::FORM;
-use crate::desk::LIST;
-use crate::desk::NUMBERS;
-use crate::desk::byte as byte_of;
-use crate::desk::size;
-use crate::desk::word;
 use crate::forms::Form;
 use crate::replies::Reply;
+use desk::ANSWER;
+use desk::Desk;
+use desk::FORM;
+use desk::LIST;
+use desk::NUMBERS;
+use desk::byte as byte_of;
+use desk::size;
+use desk::state;
+use desk::word;
 use master::start::FreshAnswer;
 use master::state::State;
 use script::lists;
@@ -56,10 +57,10 @@ fn make_unlent(desk: &mut Desk, t: &[u16]) -> Reply {
 // Fills the frame bytes, and begins with the fresh state.
 fn fresh(desk: &mut Desk, t: &[u16], frames: &mut [u8]) -> Reply {
     let started = State::start(t, frames);
-    let state = started.state;
+    let fresh = started.state;
     let answer = started.answer;
     if let FreshAnswer::Fresh = answer {
-        desk::put(desk, state);
+        state::put(desk, fresh);
     }
     Reply::fresh(answer)
 }
@@ -67,10 +68,10 @@ fn fresh(desk: &mut Desk, t: &[u16], frames: &mut [u8]) -> Reply {
 // Writes a scalar.
 fn write(desk: &mut Desk, t: &[u16], frames: &mut [u8]) -> Reply {
     let s = word(desk[NUMBERS]);
-    let wrote = desk::state(desk).write(t, frames, s, desk[NUMBERS + 1]);
-    let state = wrote.state;
+    let wrote = state::take(desk).write(t, frames, s, desk[NUMBERS + 1]);
+    let next = wrote.state;
     let answer = wrote.answer;
-    desk::put(desk, state);
+    state::put(desk, next);
     Reply::write(answer)
 }
 
@@ -87,10 +88,10 @@ fn writes(line: &[u8], desk: &mut Desk, t: &[u16], frames: &mut [u8]) -> Reply {
 // Writes an array.
 fn write_array(desk: &mut Desk, t: &[u16], frames: &mut [u8], values: &[u8]) -> Reply {
     let s = word(desk[NUMBERS]);
-    let wrote = desk::state(desk).write_array(t, frames, s, values);
-    let state = wrote.state;
+    let wrote = state::take(desk).write_array(t, frames, s, values);
+    let next = wrote.state;
     let answer = wrote.answer;
-    desk::put(desk, state);
+    state::put(desk, next);
     Reply::write(answer)
 }
 
@@ -119,82 +120,96 @@ fn write_row(
     signals: &[u16],
     values: &[u32],
 ) -> Reply {
-    let wrote = desk::state(desk).write_row(t, frames, signals, values);
-    let state = wrote.state;
+    let wrote = state::take(desk).write_row(t, frames, signals, values);
+    let next = wrote.state;
     let answer = wrote.answer;
-    desk::put(desk, state);
+    state::put(desk, next);
     Reply::row(answer)
 }
 
 // Reads a scalar.
 fn read(desk: &Desk, t: &[u16], frames: &[u8]) -> Reply {
-    Reply::read(desk::state(desk).read(t, frames, word(desk[NUMBERS])))
+    Reply::read(state::take(desk).read(t, frames, word(desk[NUMBERS])))
 }
 
 // Reads an array.
 fn reads(desk: &mut Desk, t: &[u16], frames: &[u8]) -> Reply {
-    let given = desk::state(desk).read_array(t, frames, word(desk[NUMBERS]));
+    let given = state::take(desk).read_array(t, frames, word(desk[NUMBERS]));
     let answer = given.answer;
     let eight = given.bytes;
-    desk::put_answer(desk, &eight);
+    put_answer(desk, &eight);
     Reply::read_array(answer)
 }
 
 // Asks for a schedule.
 fn select(desk: &mut Desk, t: &[u16]) -> Reply {
-    let chosen = desk::state(desk).select(t, word(desk[NUMBERS]));
-    let state = chosen.state;
+    let chosen = state::take(desk).select(t, word(desk[NUMBERS]));
+    let next = chosen.state;
     let answer = chosen.answer;
-    desk::put(desk, state);
+    state::put(desk, next);
     Reply::select(answer)
 }
 
 // Makes one tick.
 fn tick(desk: &mut Desk, t: &[u16], frames: &[u8], lent: &[u8]) -> Reply {
-    let ticked = desk::state(desk).tick(t, frames, lent);
-    let state = ticked.state;
+    let ticked = state::take(desk).tick(t, frames, lent);
+    let next = ticked.state;
     let answer = ticked.answer;
-    desk::put(desk, state);
+    state::put(desk, next);
     Reply::tick(answer)
 }
 
 // Takes one byte in.
 fn byte(desk: &mut Desk, t: &[u16], frames: &mut [u8]) -> Reply {
     let b = byte_of(desk[NUMBERS]);
-    let took = desk::state(desk).byte_in(t, frames, b);
-    let state = took.state;
+    let took = state::take(desk).byte_in(t, frames, b);
+    let next = took.state;
     let answer = took.answer;
     let response = took.response;
-    desk::put(desk, state);
-    desk::put_answer(desk, &response);
+    state::put(desk, next);
+    put_answer(desk, &response);
     Reply::byte(answer)
 }
 
 // Reads the status.
 fn status(desk: &mut Desk, t: &[u16]) -> Reply {
-    let given = desk::state(desk).read_status(t);
-    let state = given.state;
+    let given = state::take(desk).read_status(t);
+    let next = given.state;
     let answer = given.answer;
-    desk::put(desk, state);
+    state::put(desk, next);
     Reply::status(answer)
 }
 
 // Begins to send a message.
 fn send(desk: &mut Desk, t: &[u16]) -> Reply {
     let nad = byte_of(desk[NUMBERS]);
-    let sent = desk::state(desk).send(t, nad, desk[NUMBERS + 1]);
-    let state = sent.state;
+    let sent = state::take(desk).send(t, nad, desk[NUMBERS + 1]);
+    let next = sent.state;
     let answer = sent.answer;
-    desk::put(desk, state);
+    state::put(desk, next);
     Reply::send(answer)
 }
 
 // Tells the message state.
 fn message(desk: &Desk, t: &[u16]) -> Reply {
-    Reply::message(desk::state(desk).message_state(t))
+    Reply::message(state::take(desk).message_state(t))
 }
 
 // Tells the number of pending members ahead of a frame.
 fn ahead(desk: &Desk, t: &[u16]) -> Reply {
-    Reply::ahead(desk::state(desk).number_ahead(t, word(desk[NUMBERS])))
+    Reply::ahead(state::take(desk).number_ahead(t, word(desk[NUMBERS])))
+}
+
+// Puts the bytes of an answer.
+fn put_answer(desk: &mut Desk, bytes: &[u8; 8]) {
+    let mut i: usize = 0;
+    while i < 8 {
+        desk[ANSWER + i] = wide(bytes[i]);
+        i += 1;
+    }
+}
+
+// A byte as a number.
+fn wide(b: u8) -> u32 {
+    b as u32
 }

@@ -1,9 +1,12 @@
 // The lines of a script by their forms, as `script::forms` reads them.
 use crate::buffers::LONGEST_LINE;
-use crate::desk;
-use crate::desk::Desk;
-use crate::desk::FORM;
+use desk::Desk;
+use desk::FORM;
+use desk::LIST;
+use desk::NUMBERS;
 use script::forms;
+use script::forms::Line;
+use script::forms::MOST;
 
 // The forms by their names.
 pub(crate) struct Form {}
@@ -89,5 +92,22 @@ pub(crate) fn take(line: &[u8], desk: &mut Desk) {
         set message completed|set message failed|set status 1 1 1 HH|set pending 59 1|\
         set assembly none|set assembly 255 65535 65535 255",
     );
-    desk::put_line(desk, read);
+    put_line(desk, read);
+}
+
+// Puts the line at hand.
+fn put_line(desk: &mut Desk, line: Line) {
+    let numbers = line.numbers;
+    desk[FORM] = (line.form % 65536) as u32;
+    desk[LIST] = (line.list % 65536) as u32;
+    put_numbers(desk, &numbers);
+}
+
+// Puts the numbers of the line at hand.
+fn put_numbers(desk: &mut Desk, numbers: &[u32; MOST]) {
+    let mut i: usize = 0;
+    while i < MOST {
+        desk[NUMBERS + i] = numbers[i];
+        i += 1;
+    }
 }

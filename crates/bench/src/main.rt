@@ -3,7 +3,6 @@ mod answer;
 mod buffers;
 mod bus;
 mod calls;
-mod desk;
 mod forms;
 mod print;
 mod replies;

@@ -7,9 +7,9 @@ use crate::buffers::Output;
 use crate::buffers::Room;
 use crate::buffers::Table;
 use crate::buffers::within;
-use crate::desk;
-use crate::desk::Desk;
 use crate::print;
+use desk::Desk;
+use desk::state;
 use libc::STDIN_FILENO;
 use master::state::State;
 ghost use Prim.Native.Nat.{_≤_};
@@ -34,7 +34,7 @@ pub(crate) fn script(
     room: &mut Room,
     out: &mut Output,
 ) {
-    desk::put(desk, State::fresh());
+    state::put(desk, State::fresh());
     let mut kept: usize = 0;
     let mut goes_on = true;
     let mut turns = u64::MAX;

@@ -1,8 +1,8 @@
 // The lines that set a part of the state, whether it fits the table or not.
-use crate::desk::*;
 use crate::forms::Form;
 use crate::replies::Reply;
 use crate::texts::Text;
+use desk::*;
 ghost use Prim.Native.Nat.{_≤_};
 
 // What a line sets: a value at a place, and behind it so many of the line's numbers, from one of them on.

@@ -8,19 +8,19 @@ use crate::buffers::ROOM_BYTES;
 use crate::buffers::Room;
 use crate::buffers::Table;
 use crate::buffers::words_within;
-use crate::desk;
-use crate::desk::ASSEMBLY;
-use crate::desk::Desk;
-use crate::desk::FRAMES_USED;
-use crate::desk::LIST;
-use crate::desk::MESSAGE_USED;
-use crate::desk::NUMBERS;
-use crate::desk::ROOM_USED;
-use crate::desk::WORDS_USED;
-use crate::desk::size;
 use crate::replies::Reply;
 use crate::texts::Text;
 use cluster::Limits;
+use desk::ASSEMBLY;
+use desk::Desk;
+use desk::FRAMES_USED;
+use desk::LIST;
+use desk::MESSAGE_USED;
+use desk::NUMBERS;
+use desk::ROOM_USED;
+use desk::WORDS_USED;
+use desk::size;
+use desk::state;
 use master::state::State;
 use script::lists;
 use script::lists::Count;
@@ -39,7 +39,7 @@ pub(crate) fn table(line: &[u8], desk: &mut Desk, table: &mut Table, frames: &mu
 
 // Lays out the state and the number of frame bytes for a table.
 fn lay(desk: &mut Desk, t: &[u16]) -> Reply {
-    desk::put(desk, State::fresh());
+    state::put(desk, State::fresh());
     desk[WORDS_USED] = (t.len() % 65536) as u32;
     desk[FRAMES_USED] = frame_bytes(t);
     Reply::check(cluster::taken(t))

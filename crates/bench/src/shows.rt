@@ -2,13 +2,13 @@
 // reassembler.
 use crate::buffers::Output;
 use crate::buffers::within;
-use crate::desk;
-use crate::desk::*;
 use crate::print;
 use crate::texts;
 use crate::texts::Text;
 use cluster::Verdict;
 use cluster::frames::count;
+use desk::state;
+use desk::*;
 use master::state::Opened;
 
 // Shows the frames whose pending bit is set.
@@ -33,8 +33,11 @@ pub(crate) fn bytes(text: u32, used: u32, bytes: &[u8], desk: &mut Desk, out: &m
 
 // Shows the bytes that the master sends in the open transfer, its checksum too.
 pub(crate) fn sent(desk: &mut Desk, t: &[u16], out: &mut Output) {
-    let nine = desk::nine(desk);
-    let n = sent_count(desk::opened(desk[OPEN]), t);
+    let state = state::take(desk);
+    let transfer = state.transfer;
+    let opened = transfer.opened;
+    let nine = transfer.bytes;
+    let n = sent_count(opened, t);
     bytes(Text::OUT, n, &nine, desk, out);
 }
 

@@ -1,9 +1,9 @@
 // The texts of the answers. A pattern is printed as it is, but for `N`, the next number, `E`, the next number or `none`, and `H`, the next
 // as a byte.
 use crate::buffers::Output;
-use crate::desk::Desk;
-use crate::desk::PRINTED;
-use crate::desk::size;
+use desk::Desk;
+use desk::PRINTED;
+use desk::size;
 use script::print;
 
 // The patterns by their names.

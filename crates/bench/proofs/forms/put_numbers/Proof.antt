@@ -1,8 +1,8 @@
--- `bench::desk::put_numbers` is safe and ends: each turn puts one number.
+-- `bench::forms::put_numbers` is safe and ends: each turn puts one number.
 use Prim.Native.Nat.{_≤_, _-_}
 use borrow.Author.Needs.{needs}
-use Rattle.bench.proofs.desk.put_numbers.Statement.{statement}
-use Rattle.bench.proofs.desk.put_numbers.Tie as tie
+use Rattle.bench.proofs.forms.put_numbers.Statement.{statement}
+use Rattle.bench.proofs.forms.put_numbers.Tie as tie
 
 abbrev Inv-loop : tie.InvT-loop
 Inv-loop desk₀ numbers i₀ desk i = i ≤ 12

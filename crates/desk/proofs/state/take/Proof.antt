@@ -1,0 +1,13 @@
+-- `state::take` meets its contract: what the calls answer is put in.
+use borrow.Author.Needs.{needs}
+use Rattle.desk.proofs.state.take.Statement.{statement}
+use Rattle.desk.proofs.state.take.Tie as tie
+
+returns : tie.Need-returns
+returns c = rw (c .status .ensures, c .before .message .ensures, c .before .before .transfer .ensures, c .before .before .before .plan .ensures, c .before .before .before .before .pending .ensures)
+
+pub take-spec : {M : Type 1} → statement M
+take-spec =
+    tie.close
+    (tie.spec (λ c κs. search needs) (λ c κs. search needs) (λ c κs. search needs) (λ c κs. search needs)
+    (λ c κs. search needs) returns)
