@@ -11,7 +11,11 @@ returns c = simp (eq-eqb _ _ (c .if1 .taken))
 
 returns-2 : tie.Need-returns-2
 unfolding reassemblyOn
-returns-2 c = rw (c .byte2 .ensures, c .before .before .word2 .ensures, c .before .before .before .before .word .ensures, c .before .before .before .before .before .before .byte .ensures) (simp (ne-eqb _ _ (c .before .before .before .before .before .before .before .before .if1 .left)))
+returns-2 c =
+    let c4 = c .before .before .before .before in
+    let c6 = c4 .before .before in
+    let c8 = c6 .before .before in
+    rw (c .byte2 .ensures, c .before .before .word2 .ensures, c4 .word .ensures, c6 .byte .ensures) (simp (ne-eqb _ _ (c8 .if1 .left)))
 
 pub take-spec : {M : Type 1} → statement M
 take-spec =

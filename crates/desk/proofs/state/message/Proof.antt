@@ -7,7 +7,10 @@ use Rattle.desk.proofs.state.message.Tie as tie
 
 returns : tie.Need-returns
 unfolding messageOn
-returns c = rw (c .word2 .ensures, c .before .before .word .ensures, c .before .before .before .before .byte .ensures) (simp (eq-eqb _ _ (c .before .before .before .before .before .before .if1 .taken)))
+returns c =
+    let c4 = c .before .before .before .before in
+    let c6 = c4 .before .before in
+    rw (c .word2 .ensures, c .before .before .word .ensures, c4 .byte .ensures) (simp (eq-eqb _ _ (c6 .if1 .taken)))
 
 returns-2 : tie.Need-returns-2
 unfolding messageOn

@@ -1,6 +1,6 @@
 -- `state::nine` meets its contract. The invariant: so many bytes were taken.
-use Prim.Native.Nat.{ℕ, _+_, _≤_, _-_}
-use mathlib.Core.Path.{_≡_, refl, _∙_}
+use Prim.Native.Nat.{_+_, _≤_, _-_}
+use mathlib.Core.Path.{_≡_, refl}
 use native.Mathlib.Omega.{arith}
 use lib.ListN.{length, length-set, take}
 use Rattle.desk.specs.Taken.{byteAt, each, nineOn}
@@ -21,7 +21,10 @@ loop-holds c = (omega arith, refl, taken-none _)
 
 loop-again : tie.Need-loop-again Inv-loop μ-loop
 unfolding nineOn
-loop-again c = (omega arith, simp length-set (c .before .before .before .loop .inv .1), taken-next (λ k. byteAt (c .before .before .before .before .args .desk .now) (65 + k)) _ _ _ (omega arith) (c .before .before .before .loop .inv .2) (c .byte .ensures))
+loop-again c =
+    let c3 = c .before .before .before in
+    let c4 = c3 .before in
+    (omega arith, simp length-set (c3 .loop .inv .1), taken-next (λ k. byteAt (c4 .args .desk .now) (65 + k)) _ _ _ (omega arith) (c3 .loop .inv .2) (c .byte .ensures))
 
 returns : tie.Need-returns Inv-loop μ-loop
 unfolding nineOn

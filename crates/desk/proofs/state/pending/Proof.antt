@@ -1,6 +1,6 @@
 -- `state::pending` meets its contract. The invariant: so many bits were taken.
-use Prim.Native.Nat.{ℕ, _≤_, _-_}
-use mathlib.Core.Path.{_≡_, refl, _∙_}
+use Prim.Native.Nat.{_≤_, _-_}
+use mathlib.Core.Path.{_≡_, refl}
 use native.Mathlib.Omega.{arith}
 use lib.ListN.{length, length-set, take}
 use Rattle.desk.specs.Taken.{isSet, each, pendingOn}
@@ -21,7 +21,9 @@ loop-holds c = (omega arith, refl, taken-none _)
 
 loop-again : tie.Need-loop-again Inv-loop μ-loop
 unfolding pendingOn
-loop-again c = (omega arith, simp length-set (c .before .before .loop .inv .1), taken-next (isSet (c .before .before .before .args .desk .now)) _ _ _ (omega arith) (c .before .before .loop .inv .2) refl)
+loop-again c =
+    let c3 = c .before .before .before in
+    (omega arith, simp length-set (c .before .before .loop .inv .1), taken-next (isSet (c3 .args .desk .now)) _ _ _ (omega arith) (c .before .before .loop .inv .2) refl)
 
 returns : tie.Need-returns Inv-loop μ-loop
 unfolding pendingOn

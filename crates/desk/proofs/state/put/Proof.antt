@@ -7,7 +7,11 @@ use Rattle.desk.proofs.state.put.Tie as tie
 
 returns : tie.Need-returns
 unfolding withState
-returns c = c .put-status .ensures ∙ rw (c .before .before .put-message .ensures, c .before .before .before .before .put-transfer .ensures, c .before .before .before .before .before .before .put-plan .ensures, c .before .before .before .before .before .before .before .before .put-pending .ensures)
+returns c =
+    let c4 = c .before .before .before .before in
+    let c6 = c4 .before .before in
+    let c8 = c6 .before .before in
+    c .put-status .ensures ∙ rw (c .before .before .put-message .ensures, c4 .put-transfer .ensures, c6 .put-plan .ensures, c8 .put-pending .ensures)
 
 pub put-spec : {M : Type 1} → statement M
 put-spec =

@@ -1,6 +1,6 @@
 -- `state::put_nine` meets its contract. The invariant: so many bytes were put.
-use Prim.Native.Nat.{ℕ, _≤_, _-_}
-use mathlib.Core.Path.{_≡_, _∙_}
+use Prim.Native.Nat.{_≤_, _-_}
+use mathlib.Core.Path.{_≡_}
 use native.Mathlib.Omega.{arith}
 use lib.ListN.{getD}
 use Rattle.desk.specs.Put.{withEach, withNine}
@@ -21,7 +21,10 @@ loop-holds c = (omega arith, put-none _ _ _)
 
 loop-again : tie.Need-loop-again Inv-loop μ-loop
 unfolding withNine
-loop-again c = (omega arith, put-next (λ k. getD (c .before .before .before .before .args .bytes .now) k 0) 65 (c .before .before .before .before .args .desk .now) _ _ _ (c .before .before .before .loop .inv .1) (c .wide .ensures))
+loop-again c =
+    let c3 = c .before .before .before in
+    let c4 = c3 .before in
+    (omega arith, put-next (λ k. getD (c4 .args .bytes .now) k 0) 65 (c4 .args .desk .now) _ _ _ (c3 .loop .inv .1) (c .wide .ensures))
 
 returns : tie.Need-returns Inv-loop μ-loop
 unfolding withNine

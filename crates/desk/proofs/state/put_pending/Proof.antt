@@ -1,7 +1,7 @@
 -- `state::put_pending` meets its contract. The invariant: so many bits were put.
-use Prim.Native.Nat.{ℕ, _≤_, _-_}
+use Prim.Native.Nat.{_≤_, _-_}
 use mathlib.Core.Bool.{false}
-use mathlib.Core.Path.{_≡_, _∙_}
+use mathlib.Core.Path.{_≡_}
 use native.Mathlib.Omega.{arith}
 use lib.ListN.{getD}
 use Rattle.desk.specs.Put.{bit, withEach, withPending}
@@ -22,7 +22,10 @@ loop-holds c = (omega arith, put-none _ _ _)
 
 loop-again : tie.Need-loop-again Inv-loop μ-loop
 unfolding withPending
-loop-again c = (omega arith, put-next-first (λ k. bit (getD (c .before .before .before .before .args .pending .now) k false)) (c .before .before .before .before .args .desk .now) _ _ _ (c .before .before .before .loop .inv .1) (c .bit .ensures))
+loop-again c =
+    let c3 = c .before .before .before in
+    let c4 = c3 .before in
+    (omega arith, put-next-first (λ k. bit (getD (c4 .args .pending .now) k false)) (c4 .args .desk .now) _ _ _ (c3 .loop .inv .1) (c .bit .ensures))
 
 returns : tie.Need-returns Inv-loop μ-loop
 unfolding withPending
