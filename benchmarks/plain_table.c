@@ -1,4 +1,4 @@
-/* The table check in plain C: word by word, each word once, with marks. */
+/* The table check in plain C, word by word, each word once, with marks; and the judge of schedules. */
 #include "../c/linhost.h"
 #include "plain.h"
 
@@ -146,4 +146,59 @@ uint32_t plain_check(const uint16_t *words, size_t length)
 {
     size_t position = first_fault(words, length);
     return position == NO_FAULT ? 0 : 65536 + (uint32_t)position;
+}
+
+/* The records of an accepted table. */
+struct records {
+    const uint16_t *frames;
+    const uint16_t *members;
+    const uint16_t *entries;
+    size_t member_count;
+    size_t entry_count;
+};
+
+static struct records records_of(const uint16_t *words)
+{
+    const uint16_t *frames = words + 4, *members = frames + 3u * words[0] + 5u * words[1];
+    return (struct records){ frames, members, members + 2u * words[2], words[2], words[3] };
+}
+
+/* The data bytes of a frame. */
+static unsigned frame_bytes(const struct records *records, unsigned frame)
+{
+    return records->frames[3 * frame + 1];
+}
+
+/* The data bytes of the longest member of each list. */
+static void longest_members(const struct records *records, uint16_t longest[60])
+{
+    for (size_t m = 0; m < records->member_count; m++) {
+        unsigned list = records->members[2 * m], bytes = frame_bytes(records, records->members[2 * m + 1]);
+        if (longest[list] < bytes)
+            longest[list] = (uint16_t)bytes;
+    }
+}
+
+/* Whether the slot of an entry holds its longest frame. */
+static bool entry_holds(const struct records *records, const uint16_t *entry, const uint16_t longest[60], uint32_t tick, uint32_t bit)
+{
+    uint64_t bytes = entry[1] == 0 ? frame_bytes(records, entry[2]) : entry[1] == 1 ? longest[entry[2]] : 8;
+    return 14 * (34 + 10 * (bytes + 1)) * bit <= UINT64_C(100) * entry[3] * tick;
+}
+
+/* As lin_judge answers: 0, the first short entry with bit 24, or a refusal. */
+uint32_t plain_judge(const uint16_t *words, size_t length, uint32_t tick, uint32_t bit)
+{
+    uint32_t refusal = plain_check(words, length);
+    if (refusal != 0)
+        return refusal;
+    if (tick == 0 || tick > 65535 || bit == 0 || bit > 65535)
+        return 13 * 65536;
+    struct records records = records_of(words);
+    uint16_t longest[60] = { 0 };
+    longest_members(&records, longest);
+    for (size_t e = 0; e < records.entry_count; e++)
+        if (!entry_holds(&records, records.entries + 4 * e, longest, tick, bit))
+            return LIN_SHORT + (uint32_t)e;
+    return 0;
 }

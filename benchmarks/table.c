@@ -1,12 +1,12 @@
-/* Checks one table many times by the core or by its twin in plain C; callgrind counts the instructions inside the check. */
+/* Checks or judges one table many times by the core or by its twin in plain C; callgrind counts the instructions inside the call. */
 #include "../c/linhost.h"
 #include "plain.h"
 
 #include <stdio.h>
 #include <string.h>
 
-/* The number of checks of a row; benchmarks/run divides by it. */
-enum { CALLS = 64, WORDS_MAX = 2608 };
+/* The number of calls of a row; benchmarks/run divides by it. The tick and the bit time are such that every slot holds. */
+enum { CALLS = 64, WORDS_MAX = 2608, TICK = 10000, BIT = 521 };
 
 static uint16_t words[WORDS_MAX];
 
@@ -55,17 +55,34 @@ static size_t table_of(const char *size)
     return 0;
 }
 
+/* A call by its name, or NULL. */
+typedef uint32_t (*call)(const uint16_t *, size_t);
+
+static uint32_t lin_judged(const uint16_t *table, size_t length) { return lin_judge(table, length, TICK, BIT); }
+static uint32_t plain_judged(const uint16_t *table, size_t length) { return plain_judge(table, length, TICK, BIT); }
+
+static call call_of(const char *name)
+{
+    static const struct { const char *name; call call; } calls[] = {
+        { "lin_check", lin_check }, { "plain_check", plain_check }, { "lin_judge", lin_judged }, { "plain_judge", plain_judged },
+    };
+    for (size_t i = 0; i < sizeof calls / sizeof calls[0]; i++)
+        if (strcmp(name, calls[i].name) == 0)
+            return calls[i].call;
+    return NULL;
+}
+
 int main(int count, char **arguments)
 {
     size_t length = count == 3 ? table_of(arguments[2]) : 0;
-    if (length == 0) {
-        fprintf(stderr, "usage: table lin_check|plain_check small|middle|largest\n");
+    call call = count == 3 ? call_of(arguments[1]) : NULL;
+    if (length == 0 || call == NULL) {
+        fprintf(stderr, "usage: table lin_check|plain_check|lin_judge|plain_judge small|middle|largest\n");
         return 2;
     }
-    uint32_t (*check)(const uint16_t *, size_t) = strcmp(arguments[1], "lin_check") == 0 ? lin_check : plain_check;
     unsigned accepted = 0;
     for (unsigned i = 0; i < CALLS; i++)
-        accepted += check(words, length) == 0;
+        accepted += call(words, length) == 0;
     printf("%zu words, %u times accepted\n", length, accepted);
     return accepted != CALLS;
 }

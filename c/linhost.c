@@ -3,7 +3,7 @@
  * The requests are those of the bench script (docs/DECISIONS.md, "The host's requests"):
  *   pid N                      id HH
  *   checksum N classic HH ..   checksum N enhanced HH ..
- *   table W W ..
+ *   table W W ..               judge TICK BIT
  * An empty line and a line that begins with # are passed over; any other line answers ?.
  */
 #include "linhost.h"
@@ -20,6 +20,15 @@ struct line {
     char bytes[LINE_LENGTH_MAX + 1];
     size_t length;
 };
+
+/* The words of a table. */
+struct table {
+    uint16_t words[WORDS_MAX];
+    size_t length;
+};
+
+/* The table that is judged, right or not: that of the last table request. */
+static struct table table;
 
 /* What is left of a line to read. */
 struct text {
@@ -51,26 +60,36 @@ static bool take_word(struct text *text, const char *word)
 }
 
 /* Takes one or more decimal digits of a number up to a limit. */
-static bool take_number(struct text *text, uint16_t limit, uint16_t *number)
+static bool take_number(struct text *text, uint32_t limit, uint32_t *number)
 {
-    unsigned value = 0;
+    uint64_t value = 0;
     const char *start = text->at;
     for (; text->at < text->end && *text->at >= '0' && *text->at <= '9'; text->at++) {
-        value = 10 * value + (unsigned)(*text->at - '0');
+        value = 10 * value + (uint64_t)(*text->at - '0');
         if (value > limit)
             return false;
     }
-    *number = (uint16_t)value;
+    *number = (uint32_t)value;
     return text->at > start;
 }
 
 /* Takes a number of at most 255. */
 static bool take_byte_number(struct text *text, uint8_t *number)
 {
-    uint16_t value;
+    uint32_t value;
     if (!take_number(text, UINT8_MAX, &value))
         return false;
     *number = (uint8_t)value;
+    return true;
+}
+
+/* Takes a word of a table. */
+static bool take_table_word(struct text *text, uint16_t *word)
+{
+    uint32_t value;
+    if (!take_number(text, UINT16_MAX, &value))
+        return false;
+    *word = (uint16_t)value;
     return true;
 }
 
@@ -159,19 +178,44 @@ static bool checksum_request(struct text text)
     return true;
 }
 
+/* Prints a refusal that tells a position where it is the table's, and tells whether the answer is one. */
+static bool table_refused(uint32_t answer)
+{
+    unsigned number = lin_table_refusal(answer);
+    if (number == 0)
+        return false;
+    if (number == 1)
+        printf("refused 1 %u\n", (unsigned)lin_position(answer));
+    else
+        printf("refused %u\n", number);
+    return true;
+}
+
 /* The rest of `table W W ..`. */
 static bool table_request(struct text text)
 {
-    static uint16_t words[WORDS_MAX];
-    size_t length = 0;
+    static struct table read;
+    read.length = 0;
     while (!at_end(&text))
-        if (!take_word(&text, " ") || !take_number(&text, UINT16_MAX, &words[length++]))
+        if (!take_word(&text, " ") || !take_table_word(&text, &read.words[read.length++]))
             return false;
-    uint32_t answer = lin_check(words, length);
-    if (lin_table_refusal(answer) == 0)
+    table = read;
+    if (!table_refused(lin_check(table.words, table.length)))
         puts("accepted");
-    else
-        printf("refused %u %u\n", (unsigned)lin_table_refusal(answer), (unsigned)lin_position(answer));
+    return true;
+}
+
+/* The rest of `judge TICK BIT`. */
+static bool judge_request(struct text text)
+{
+    uint32_t tick, bit;
+    if (!take_number(&text, UINT32_MAX, &tick) || !take_word(&text, " ") || !take_number(&text, UINT32_MAX, &bit) || !at_end(&text))
+        return false;
+    uint32_t answer = lin_judge(table.words, table.length, tick, bit);
+    if (lin_is_short(answer))
+        printf("short %u\n", (unsigned)lin_entry(answer));
+    else if (!table_refused(answer))
+        puts("holds");
     return true;
 }
 
@@ -186,6 +230,8 @@ static bool answer_request(struct text text)
         return checksum_request(text);
     if (take_word(&text, "table"))
         return table_request(text);
+    if (take_word(&text, "judge "))
+        return judge_request(text);
     return false;
 }
 
@@ -205,7 +251,7 @@ static void answer_all(void)
 int main(int count, char **words)
 {
     if (count > 1) {
-        fprintf(stderr, "usage: %s <REQUESTS\nAnswers pid, id, checksum and table lines of docs/SCRIPT.md.\n", words[0]);
+        fprintf(stderr, "usage: %s <REQUESTS\nAnswers pid, id, checksum, table and judge lines of docs/SCRIPT.md.\n", words[0]);
         return 2;
     }
     answer_all();

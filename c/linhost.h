@@ -1,9 +1,9 @@
 /* The entry points of the LIN core for a host in C; link target/staticlib/libhost.a (`rt staticlib host`).
  *
  * Each accepts every number and every slice, and answers one number. Of the calls of the wire the low byte is the value, the
- * next byte the refusal number of document 01, 0 for none; of the table check the low sixteen bits are the position, those
- * above them the refusal number. The core proves that of each (crates/host, specs/Coded.antt); this header is not proved, so
- * the tests compare it with a second program.
+ * next byte the refusal number of documents 01 and 02, 0 for none; of the table check and the judge the low sixteen bits are
+ * the position, the next byte the refusal number. The core proves that of each (crates/host, specs/Coded.antt); this header is
+ * not proved, so the tests compare it with a second program.
  */
 #ifndef LINHOST_H
 #define LINHOST_H
@@ -32,17 +32,30 @@ uint16_t lin_checksum(uint8_t id, uint8_t model, const uint8_t *data, size_t len
  * surplus. words points to something even where length is 0. */
 uint32_t lin_check(const uint16_t *words, size_t length);
 
+/* In the judge's answer: an entry is short, and the low sixteen bits are its number. */
+#define LIN_SHORT UINT32_C(0x1000000)
+
+/* Judges the schedules of a table, before any master runs, under a tick in microseconds and a bit time in tenths of a
+ * microsecond: 0 where every slot holds its longest frame; LIN_SHORT with the number in the table, from 0, of the first entry
+ * whose slot does not; 1 with the position, as the table check; or 13 for a tick or a bit time of 0 or above 65,535. words
+ * points to something even where length is 0. */
+uint32_t lin_judge(const uint16_t *words, size_t length, uint32_t tick, uint32_t bit);
+
 /* The value of an answer. */
 static inline uint8_t lin_value(uint16_t answer) { return (uint8_t)(answer & 0xFF); }
 
 /* The refusal number of an answer, 0 for none. */
 static inline uint8_t lin_refusal(uint16_t answer) { return (uint8_t)(answer >> 8); }
 
-/* The position that the table check answers. */
+/* The position that the table check or the judge answers. */
 static inline uint16_t lin_position(uint32_t answer) { return (uint16_t)(answer & 0xFFFF); }
 
-/* The refusal number that the table check answers, 0 for none. */
-static inline uint16_t lin_table_refusal(uint32_t answer) { return (uint16_t)(answer >> 16); }
+/* The refusal number that the table check or the judge answers, 0 for none. */
+static inline uint8_t lin_table_refusal(uint32_t answer) { return (uint8_t)(answer >> 16); }
+
+/* Whether the judge answers that an entry is short, and the number of that entry. */
+static inline int lin_is_short(uint32_t answer) { return (answer & LIN_SHORT) != 0; }
+static inline uint16_t lin_entry(uint32_t answer) { return (uint16_t)(answer & 0xFFFF); }
 
 #ifdef __cplusplus
 }

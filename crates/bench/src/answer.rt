@@ -22,6 +22,7 @@ use desk::Desk;
 use desk::FORM;
 use desk::FRAMES_USED;
 use desk::MESSAGE_USED;
+use desk::NUMBERS;
 use desk::ROOM_USED;
 use desk::WORDS_USED;
 use desk::size;
@@ -76,6 +77,7 @@ fn reply(
         Form::LEND => setup::lend(line, desk, message),
         Form::ROOM => setup::room(desk, room),
         Form::TAKE => bus::take(line, desk, room),
+        Form::JUDGE => judge(desk, table),
         Form::PID..=Form::ENHANCED => bus::answer(line, desk),
         _ => sets::set(desk),
     }
@@ -93,6 +95,12 @@ fn call(line: &[u8], desk: &mut Desk, table: &[u16], frames: &mut [u8], message:
         &mut frames[..bytes],
         &message[..lent],
     )
+}
+
+// Judges the schedules of the table in use.
+fn judge(desk: &Desk, table: &[u16]) -> Reply {
+    let words = words_within(size(desk[WORDS_USED]), table);
+    Reply::judge(timing::judge(&table[..words], desk[NUMBERS], desk[NUMBERS + 1]))
 }
 
 // Shows what the line at hand asks for.

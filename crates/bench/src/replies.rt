@@ -13,6 +13,7 @@ use master::start::FreshAnswer;
 use master::tick::TickAnswer;
 use master::write::WriteAnswer;
 use refusal::Refusal;
+use timing::Judgement;
 use transport::reassembly::Answer;
 use wire::Answer as Made;
 
@@ -180,6 +181,15 @@ impl Reply {
             Answer::Done(length) => Reply::of(Text::DONE, length as u32),
             Answer::Broken => Reply::alone(Text::BROKEN),
             Answer::Refused(refusal) => Reply::refused(refusal),
+        }
+    }
+
+    // A judgement of the schedules.
+    pub(crate) fn judge(answer: Judgement) -> Reply {
+        match answer {
+            Judgement::Holds => Reply::alone(Text::HOLDS),
+            Judgement::Short(e) => Reply::of(Text::SHORT, e as u32),
+            Judgement::Refused(refusal) => Reply::refused(refusal),
         }
     }
 

@@ -75,49 +75,53 @@ impl Text {
 
     pub(crate) const ID: u32 = 31;
 
-    // Up to eight bytes, each number of them with a text of its own.
-    pub(crate) const BYTES: u32 = 32;
+    pub(crate) const HOLDS: u32 = 32;
 
-    pub(crate) const RESPONSE: u32 = 41;
+    pub(crate) const SHORT: u32 = 33;
+
+    // Up to eight bytes, each number of them with a text of its own.
+    pub(crate) const BYTES: u32 = 34;
+
+    pub(crate) const RESPONSE: u32 = 43;
 
     // What is shown.
-    pub(crate) const PENDING: u32 = 42;
+    pub(crate) const PENDING: u32 = 44;
 
-    pub(crate) const PENDING_FRAME: u32 = 43;
+    pub(crate) const PENDING_FRAME: u32 = 45;
 
-    pub(crate) const FRAMES: u32 = 44;
+    pub(crate) const FRAMES: u32 = 46;
 
-    pub(crate) const OUT: u32 = 45;
+    pub(crate) const OUT: u32 = 47;
 
-    pub(crate) const TAKEN: u32 = 46;
+    pub(crate) const TAKEN: u32 = 48;
 
-    pub(crate) const STATE: u32 = 47;
+    pub(crate) const STATE: u32 = 49;
 
-    pub(crate) const OPEN_NOTHING: u32 = 48;
+    pub(crate) const OPEN_NOTHING: u32 = 50;
 
-    pub(crate) const OPEN_FRAME: u32 = 49;
+    pub(crate) const OPEN_FRAME: u32 = 51;
 
-    pub(crate) const OPEN_REQUEST: u32 = 50;
+    pub(crate) const OPEN_REQUEST: u32 = 52;
 
-    pub(crate) const OPEN_RESPONSE: u32 = 51;
+    pub(crate) const OPEN_RESPONSE: u32 = 53;
 
-    pub(crate) const STATE_TRANSFER: u32 = 52;
+    pub(crate) const STATE_TRANSFER: u32 = 54;
 
-    pub(crate) const MESSAGE_NONE: u32 = 53;
+    pub(crate) const MESSAGE_NONE: u32 = 55;
 
-    pub(crate) const MESSAGE_SENDING: u32 = 54;
+    pub(crate) const MESSAGE_SENDING: u32 = 56;
 
-    pub(crate) const MESSAGE_COMPLETED: u32 = 55;
+    pub(crate) const MESSAGE_COMPLETED: u32 = 57;
 
-    pub(crate) const MESSAGE_FAILED: u32 = 56;
+    pub(crate) const MESSAGE_FAILED: u32 = 58;
 
-    pub(crate) const STATE_STATUS: u32 = 57;
+    pub(crate) const STATE_STATUS: u32 = 59;
 
-    pub(crate) const ASSEMBLY_NONE: u32 = 58;
+    pub(crate) const ASSEMBLY_NONE: u32 = 60;
 
-    pub(crate) const ASSEMBLY: u32 = 59;
+    pub(crate) const ASSEMBLY: u32 = 61;
 
-    pub(crate) const END: u32 = 60;
+    pub(crate) const END: u32 = 62;
 }
 
 // Prints a text with the numbers of the desk from a place on.
@@ -127,7 +131,7 @@ pub(crate) fn put(out: &mut Output, desk: &mut Desk, text: u32, from: usize) {
         size(desk[PRINTED]),
         b"accepted|refused N|refused N N|?|set|lent N|buffer N|room N|fresh|written|value N|selected|waiting|idle|\
         silent|open H|more|success|failure|status HH|sending|none|completed|failed|ahead N|ignored|started|\
-        done N|broken|pid H|checksum H|id N|bytes|bytes H|bytes H H|bytes H H H|bytes H H H H|bytes H H H H H|\
+        done N|broken|pid H|checksum H|id N|holds|short N|bytes|bytes H|bytes H H|bytes H H H|bytes H H H H|bytes H H H H H|\
         bytes H H H H H H|bytes H H H H H H H|bytes H H H H H H H H|response H H H H H H H H|pending| N|frames|\
         out|taken|state wait N entry E request E open| nothing| frame N| request| response| count N \
         bytes H H H H H H H H H written N message| none| sending N N N| completed| failed| status N N N H|\

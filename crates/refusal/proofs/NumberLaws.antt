@@ -7,18 +7,18 @@ use mathlib.Core.Path.{_≡_, refl}
 use native.Mathlib.Omega.{arith}
 use lib.Dec.{leb, eqb}
 use borrow.Author.Tests.{eqb-true, eq-eqb, leb-true, le-leb}
-use Rattle.refusal.specs.Numbers.{table, buffer, state, unknown, notPublished, kind, value, noTransfer, messageLength, sending, frame, rows}
+use Rattle.refusal.specs.Numbers.{table, buffer, state, unknown, notPublished, kind, value, noTransfer, messageLength, sending, frame, rows, time}
 use Rattle.refusal.specs.Numbers.{numbers, refused, refusedAt, tellsPlace}
 use Rattle.refusal.specs.declared.Refusal.{Refusal}
 
 -- the first column of document 01's table, and the numbers of document 02
-pub all-numbers : numbers ≡ 1 ∷ 2 ∷ 3 ∷ 4 ∷ 5 ∷ 6 ∷ 7 ∷ 8 ∷ 9 ∷ 10 ∷ 11 ∷ 12 ∷ []
+pub all-numbers : numbers ≡ 1 ∷ 2 ∷ 3 ∷ 4 ∷ 5 ∷ 6 ∷ 7 ∷ 8 ∷ 9 ∷ 10 ∷ 11 ∷ 12 ∷ 13 ∷ []
 all-numbers = refl
 
 -- each row's number by its name
 pub each-number : (table ≡ 1) × (buffer ≡ 2) × (state ≡ 3) × (unknown ≡ 4) × (notPublished ≡ 5) × (kind ≡ 6) × (value ≡ 7)
-    × (noTransfer ≡ 8) × (messageLength ≡ 9) × (sending ≡ 10) × (frame ≡ 11) × (rows ≡ 12)
-each-number = (refl, refl, refl, refl, refl, refl, refl, refl, refl, refl, refl, refl)
+    × (noTransfer ≡ 8) × (messageLength ≡ 9) × (sending ≡ 10) × (frame ≡ 11) × (rows ≡ 12) × (time ≡ 13)
+each-number = (refl, refl, refl, refl, refl, refl, refl, refl, refl, refl, refl, refl, refl)
 
 -- a refusal with no place carries its number and 0
 pub refused-exactly : (r : Refusal) (n : ℕ) → (r ≡ refused n) ↔ ((r .number ≡ n) × (r .place ≡ 0))

@@ -53,6 +53,10 @@ frame = 11
 abbrev pub rows : ℕ
 rows = 12
 
+-- 13: a tick or bit time of 0 or above 65,535
+abbrev pub time : ℕ
+time = 13
+
 -- the table's first column, and the numbers that the requests add
 abbrev pub numbers : List ℕ
 numbers =
@@ -68,6 +72,7 @@ numbers =
     ∷ sending
     ∷ frame
     ∷ rows
+    ∷ time
     ∷ []
 
 -- "return only the number": a refusal with no place

@@ -34,6 +34,8 @@ impl Refusal {
     pub const FRAME: u8 = 11;
     // Rows of unequal length.
     pub const ROWS: u8 = 12;
+    // A tick or a bit time of 0 or above 65,535.
+    pub const TIME: u8 = 13;
 
     // A refusal with no place.
     pub fn of(number: u8) -> Refusal
@@ -63,7 +65,7 @@ impl Refusal {
     }
 
     // All numbers, in the order of the papers.
-    pub fn numbers() -> [u8; 12]
+    pub fn numbers() -> [u8; 13]
         ensures { λ r. ⌜ r ≡ numbers ⌝ }
     {
         [
@@ -79,6 +81,7 @@ impl Refusal {
             Refusal::SENDING,
             Refusal::FRAME,
             Refusal::ROWS,
+            Refusal::TIME,
         ]
     }
 }

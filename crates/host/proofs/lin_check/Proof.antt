@@ -4,7 +4,7 @@ use native.Mathlib.Omega.{arith}
 use borrow.Author.Needs.{needs}
 use Rattle.cluster.specs.Check.{takenOf}
 use Rattle.cluster.specs.declared.Verdict.the-variants.{Refused}
-use Rattle.cluster.proofs.TakenLaws.{taken-high, taken-number}
+use Rattle.cluster.proofs.TakenLaws.{taken-high}
 use Rattle.host.specs.Coded.{tableCoded}
 use Rattle.host.proofs.lin_check.Statement.{statement}
 use Rattle.host.proofs.lin_check.Tie as tie
@@ -12,13 +12,8 @@ use Rattle.host.proofs.lin_check.Tie as tie
 refused : (c : tie.After-refusal) → takenOf (c .before .before .before .before .args .table .now) ≡ Refused (c .refusal .given .0 .0)
 refused c = sym (c .before .before .taken .ensures .0) ∙ c .refusal .given .1
 
-cast-result : tie.Need-cast-result
-cast-result c = record { fits = omega (arith, taken-high _ _ (refused (c .before .before))) }
-
-add-result : tie.Need-add-result
-add-result c =
-    let r = refused (c .before .before .before) in
-    record { fits = omega (arith, taken-high _ _ r, taken-number _ _ r) }
+placed-requires : tie.Need-placed-requires
+placed-requires c κs = omega (arith, taken-high _ _ (refused (c .before)))
 
 returns : tie.Need-returns
 unfolding tableCoded
@@ -26,10 +21,9 @@ returns c = rw (sym (c .before .before .taken .ensures .0) ∙ c .enum-told .giv
 
 returns-2 : tie.Need-returns-2
 unfolding tableCoded
-returns-2 c = rw (refused (c .before .before .before))
+returns-2 c = rw (refused (c .before .before)) (c .placed .ensures)
 
 pub lin-check-spec : {M : Type 1} → statement M
 lin-check-spec =
     tie.close
-    (tie.spec (λ c κs. search needs) (λ c. search needs) (λ c. search needs) cast-result (λ c. search needs) (λ c. search needs) add-result
-    returns returns-2)
+    (tie.spec (λ c κs. search needs) (λ c. search needs) (λ c. search needs) placed-requires returns returns-2)

@@ -1,0 +1,4 @@
+pub mod JudgeExactly
+pub mod OpensExactly
+pub mod Steps
+pub mod Worked

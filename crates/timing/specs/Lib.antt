@@ -1,0 +1,5 @@
+pub mod FrameTime
+pub mod Slots
+pub mod Judge
+pub mod InWords
+pub mod Parts
