@@ -3,6 +3,7 @@
 use crate::diagnostic::Message;
 use crate::reassembler::{OpenMessage, Taken};
 use crate::state::{Came, State, Ticked};
+use crate::timing::Judged;
 use crate::transfer::{Open, Status};
 
 /// Gives an answer that is always the same.
@@ -55,6 +56,14 @@ pub fn message(message: Message) -> String {
         Message::Sending { .. } => text("sending"),
         Message::Completed => text("completed"),
         Message::Failed => text("failed"),
+    }
+}
+
+/// Gives the answer of the judge.
+pub fn judged(judged: Judged) -> String {
+    match judged {
+        Judged::Holds => text("holds"),
+        Judged::Short(entry) => format!("short {entry}"),
     }
 }
 

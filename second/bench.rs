@@ -1,4 +1,4 @@
-//! The bench that a script works on: its requests and their answers, by DESIGN.md.
+//! The bench that a script works on: its requests and their answers, by DESIGN.md and REQUESTS.md.
 
 use crate::answers::{self, text, with_bytes, with_numbers};
 use crate::master::Master;
@@ -8,6 +8,7 @@ use crate::script::{self, Line, Request, Show};
 use crate::settings::Setting;
 use crate::state::{State, FRAMES_MAX};
 use crate::table::{Table, FRAME_BYTES};
+use crate::timing;
 use crate::wire::{self, ChecksumModel};
 
 /// The answer to a line that is no request.
@@ -53,15 +54,9 @@ impl Bench {
             Request::Table(words) => self.set_table(&words),
             Request::Buffer(length) => Ok(self.set_buffer(length)),
             Request::Fresh => master.fresh().map(|()| text("fresh")),
-            Request::Write { signal, value } => {
-                master.write(signal, value).map(|()| text("written"))
-            }
-            Request::WriteArray { signal, bytes } => {
-                master.write_array(signal, &bytes).map(|()| text("written"))
-            }
-            Request::WriteRow { signals, values } => master
-                .write_row(&signals, &values)
-                .map(|()| text("written")),
+            Request::Write { signal, value } => written(master.write(signal, value)),
+            Request::WriteArray { signal, bytes } => written(master.write_array(signal, &bytes)),
+            Request::WriteRow { signals, values } => written(master.write_row(&signals, &values)),
             Request::Read { signal } => master.read(signal).map(|value| format!("value {value}")),
             Request::ReadArray { signal } => master
                 .read_array(signal)
@@ -76,6 +71,7 @@ impl Bench {
             Request::Send { nad, length } => master.send(nad, length).map(|()| text("sending")),
             Request::Message => master.message().map(answers::message),
             Request::Ahead { frame } => master.ahead(frame).map(|count| format!("ahead {count}")),
+            Request::Judge { tick, bit } => self.judge(tick, bit),
             Request::ProtectedIdentifier(identifier) => pid_answer(identifier),
             Request::FrameIdentifier(protected) => id_answer(protected),
             Request::Checksum(identifier, model, data) => checksum_answer(identifier, model, &data),
@@ -115,6 +111,12 @@ impl Bench {
         }
     }
 
+    /// Judges the table that is there; neither the state nor the frame bytes matter.
+    fn judge(&self, tick: u32, bit: u32) -> Result<String, Refusal> {
+        let table = self.master.checked_table()?;
+        timing::judge(table, tick, bit).map(answers::judged)
+    }
+
     /// Sets a part of the state or the reassembler's state, whether it fits or not.
     fn set(&mut self, setting: Setting) -> String {
         match setting {
@@ -142,6 +144,11 @@ impl Bench {
         self.room = vec![0; length];
         format!("room {length}")
     }
+}
+
+/// Gives the answer to a write or a row.
+fn written(result: Result<(), Refusal>) -> Result<String, Refusal> {
+    result.map(|()| text("written"))
 }
 
 /// Builds a protected identifier.

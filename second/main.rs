@@ -16,6 +16,7 @@ mod settings;
 mod signals;
 mod state;
 mod table;
+mod timing;
 mod transfer;
 mod wire;
 

@@ -32,7 +32,7 @@ impl Master {
     }
 
     /// Tests refusal 1.
-    fn checked_table(&self) -> Result<&Table, Refusal> {
+    pub fn checked_table(&self) -> Result<&Table, Refusal> {
         self.table.as_ref().map_err(|refusal| *refusal)
     }
 

@@ -1,4 +1,4 @@
-//! Refusals, by "Refusal numbers" of document 01 and Req 01 of document 02.
+//! Refusals, by "Refusal numbers" of document 01 and Req 01 and 02 of document 02.
 
 use std::fmt;
 
@@ -31,6 +31,8 @@ pub enum Refusal {
     UnequalRows,
     /// A pair of a row is refused with this number, at this place from 0.
     BadPair { number: u8, place: usize },
+    /// A tick length or bit time of 0 or above 65,535.
+    TimeOutOfRange,
 }
 
 impl Refusal {
@@ -50,6 +52,7 @@ impl Refusal {
             Refusal::BytesRefused => 11,
             Refusal::UnequalRows => 12,
             Refusal::BadPair { number, .. } => number,
+            Refusal::TimeOutOfRange => 13,
         }
     }
 
@@ -95,6 +98,7 @@ mod tests {
             (Refusal::NotPublished.of_pair(1), "refused 5 1"),
             (Refusal::OtherKind.of_pair(255), "refused 6 255"),
             (Refusal::ValueOutOfRange.of_pair(256), "refused 7 256"),
+            (Refusal::TimeOutOfRange, "refused 13"),
         ];
         for (refusal, text) in all {
             assert_eq!(refusal.to_string(), text);

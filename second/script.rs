@@ -51,6 +51,8 @@ pub enum Request {
     Message,
     /// `ahead F`
     Ahead { frame: usize },
+    /// `judge TICK BIT`
+    Judge { tick: u32, bit: u32 },
     /// `pid N`
     ProtectedIdentifier(u8),
     /// `id HH`
@@ -170,10 +172,14 @@ fn row_request(rows: &[&[u8]]) -> Option<Request> {
     })
 }
 
-/// Reads a request to the bench itself, the wire or the reassembler.
+/// Reads a request to the bench itself, the judge, the wire or the reassembler.
 fn other_request(fields: &[&[u8]]) -> Option<Request> {
     match fields {
         [b"table", numbers @ ..] => Some(Request::Table(words(numbers)?)),
+        [b"judge", tick, bit] => Some(Request::Judge {
+            tick: long_number(tick)?,
+            bit: long_number(bit)?,
+        }),
         [b"buffer", length] => Some(Request::Buffer(number(length, BUFFER_MAX)? as usize)),
         [b"lend", bytes @ ..] => {
             let message = pairs(bytes)?;

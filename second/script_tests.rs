@@ -105,6 +105,49 @@ fn lines_that_are_no_rows() {
 }
 
 #[test]
+fn judge_lines() {
+    let judge = |tick, bit| Request::Judge { tick, bit };
+    expect_request(b"judge 1736 100", judge(1_736, 100));
+    expect_request(b"judge 0 4294967295", judge(0, u32::MAX));
+    expect_request(b"judge 04294967295 000", judge(u32::MAX, 0));
+    expect_no_request(&[
+        b"judge",
+        b"judge ",
+        b"judge 1",
+        b"judge 1 ",
+        b"judge 1 2 ",
+        b"judge 1 2 3",
+        b"judge  1 2",
+        b"judge 1  2",
+        b" judge 1 2",
+        b"judge 1 2\r",
+        b"judge 1\t2",
+        b"judge 1 -2",
+        b"judge +1 2",
+        b"judge 1 x",
+        b"judge 1 : 2",
+        b"judge 1 4294967296",
+        b"judge 4294967296 1",
+        b"judge 1 18446744073709551617",
+        b"Judge 1 2",
+        b"JUDGE 1 2",
+        b"judges 1 2",
+        b"judge1 2",
+    ]);
+}
+
+#[test]
+fn judge_lines_at_the_length_limit() {
+    let mut line = b"judge ".to_vec();
+    line.resize(LINE_LENGTH_MAX - 3, b'0');
+    line.extend(b"1 1");
+    assert_eq!(line.len(), LINE_LENGTH_MAX);
+    expect(&line, "refused 1 0");
+    line.insert(6, b'0');
+    expect(&line, "?");
+}
+
+#[test]
 fn rows_at_the_length_limit() {
     let mut line = b"row 000".to_vec();
     line.extend(b" 0".repeat(4_998));

@@ -1,8 +1,8 @@
 //! Runs seeded random requests through two programs and compares their outputs byte by byte.
 //!
 //! Usage: compare SEED CHECKSUMS FIRST SECOND. The same seed gives the same requests: CHECKSUMS checksum requests, about
-//! a fifth as many table requests, and the rest. Where the outputs differ it prints the seed, the first request that is
-//! answered differently and both answers, and ends with status 1.
+//! a fifth as many table requests, judge requests behind each of these, and the rest. Where the outputs differ it
+//! prints the seed, the first request that is answered differently and both answers, and ends with status 1.
 
 #[allow(dead_code)]
 #[path = "scripts/damaged.rs"]
@@ -13,12 +13,15 @@ mod random;
 #[allow(dead_code)]
 #[path = "scripts/tables.rs"]
 mod tables;
+#[path = "scripts/times.rs"]
+mod times;
 
 use damaged::{damaged_table, hostile_words};
 use random::Random;
 use std::io::Write;
 use std::process::{exit, Command, Stdio};
-use tables::{right_table, table_line, Size};
+use tables::{right_table, slot_table, table_line, Sections, Size};
+use times::{change_delays, judge_line, slots, Slot};
 
 /// The most bytes of a request.
 const LINE_LENGTH_MAX: usize = 20_000;
@@ -28,6 +31,24 @@ const CHECKSUMS_PER_TABLE: usize = 25;
 
 /// The number of damaged tables made from each right one.
 const DAMAGED_PER_TABLE: usize = 4;
+
+/// The number of judge requests behind a right table.
+const JUDGED_RIGHT: usize = 5;
+
+/// The number of judge requests behind a damaged table.
+const JUDGED_DAMAGED: usize = 2;
+
+/// Judge lines at the edges of the format, and at the limits of their numbers.
+const ODD_JUDGE_LINES: [&str; 48] = [
+    "judge", "judge ", "judge 1", "judge 1 ", "judge 1 2 ", "judge 1 2 3", "judge  1 2", "judge 1  2", " judge 1 2",
+    "judge 1 -2", "judge -1 2", "judge +1 2", "judge 1 x", "judge x 1", "judge 0x1 2", "judge 1 A", "judge 1.0 2",
+    "judge 1,2", "judge 1 : 2", "judge\t1 2", "judge 1\t2", "judge 1 2\r", "judge1 2", "judges 1 2", "judg 1 2",
+    "Judge 1 2", "JUDGE 1 2", "judge 1 4294967296", "judge 4294967296 1", "judge 4294969032 4294967396",
+    "judge 18446744073709551617 1", "judge 1 18446744073709551617", "judge 0 0", "judge 0 1", "judge 1 0", "judge 00 1",
+    "judge 65536 1", "judge 1 65536", "judge 67272 65636", "judge 4294967295 1", "judge 1 4294967295",
+    "judge 4294967295 4294967295", "judge 1 1", "judge 65535 65535", "judge 65535 1", "judge 1 65535",
+    "judge 0000000000000000000001736 00000000000000000000100", "judge 1735 100",
+];
 
 /// A checksum request with 0 to 12 data bytes; three in four name an identifier below 64.
 fn checksum_request(random: &mut Random) -> String {
@@ -49,9 +70,10 @@ fn checksum_request(random: &mut Random) -> String {
 
 /// A request of any kind with one byte changed, put in or taken out.
 fn damaged_request(random: &mut Random) -> Vec<u8> {
-    let mut line = match random.below(3) {
+    let mut line = match random.below(4) {
         0 => format!("pid {}", random.below(300)),
         1 => format!("id {:02X}", random.byte()),
+        2 => judge_line(random, &[]),
         _ => checksum_request(random),
     }
     .into_bytes();
@@ -88,23 +110,42 @@ fn table_line_of(random: &mut Random, words: &[u16]) -> Vec<u8> {
     table_line(random, words).into_bytes()
 }
 
-/// A right table, damaged ones made from it and now and then random words or a damaged line.
-fn table_requests(random: &mut Random) -> Vec<Vec<u8>> {
+/// A right table, in some cases without signals or with other delays.
+fn table_to_judge(random: &mut Random) -> Sections {
     let size = table_size(random);
-    let table = right_table(random, size);
+    let mut table = if random.once_in(4) { slot_table(random, size) } else { right_table(random, size) };
+    if random.once_in(2) {
+        change_delays(random, &mut table);
+    }
+    table
+}
+
+/// So many requests to judge the table, mostly with numbers that fill one of these slots or nearly do.
+fn judge_requests(random: &mut Random, slots: &[Slot], count: usize) -> Vec<Vec<u8>> {
+    (0..count).map(|_| judge_line(random, slots).into_bytes()).collect()
+}
+
+/// A right table, damaged ones made from it and now and then random words or a damaged line, the judge behind each.
+fn table_requests(random: &mut Random) -> Vec<Vec<u8>> {
+    let table = table_to_judge(random);
+    let slots = slots(&table.concat());
     let mut lines = vec![table_line_of(random, &table.concat())];
+    lines.extend(judge_requests(random, &slots, JUDGED_RIGHT));
     for _ in 0..DAMAGED_PER_TABLE {
         let damaged = damaged_table(random, &table);
         lines.push(table_line_of(random, &damaged.concat()));
+        lines.extend(judge_requests(random, &slots, JUDGED_DAMAGED));
     }
     if random.once_in(16) {
         let words = hostile_words(random);
         lines.push(table_line_of(random, &words));
+        lines.extend(judge_requests(random, &slots, JUDGED_DAMAGED));
     }
     if random.once_in(16) {
         let mut line = table_line_of(random, &table.concat());
         damage_byte(random, &mut line);
         lines.push(line);
+        lines.extend(judge_requests(random, &slots, JUDGED_DAMAGED));
     }
     lines
 }
@@ -155,13 +196,25 @@ fn odd_lines() -> Vec<Vec<u8>> {
     lines
 }
 
-/// All requests: every identifier, every byte, odd lines, the checksums, damaged lines and the tables; the last lacks its
-/// newline.
+/// Odd judge lines, and long ones; then the same on a table whose only slot has one tick for eight bytes.
+fn odd_judge_lines() -> Vec<Vec<u8>> {
+    let mut lines: Vec<Vec<u8>> = ODD_JUDGE_LINES.iter().map(|line| line.as_bytes().to_vec()).collect();
+    for length in [LINE_LENGTH_MAX - 1, LINE_LENGTH_MAX, LINE_LENGTH_MAX + 1, 3 * LINE_LENGTH_MAX] {
+        lines.push(format!("judge {}1736 100", "0".repeat(length - 14)).into_bytes());
+        lines.push(format!("judge 1735 {}100", "0".repeat(length - 14)).into_bytes());
+    }
+    [lines.clone(), vec![b"table 0 0 0 1 0 2 0 1".to_vec()], lines].concat()
+}
+
+/// All requests: odd judge lines before any table, every identifier, every byte, odd lines, the checksums, damaged
+/// lines and the tables; the last lacks its newline.
 fn requests(seed: u64, checksums: usize) -> Vec<Vec<u8>> {
     let mut random = Random::of_case(seed, 0);
-    let mut lines: Vec<Vec<u8>> = (0..256).map(|n| format!("pid {n}").into_bytes()).collect();
+    let mut lines = odd_judge_lines();
+    lines.extend((0..256).map(|n| format!("pid {n}").into_bytes()));
     lines.extend((0..256).map(|n| format!("id {n:02X}").into_bytes()));
     lines.extend(odd_lines());
+    lines.extend(odd_judge_lines());
     for _ in 0..checksums {
         lines.push(checksum_request(&mut random).into_bytes());
         if random.below(16) == 0 {

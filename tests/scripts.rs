@@ -27,6 +27,8 @@ mod draft;
 mod fields;
 #[path = "../second/fits.rs"]
 mod fits;
+#[path = "scripts/judging.rs"]
+mod judging;
 #[path = "scripts/kinds.rs"]
 mod kinds;
 #[path = "scripts/limits.rs"]
@@ -71,6 +73,10 @@ mod states;
 mod table;
 #[path = "scripts/tables.rs"]
 mod tables;
+#[path = "scripts/times.rs"]
+mod times;
+#[path = "../second/timing.rs"]
+mod timing;
 #[path = "../second/transfer.rs"]
 mod transfer;
 #[path = "scripts/transfers.rs"]

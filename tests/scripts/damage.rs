@@ -6,8 +6,8 @@ use crate::runs;
 use crate::settings_lines;
 use crate::tables::{right_table, table_line, Size};
 
-/// Every call of the master, and the lines that show what it may have changed.
-const CALLS: [&str; 19] = [
+/// Every call of the master, the judge, and the lines that show what a call may have changed.
+const CALLS: [&str; 22] = [
     "fresh",
     "write 0 0",
     "writes 0 00",
@@ -23,6 +23,9 @@ const CALLS: [&str; 19] = [
     "send 1 1",
     "message",
     "ahead 0",
+    "judge 1736 100",
+    "judge 1735 100",
+    "judge 0 65536",
     "pending",
     "frames",
     "out",

@@ -2,7 +2,7 @@
 
 use crate::draft::Script;
 use crate::tables::Size;
-use crate::{assemblies, borders, damage, limits, lines, messages, reassembly};
+use crate::{assemblies, borders, damage, judging, limits, lines, messages, reassembly};
 use crate::{rows, runs, setting, settings_lines, values};
 
 /// Fills a script with one to four acts and looks at the state at the end.
@@ -19,7 +19,7 @@ pub fn fill(script: &mut Script) {
 
 /// Adds one act of any kind.
 fn act(script: &mut Script) {
-    match script.random.below(1_000) {
+    match script.random.below(1_040) {
         0..=139 => run(script, &[Size::Tiny, Size::Small], 100, 400),
         140..=189 => run(script, &[Size::Middle], 200, 400),
         190..=259 => {
@@ -44,7 +44,8 @@ fn act(script: &mut Script) {
         980..=983 => limits::targets(script),
         984..=986 => limits::counts(script),
         987..=995 => runs::long_delays(script),
-        _ => runs::long_waits(script),
+        996..=999 => runs::long_waits(script),
+        _ => judging::judging(script),
     }
 }
 

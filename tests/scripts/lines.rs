@@ -40,7 +40,7 @@ pub const NUMBERS: [u128; 24] = [
 ];
 
 /// Requests with one number, `N` in its place, and the largest number that it takes.
-const LIMITS: [(&str, u128); 19] = [
+const LIMITS: [(&str, u128); 21] = [
     ("table N", 65_535),
     ("table 0 0 0 N", 65_535),
     ("buffer N", 512),
@@ -57,6 +57,8 @@ const LIMITS: [(&str, u128); 19] = [
     ("send N 1", 255),
     ("send 1 N", (1 << 32) - 1),
     ("ahead N", 65_535),
+    ("judge N 1", (1 << 32) - 1),
+    ("judge 1 N", (1 << 32) - 1),
     ("pid N", 255),
     ("checksum N enhanced 00", 255),
     ("room N", 4_096),
@@ -142,7 +144,7 @@ fn any_line(random: &mut Random) -> String {
     let (one, two) = (number(random), number(random));
     let count = random.below(10);
     let bytes = with_bytes("", &random.bytes(count));
-    match random.below(42) {
+    match random.below(44) {
         0..=1 => format!("buffer {one}"),
         2 => "fresh".to_string(),
         3..=5 => format!("write {one} {two}"),
@@ -165,7 +167,8 @@ fn any_line(random: &mut Random) -> String {
         28..=34 => settings_lines::any_line(random),
         35..=36 => format!("row {one} : {two}"),
         37 => format!("row {one} {two} : {two} {one}"),
-        38 => random
+        38..=39 => format!("judge {one} {two}"),
+        40 => random
             .one_of(&["row :", "row 0 :", "row : 0", "row 0 0 : 1 2"])
             .to_string(),
         _ => format!("take{bytes}"),
@@ -297,6 +300,7 @@ fn long_line(random: &mut Random) -> Vec<u8> {
         (b"take 01 01", b" 00", b""),
         (b"lend", b" A5", b""),
         (b"write 0 ", b"0", b"1"),
+        (b"judge 1 ", b"0", b"1"),
         (b"#", b"#", b""),
         (b"# ", b"tick ", b""),
         (b"tick", b" ", b""),

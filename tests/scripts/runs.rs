@@ -1,6 +1,7 @@
 //! Long runs of select, tick, byte and write, with the transfers steered.
 
 use crate::draft::Script;
+use crate::judging;
 use crate::lines;
 use crate::messages;
 use crate::rows;
@@ -165,7 +166,7 @@ fn write_open_row(script: &mut Script) {
 
 /// Looks at a part of the state.
 pub fn peek(script: &mut Script) {
-    match script.random.below(20) {
+    match script.random.below(21) {
         0..=3 => script.say("status"),
         4..=6 => script.say("pending"),
         7..=9 => ahead(script),
@@ -173,6 +174,7 @@ pub fn peek(script: &mut Script) {
         11 => script.say("out"),
         12 => script.say("message"),
         13..=16 => script.say("state"),
+        17 => judging::judge(script),
         _ => {
             let number = signal_number(script);
             read_signal(script, number, 95)

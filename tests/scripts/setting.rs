@@ -2,6 +2,7 @@
 
 use crate::diagnostic::Message;
 use crate::draft::Script;
+use crate::judging;
 use crate::messages;
 use crate::misfits::{pair, pairs};
 use crate::rows;
@@ -13,7 +14,7 @@ use crate::transfers;
 use crate::values::{read_signal, signal_number, write_signal};
 
 /// The number of calls that `call` knows.
-const CALLS: usize = 11;
+const CALLS: usize = 12;
 
 /// A table on which states are set; mostly small, with slots of all kinds.
 fn table(script: &mut Script) {
@@ -138,13 +139,13 @@ fn calls_one_by_one(script: &mut Script, state: &State) {
     }
 }
 
-/// Any call that tests the state.
+/// Any call that tests the state, or the judge.
 fn any_call(script: &mut Script) {
     let number = script.random.below(CALLS);
     call(script, number);
 }
 
-/// One of the calls that test the state.
+/// One of the calls that test the state, or the judge, which does not.
 fn call(script: &mut Script, number: usize) {
     match number {
         0 | 1 => {
@@ -168,6 +169,9 @@ fn call(script: &mut Script, number: usize) {
             ahead(script);
         }
         9 => rows::write_some(script),
+        10 => {
+            judging::judge(script);
+        }
         _ => {
             let line = script.random.one_of(&["status", "message"]);
             script.say(line);

@@ -105,6 +105,19 @@ pub fn state_table(random: &mut Random) -> Sections {
     sections(&frames, &signals, &members, &entries)
 }
 
+/// A right table of about this size without signals: frames of all lengths, slots of all kinds.
+pub fn slot_table(random: &mut Random, size: Size) -> Sections {
+    let counts = size.counts(random);
+    let mut frames = right_frames(random, counts[0], size == Size::Limit);
+    frames
+        .iter_mut()
+        .for_each(|frame| frame[1] = random.between(1, 8) as u16);
+    let members = right_members(random, &frames, counts[2]);
+    let lists = members.last().map_or(0, |member| member[0] + 1);
+    let entries = right_entries(random, counts[0] as u16, lists, counts[3]);
+    sections(&frames, &[], &members, &entries)
+}
+
 /// A right table with as many frames, signals, lists and schedules as there may be.
 pub fn numerous_table(random: &mut Random) -> Sections {
     let all_published = random.once_in(2);
