@@ -2,7 +2,7 @@
 
 use crate::damaged::{damaged_table, hostile_words};
 use crate::draft::Script;
-use crate::lines::damage;
+use crate::lines::{damage, with_changed_field};
 use crate::random::Random;
 use crate::settings_lines;
 use crate::tables::{right_table, slot_table, table_line, Sections, Size};
@@ -104,23 +104,13 @@ fn judge_lines(script: &mut Script, slots: &[Slot], count: usize) {
     }
 }
 
-/// A judge line with one field changed, left out or put in, or damaged anywhere.
+/// A judge line with one field changed, sometimes damaged anywhere.
 fn malformed_line(script: &mut Script, slots: &[Slot]) {
     let random = &mut script.random;
     let right = judge_line(random, slots);
-    let mut fields: Vec<&str> = right.split(' ').collect();
     let at = random.between(1, 2);
     let field = random.one_of(&FIELDS);
-    match random.below(5) {
-        0 => {
-            fields.remove(at);
-        }
-        1 => fields.insert(at, field),
-        2 => fields[at] = field,
-        3 => fields.push(field),
-        _ => {}
-    }
-    let mut line = fields.join(" ").into_bytes();
+    let mut line = with_changed_field(random, &right, at, field).into_bytes();
     if random.once_in(3) {
         damage(random, &mut line);
     }

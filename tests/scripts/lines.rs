@@ -184,6 +184,21 @@ fn damaged_table_line(random: &mut Random) -> Vec<u8> {
     line
 }
 
+/// A line with one of its fields left out, changed or joined to the one before, or with one put in or added.
+pub fn with_changed_field(random: &mut Random, line: &str, at: usize, field: &str) -> String {
+    let mut fields: Vec<&str> = line.split(' ').collect();
+    match random.below(5) {
+        0 => {
+            fields.remove(at);
+        }
+        1 => fields.insert(at, field),
+        2 => fields[at] = field,
+        3 => fields.push(field),
+        _ => return fields[..at].join(" ") + &fields[at..].join(" "),
+    }
+    fields.join(" ")
+}
+
 /// Damages a line in one place.
 pub fn damage(random: &mut Random, line: &mut Vec<u8>) {
     let at = random.below(line.len());

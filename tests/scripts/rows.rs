@@ -1,7 +1,7 @@
 //! Rows of values: right ones, some with a bad pair or of unequal length, and lines that are none.
 
 use crate::draft::Script;
-use crate::lines::damage;
+use crate::lines::{damage, with_changed_field};
 use crate::random::Random;
 use crate::runs::{select, slot};
 use crate::table::{Signal, SignalKind, Table};
@@ -253,7 +253,7 @@ pub fn malformed_row(script: &mut Script) {
     let (signals, values): (Vec<usize>, Vec<u64>) = pairs.into_iter().unzip();
     let row = row_line(&mut script.random, &signals, &values);
     let colon = signals.len() + 1;
-    let mut line = with_changed_field(&mut script.random, &row, colon).into_bytes();
+    let mut line = changed_row(&mut script.random, &row, colon).into_bytes();
     if script.random.once_in(3) {
         damage(&mut script.random, &mut line);
     }
@@ -261,22 +261,12 @@ pub fn malformed_row(script: &mut Script) {
     look(script, "", &[]);
 }
 
-/// A row with a field left out, put in, changed or joined to the one before, often at the colon.
-fn with_changed_field(random: &mut Random, row: &str, colon: usize) -> String {
-    let mut fields: Vec<&str> = row.split(' ').collect();
-    let any = random.between(1, fields.len() - 1);
+/// A row with a field changed, often at the colon.
+fn changed_row(random: &mut Random, row: &str, colon: usize) -> String {
+    let any = random.between(1, row.split(' ').count() - 1);
     let at = random.one_of(&[any, colon]);
     let field = random.one_of(&FIELDS);
-    match random.below(5) {
-        0 => {
-            fields.remove(at);
-        }
-        1 => fields.insert(at, field),
-        2 => fields[at] = field,
-        3 => fields.push(field),
-        _ => return fields[..at].join(" ") + &fields[at..].join(" "),
-    }
-    fields.join(" ")
+    with_changed_field(random, row, at, field)
 }
 
 /// Rows of 4,997 pairs, the last one right or bad, that fill a line; and one byte more.
