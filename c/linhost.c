@@ -209,7 +209,9 @@ static bool table_request(struct text text)
 static bool judge_request(struct text text)
 {
     uint32_t tick, bit;
-    if (!take_number(&text, UINT32_MAX, &tick) || !take_word(&text, " ") || !take_number(&text, UINT32_MAX, &bit) || !at_end(&text))
+    if (!take_number(&text, UINT32_MAX, &tick) || !take_word(&text, " "))
+        return false;
+    if (!take_number(&text, UINT32_MAX, &bit) || !at_end(&text))
         return false;
     uint32_t answer = lin_judge(table.words, table.length, tick, bit);
     if (lin_is_short(answer))
