@@ -3,14 +3,15 @@
 
 #include <stdio.h>
 
-enum { WORDS = 2608, BYTES = 480, LETTERS_MAX = 4096, VALUES = 20, WRITTEN = 7, REFUSED = 512 };
+enum { WORDS = 3633, BYTES = 480, LETTERS_MAX = 4096, VALUES = 20, WRITTEN = 7, REFUSED = 512 };
 
 static uint16_t words[WORDS], signals[VALUES];
 static uint32_t values[VALUES];
 static uint8_t bytes[BYTES];
 static const struct table table = { words, WORDS };
 
-/* Makes the largest table: 15 lists of four members, four schedules of 64 entries with delay 1. */
+/* Makes the largest table: each signal in two frames, 15 lists of four members, four schedules of 64 entries with delay 1. A
+ * frame has its arrays from the first bit up and its scalars from the last one down. */
 static void make_table(void)
 {
     uint16_t *at = words;
@@ -18,17 +19,22 @@ static void make_table(void)
     *at++ = 256;
     *at++ = 60;
     *at++ = 256;
+    *at++ = 512;
     for (unsigned f = 0; f < 60; f++) {
         *at++ = (uint16_t)(59 - f);
         *at++ = 8;
         *at++ = (uint16_t)(1 + 2 * (f % 2));
     }
     for (unsigned s = 0; s < 256; s++) {
-        *at++ = (uint16_t)(s % 60);
         *at++ = (uint16_t)(s % 2);
-        *at++ = (uint16_t)(8 * (s / 60) + 1 - s % 2);
-        *at++ = (uint16_t)(7 + s % 2);
-        *at++ = (uint16_t)(s / 2);
+        *at++ = (uint16_t)(6 + 2 * (s % 2));
+        *at++ = (uint16_t)(s / 2 % 64);
+    }
+    for (unsigned p = 0; p < 512; p++) {
+        unsigned s = p / 2, round = s / 60;
+        *at++ = (uint16_t)s;
+        *at++ = (uint16_t)((s + p % 2 * 31) % 60);
+        *at++ = (uint16_t)(s % 2 == 1 ? 8 * round : 58 - 6 * round);
     }
     for (unsigned m = 0; m < 60; m++) {
         *at++ = (uint16_t)(m / 4);
@@ -43,12 +49,12 @@ static void make_table(void)
     }
 }
 
-/* Makes the row: every twelfth signal, so scalars of seven bits, four in each of five frames. */
+/* Makes the row: every twelfth signal, so scalars of six bits, four in each of ten frames. */
 static void make_row(void)
 {
     for (unsigned i = 0; i < VALUES; i++) {
         signals[i] = (uint16_t)(12 * i);
-        values[i] = 127 - 6 * i;
+        values[i] = 63 - 6 * i % 64;
     }
 }
 
@@ -144,7 +150,7 @@ static unsigned make_ready(struct state *state)
     unsigned refusal = plain_start(state, table, bytes, BYTES);
     refusal |= plain_select(state, table, 0);
     for (uint16_t s = 14; s < 60; s += 8)
-        refusal |= plain_write(state, table, bytes, BYTES, s, 85);
+        refusal |= plain_write(state, table, bytes, BYTES, s, 42);
     return refusal;
 }
 

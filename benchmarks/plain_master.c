@@ -13,17 +13,22 @@ enum { LONGEST = 4095 };
 
 static const uint16_t *frame_of(const uint16_t *t, unsigned frame)
 {
-    return t + 4 + 3 * frame;
+    return t + 5 + 3 * frame;
 }
 
 static const uint16_t *signal_of(const uint16_t *t, unsigned signal)
 {
-    return frame_of(t, t[0]) + 5 * signal;
+    return frame_of(t, t[0]) + 3 * signal;
+}
+
+static const uint16_t *placement_of(const uint16_t *t, unsigned placement)
+{
+    return signal_of(t, t[1]) + 3 * placement;
 }
 
 static const uint16_t *member_of(const uint16_t *t, unsigned member)
 {
-    return signal_of(t, t[1]) + 2 * member;
+    return placement_of(t, t[4]) + 2 * member;
 }
 
 static const uint16_t *entry_of(const uint16_t *t, unsigned entry)
@@ -34,6 +39,21 @@ static const uint16_t *entry_of(const uint16_t *t, unsigned entry)
 static bool is_published(const uint16_t *t, unsigned frame)
 {
     return frame_of(t, frame)[2] % 2 == 1;
+}
+
+/* The first placement of a signal, by halving: they ascend by signal, and each signal has one. */
+static unsigned first_placement(const uint16_t *t, unsigned signal)
+{
+    const uint16_t *placement = placement_of(t, 0);
+    unsigned low = 0, high = t[4];
+    while (low < high) {
+        unsigned middle = (low + high) / 2;
+        if (placement[3 * middle] < signal)
+            low = middle + 1;
+        else
+            high = middle;
+    }
+    return low;
 }
 
 static unsigned schedules_of(const uint16_t *t)
@@ -126,6 +146,23 @@ static bool pending_fits(const uint16_t *t, const struct state *s)
     return true;
 }
 
+/* Whether a placement can be the one of a signal that was received last; one of a signal that is not there cannot. */
+static bool can_receive(const uint16_t *t, unsigned signal, unsigned placement)
+{
+    if (placement >= t[4])
+        return false;
+    const uint16_t *record = placement_of(t, placement);
+    return record[0] == signal && !is_published(t, record[1]);
+}
+
+static bool received_fits(const uint16_t *t, const struct state *s)
+{
+    for (unsigned signal = 0; signal < SIGNALS_MAX; signal++)
+        if (s->received[signal] != NEVER && !can_receive(t, signal, s->received[signal]))
+            return false;
+    return true;
+}
+
 static bool fits(const uint16_t *t, const struct state *s)
 {
     if (s->running && s->entry >= t[3])
@@ -136,7 +173,7 @@ static bool fits(const uint16_t *t, const struct state *s)
         return false;
     if (s->wait > (s->running ? entry_of(t, s->entry)[3] : 0))
         return false;
-    if (!pending_fits(t, s) || !can_open(t, s))
+    if (!pending_fits(t, s) || !received_fits(t, s) || !can_open(t, s))
         return false;
     if (s->transfer.opened != OPENED_NOTHING && s->transfer.count > length_of(t, &s->transfer))
         return false;
@@ -165,13 +202,15 @@ static void put_bits(uint8_t *data, unsigned offset, unsigned width, unsigned va
     memcpy(data, &frame, sizeof frame);
 }
 
-static void put_start(const uint16_t *signal, uint8_t *bytes)
+/* Puts the start value of its signal into a placement. */
+static void put_start(const uint16_t *t, const uint16_t *placement, uint8_t *bytes)
 {
-    uint8_t *data = bytes + 8 * signal[0];
-    if (signal[1] == 1)
-        memset(data + signal[2] / 8, signal[4], signal[3] / 8u);
+    const uint16_t *signal = signal_of(t, placement[0]);
+    uint8_t *data = bytes + 8 * placement[1];
+    if (signal[0] == 1)
+        memset(data + placement[2] / 8, signal[2], signal[1] / 8u);
     else
-        put_bits(data, signal[2], signal[3], signal[4]);
+        put_bits(data, placement[2], signal[1], signal[2]);
 }
 
 static const struct transfer no_transfer = { OPENED_NOTHING, 0, 0, { 255, 255, 255, 255, 255, 255, 255, 255, 255 }, false };
@@ -183,10 +222,12 @@ unsigned plain_start(struct state *state, struct table table, uint8_t *bytes, si
     if (size != 8u * table.words[0])
         return BUFFER;
     memset(bytes, 255, size);
-    for (unsigned s = 0; s < table.words[1]; s++)
-        put_start(signal_of(table.words, s), bytes);
+    for (unsigned p = 0; p < table.words[4]; p++)
+        put_start(table.words, placement_of(table.words, p), bytes);
     memset(state, 0, sizeof *state);
     state->transfer = no_transfer;
+    for (unsigned s = 0; s < SIGNALS_MAX; s++)
+        state->received[s] = NEVER;
     return 0;
 }
 
@@ -207,22 +248,25 @@ static unsigned writable(const uint16_t *t, uint16_t signal, uint32_t value)
 {
     if (signal >= t[1])
         return UNKNOWN;
-    const uint16_t *record = signal_of(t, signal);
-    if (!is_published(t, record[0]))
+    if (!is_published(t, placement_of(t, first_placement(t, signal))[1]))
         return NOT_PUBLISHED;
-    if (record[1] != 0)
+    const uint16_t *record = signal_of(t, signal);
+    if (record[0] != 0)
         return KIND;
-    return value >> record[3] != 0 ? VALUE : 0;
+    return value >> record[1] != 0 ? VALUE : 0;
 }
 
-/* Puts a value that was judged, and marks its frame. */
+/* Puts a value that was judged into every placement, and marks their frames. */
 static void put(struct state *state, const uint16_t *t, uint8_t *bytes, uint16_t signal, uint32_t value)
 {
-    const uint16_t *record = signal_of(t, signal);
-    put_bits(bytes + 8 * record[0], record[2], record[3], value);
-    state->pending[record[0]] = true;
-    if (state->transfer.opened == OPENED_FRAME && state->transfer.frame == record[0])
-        state->transfer.written = true;
+    unsigned width = signal_of(t, signal)[1], p = first_placement(t, signal);
+    for (const uint16_t *placement = placement_of(t, p); p < t[4] && placement[0] == signal; p++, placement += 3) {
+        unsigned frame = placement[1];
+        put_bits(bytes + 8 * frame, placement[2], width, value);
+        state->pending[frame] = true;
+        if (state->transfer.opened == OPENED_FRAME && state->transfer.frame == frame)
+            state->transfer.written = true;
+    }
 }
 
 unsigned plain_write(struct state *state, struct table table, uint8_t *bytes, size_t size, uint16_t signal, uint32_t value)
@@ -397,6 +441,15 @@ static enum byte_answer sent_byte(struct state *s, const uint16_t *t, uint8_t by
     return BYTE_SUCCESS;
 }
 
+/* Every placement in a frame is the one of its signal that was received last. */
+static void receive(const uint16_t *t, struct state *s, unsigned frame)
+{
+    const uint16_t *placement = placement_of(t, 0);
+    for (unsigned p = 0; p < t[4]; p++, placement += 3)
+        if (placement[1] == frame)
+            s->received[placement[0]] = (uint16_t)p;
+}
+
 static enum byte_answer received_byte(struct state *s, const uint16_t *t, uint8_t *bytes, uint8_t *response, uint8_t byte)
 {
     struct transfer *transfer = &s->transfer;
@@ -412,6 +465,8 @@ static enum byte_answer received_byte(struct state *s, const uint16_t *t, uint8_
     }
     bool response_frame = transfer->opened == OPENED_RESPONSE;
     memcpy(response_frame ? response : bytes + 8 * transfer->frame, transfer->bytes, length);
+    if (!response_frame)
+        receive(t, s, transfer->frame);
     succeed(t, s);
     return response_frame ? BYTE_RESPONSE : BYTE_SUCCESS;
 }

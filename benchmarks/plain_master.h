@@ -6,7 +6,8 @@
 #include <stddef.h>
 #include <stdint.h>
 
-enum { FRAMES_MAX = 60 };
+enum { FRAMES_MAX = 60, SIGNALS_MAX = 256 };
+enum { NEVER = UINT16_MAX }; /* no placement of a signal was received */
 enum opened { OPENED_NOTHING, OPENED_FRAME, OPENED_REQUEST, OPENED_RESPONSE };
 enum message { MESSAGE_NONE, MESSAGE_SENDING, MESSAGE_COMPLETED, MESSAGE_FAILED };
 
@@ -32,6 +33,7 @@ struct state {
     uint16_t next;
     bool error, success, overrun;
     uint8_t last;
+    uint16_t received[SIGNALS_MAX]; /* the placement of each signal that was received last, or NEVER */
 };
 
 struct table {

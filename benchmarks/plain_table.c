@@ -9,6 +9,7 @@ struct check {
     const uint16_t *words;
     size_t length;
     size_t frames;
+    size_t signals;
     size_t lists;
 };
 
@@ -18,10 +19,22 @@ static bool at_most(const struct check *check, size_t at, unsigned limit)
     return at < check->length && check->words[at] <= limit;
 }
 
-/* Whether the list or schedule number at a position is one of those that may follow. */
+/* Whether the signal, list or schedule number at a position is one of those that may follow. */
 static bool follows(const struct check *check, size_t at, size_t count)
 {
     return at < check->length && (check->words[at] == count || check->words[at] + 1u == count);
+}
+
+/* The records that later sections look up. */
+
+static const uint16_t *frame_at(const struct check *check, size_t frame)
+{
+    return check->words + 5 + 3 * frame;
+}
+
+static const uint16_t *signal_at(const struct check *check, size_t signal)
+{
+    return frame_at(check, check->frames) + 3 * signal;
 }
 
 /* Each section gives the position of its first fault, or this. */
@@ -29,8 +42,8 @@ static bool follows(const struct check *check, size_t at, size_t count)
 
 static size_t check_header(const struct check *check)
 {
-    static const uint16_t limits[4] = { 60, 256, 60, 256 };
-    for (size_t i = 0; i < 4; i++)
+    static const uint16_t limits[5] = { 60, 256, 60, 256, 512 };
+    for (size_t i = 0; i < 5; i++)
         if (!at_most(check, i, limits[i]))
             return i;
     return NO_FAULT;
@@ -59,28 +72,52 @@ static bool right_width(bool array, unsigned width)
 static size_t check_signals(const struct check *check, size_t at, size_t count)
 {
     const uint16_t *words = check->words;
-    uint64_t taken[60] = { 0 };
-    for (; count > 0; count--, at += 5) {
-        if (at >= check->length || words[at] >= check->frames)
+    for (; count > 0; count--, at += 3) {
+        if (!at_most(check, at, 1))
             return at;
-        unsigned frame = words[at], bits = 8u * words[4 + 3 * frame + 1];
-        if (!at_most(check, at + 1, 1))
+        bool array = words[at] == 1;
+        if (at + 1 >= check->length || !right_width(array, words[at + 1]))
             return at + 1;
-        bool array = words[at + 1] == 1;
-        if (at + 2 >= check->length || words[at + 2] >= bits || (array && words[at + 2] % 8 != 0))
+        if (at + 2 >= check->length || words[at + 2] >= (array ? 256u : 1u << words[at + 1]))
             return at + 2;
-        unsigned offset = words[at + 2];
-        if (at + 3 >= check->length || !right_width(array, words[at + 3]) || offset + words[at + 3] > bits)
-            return at + 3;
-        unsigned width = words[at + 3];
-        uint64_t field = UINT64_MAX >> (64 - width) << offset;
-        if ((taken[frame] & field) != 0)
-            return at + 3;
-        taken[frame] |= field;
-        if (at + 4 >= check->length || words[at + 4] >= (array ? 256u : 1u << width))
-            return at + 4;
     }
     return NO_FAULT;
+}
+
+/* A width is at least 1, so an offset behind the frame is refused as one whose bits are not inside it. */
+static size_t check_placements(const struct check *check, size_t at, size_t count)
+{
+    const uint16_t *words = check->words;
+    uint64_t taken[60] = { 0 }, field = 0; /* the bits of each frame, and those of the present signal at offset 0 */
+    uint16_t last[60] = { 0 };             /* the signal placed last in each frame, counted from 1 */
+    size_t signals = 0, first = 0;         /* the signals so far, and the first placement of the present one */
+    unsigned width = 0;
+    bool array = false;
+    for (; count > 0; count--, at += 3) {
+        if (!follows(check, at, signals) || words[at] >= check->signals)
+            return at;
+        if (words[at] == signals) {
+            const uint16_t *signal = signal_at(check, signals++);
+            array = signal[0] == 1;
+            width = signal[1];
+            field = UINT64_MAX >> (64 - width);
+            first = at;
+        }
+        if (at + 1 >= check->length || words[at + 1] >= check->frames)
+            return at + 1;
+        unsigned f = words[at + 1];
+        const uint16_t *frame = frame_at(check, f);
+        if (last[f] == signals || frame[2] % 2 != frame_at(check, words[first + 1])[2] % 2)
+            return at + 1;
+        last[f] = (uint16_t)signals;
+        if (at + 2 >= check->length || words[at + 2] + width > 8u * frame[1] || (array && words[at + 2] % 8 != 0))
+            return at + 2;
+        unsigned offset = words[at + 2];
+        if ((taken[f] & field << offset) != 0)
+            return at + 2;
+        taken[f] |= field << offset;
+    }
+    return signals < check->signals ? at : NO_FAULT;
 }
 
 static size_t check_members(struct check *check, size_t at, size_t count)
@@ -94,7 +131,7 @@ static size_t check_members(struct check *check, size_t at, size_t count)
         if (at + 1 >= check->length || words[at + 1] >= check->frames)
             return at + 1;
         unsigned frame = words[at + 1];
-        if (words[4 + 3 * frame + 2] % 2 == 0 || listed[frame])
+        if (frame_at(check, frame)[2] % 2 == 0 || listed[frame])
             return at + 1;
         listed[frame] = true;
     }
@@ -123,16 +160,19 @@ static size_t check_entries(const struct check *check, size_t at, size_t count)
 /* The position of the first fault of all sections. */
 static size_t first_fault(const uint16_t *words, size_t length)
 {
-    struct check check = { words, length, 0, 0 };
+    struct check check = { words, length, 0, 0, 0 };
     size_t position = check_header(&check);
     if (position != NO_FAULT)
         return position;
     check.frames = words[0];
-    size_t signals = 4 + 3 * check.frames, members = signals + 5u * words[1], entries = members + 2u * words[2];
-    size_t end = entries + 4u * words[3];
-    if ((position = check_frames(&check, 4, words[0])) != NO_FAULT)
+    check.signals = words[1];
+    size_t signals = 5 + 3 * check.frames, placements = signals + 3 * check.signals, members = placements + 3u * words[4];
+    size_t entries = members + 2u * words[2], end = entries + 4u * words[3];
+    if ((position = check_frames(&check, 5, words[0])) != NO_FAULT)
         return position;
     if ((position = check_signals(&check, signals, words[1])) != NO_FAULT)
+        return position;
+    if ((position = check_placements(&check, placements, words[4])) != NO_FAULT)
         return position;
     if ((position = check_members(&check, members, words[2])) != NO_FAULT)
         return position;
@@ -159,7 +199,7 @@ struct records {
 
 static struct records records_of(const uint16_t *words)
 {
-    const uint16_t *frames = words + 4, *members = frames + 3u * words[0] + 5u * words[1];
+    const uint16_t *frames = words + 5, *members = frames + 3u * words[0] + 3u * words[1] + 3u * words[4];
     return (struct records){ frames, members, members + 2u * words[2], words[2], words[3] };
 }
 

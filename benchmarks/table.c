@@ -6,29 +6,36 @@
 #include <string.h>
 
 /* The number of calls of a row; benchmarks/run divides by it. The tick and the bit time are such that every slot holds. */
-enum { CALLS = 64, WORDS_MAX = 2608, TICK = 10000, BIT = 521 };
+enum { CALLS = 64, WORDS_MAX = 3633, TICK = 10000, BIT = 521 };
 
 static uint16_t words[WORDS_MAX];
 
-/* Makes a right table: scalars and arrays by turns, four members a list, sixteen entries a schedule, all kinds. */
+/* Makes a right table: scalars and arrays by turns, each in two frames where there are two, four members a list, sixteen
+ * entries a schedule, all kinds. A frame has its arrays from the first bit up and its scalars from the last one down. */
 static size_t make_table(unsigned frames, unsigned signals, unsigned members, unsigned entries)
 {
+    unsigned places = frames > 1 ? 2 : 1;
     uint16_t *at = words;
     *at++ = (uint16_t)frames;
     *at++ = (uint16_t)signals;
     *at++ = (uint16_t)members;
     *at++ = (uint16_t)entries;
+    *at++ = (uint16_t)(places * signals);
     for (unsigned f = 0; f < frames; f++) {
         *at++ = (uint16_t)(59 - f);
         *at++ = 8;
         *at++ = (uint16_t)(1 + 2 * (f % 2));
     }
     for (unsigned s = 0; s < signals; s++) {
-        *at++ = (uint16_t)(s % frames);
         *at++ = (uint16_t)(s % 2);
-        *at++ = (uint16_t)(8 * (s / frames) + 1 - s % 2);
-        *at++ = (uint16_t)(7 + s % 2);
-        *at++ = (uint16_t)(s / 2);
+        *at++ = (uint16_t)(6 + 2 * (s % 2));
+        *at++ = (uint16_t)(s / 2 % 64);
+    }
+    for (unsigned p = 0; p < places * signals; p++) {
+        unsigned s = p / places, round = s / frames;
+        *at++ = (uint16_t)s;
+        *at++ = (uint16_t)((s + p % places * (frames / 2 + 1)) % frames);
+        *at++ = (uint16_t)(s % 2 == 1 ? 8 * round : 58 - 6 * round);
     }
     for (unsigned m = 0; m < members; m++) {
         *at++ = (uint16_t)(m / 4);

@@ -78,7 +78,7 @@ pub fn taken(taken: Taken) -> String {
     }
 }
 
-/// Gives the whole state but the pending bits.
+/// Gives the whole state but the pending bits and the receptions.
 pub fn state(state: &State) -> String {
     let transfer = &state.transfer;
     format!(

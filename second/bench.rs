@@ -93,6 +93,7 @@ impl Bench {
             Show::Frames => with_bytes("frames", &master.buffer),
             Show::Out => with_bytes("out", &master.out()),
             Show::State => answers::state(&master.state),
+            Show::Received => with_numbers("received", &master.received()),
             Show::Taken => with_bytes("taken", &self.room),
             Show::Assembly => answers::assembly(self.reassembler.open),
         }

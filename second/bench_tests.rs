@@ -4,7 +4,9 @@ use super::*;
 
 /// Three frames (2 and 4 published, 5 received and classic), a list (4, then 2), a schedule for
 /// the list, one for the frames 2 and 5, one for requests and one for responses.
-pub const TABLE: &str = "table 3 3 2 5 2 1 1 4 2 1 5 1 2 0 0 0 3 0 1 1 0 16 9 2 0 0 8 1 \
+///
+/// Each signal, three bits, an array and eight bits, stands at offset 0 of a frame of its own.
+pub const TABLE: &str = "table 3 3 2 5 3 2 1 1 4 2 1 5 1 2 0 3 0 1 16 9 0 8 1 0 0 0 1 1 0 2 2 0 \
                          0 1 0 0 0 1 0 1 1 0 0 2 1 0 2 1 2 2 0 1 3 3 0 1";
 
 /// Plays a dialogue with a bench: lines of a request and its answer, with `=>` between.
@@ -93,6 +95,7 @@ fn before_the_first_table() {
         ahead 0 => refused 1 0
         pending => pending
         frames => frames
+        received => received
         out => out
         taken => taken",
     );
@@ -101,21 +104,21 @@ fn before_the_first_table() {
 #[test]
 fn refusal_1_comes_before_all_others() {
     play(
-        "table 1 0 0 1 2 1 0 0 0 0 0 => refused 1 10
+        "table 1 0 0 1 0 2 1 0 0 0 0 0 => refused 1 11
         buffer 7 => buffer 7
-        fresh => refused 1 10
-        write 9 99999 => refused 1 10
-        writes 9 => refused 1 10
-        row 9 : => refused 1 10
-        read 9 => refused 1 10
-        reads 9 => refused 1 10
-        select 9 => refused 1 10
-        tick => refused 1 10
-        byte 00 => refused 1 10
-        status => refused 1 10
-        send 1 0 => refused 1 10
-        message => refused 1 10
-        ahead 9 => refused 1 10
+        fresh => refused 1 11
+        write 9 99999 => refused 1 11
+        writes 9 => refused 1 11
+        row 9 : => refused 1 11
+        read 9 => refused 1 11
+        reads 9 => refused 1 11
+        select 9 => refused 1 11
+        tick => refused 1 11
+        byte 00 => refused 1 11
+        status => refused 1 11
+        send 1 0 => refused 1 11
+        message => refused 1 11
+        ahead 9 => refused 1 11
         frames => frames 00 00 00 00 00 00 00",
     );
 }
@@ -239,7 +242,7 @@ fn signals() {
 #[test]
 fn signals_of_the_paper() {
     play(
-        "table 2 2 0 0 7 2 1 8 3 1 0 0 4 12 0 1 0 4 16 0 => accepted
+        "table 2 2 0 0 2 7 2 1 8 3 1 0 12 0 0 16 0 0 0 4 1 1 4 => accepted
         fresh => fresh
         write 0 2748 => written
         write 1 4660 => written
@@ -255,7 +258,7 @@ fn tables_make_zeros_and_a_fresh_state() {
         select 0 => selected
         tick => open 42
         send 1 2 => sending
-        table 1 1 0 1 2 1 1 0 0 0 8 255 0 0 0 9 => accepted
+        table 1 1 0 1 1 2 1 1 0 8 255 0 0 0 0 0 0 9 => accepted
         pending => pending
         out => out
         message => none
@@ -278,7 +281,7 @@ fn tables_leave_the_lent_message_and_the_reassembler() {
         "lend 0A 0B => lent 2
         room 8 => room 8
         take 05 10 08 01 02 03 04 05 => started
-        table 0 0 0 1 0 2 0 1 => accepted
+        table 0 0 0 1 0 0 2 0 1 => accepted
         send 5 2 => sending
         select 0 => selected
         tick => open 3C

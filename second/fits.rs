@@ -1,4 +1,4 @@
-//! Whether a state fits the table, by refusal 3 of document 01.
+//! Whether a state fits the table, by refusal 3 of document 01 and Req 03 of document 02.
 
 use crate::diagnostic::{frame_count, Message, MESSAGE_LENGTH_MAX};
 use crate::state::{State, FRAMES_MAX};
@@ -12,6 +12,7 @@ pub fn fits(state: &State, table: &Table) -> bool {
         && pending_fits(state, table)
         && transfer_fits(state, table)
         && message_fits(&state.message)
+        && receptions_fit(state, table)
 }
 
 /// Tells whether the requested schedule and the current entry are there.
@@ -68,6 +69,18 @@ fn message_fits(message: &Message) -> bool {
         }
         _ => true,
     }
+}
+
+/// Tells whether each last reception is a placement of its signal in a frame that is received.
+fn receptions_fit(state: &State, table: &Table) -> bool {
+    let mut receptions = state.received.iter().enumerate();
+    receptions.all(|(signal, received)| match *received {
+        None => true,
+        Some(number) => table
+            .placements
+            .get(number)
+            .is_some_and(|placement| placement.signal == signal && !table.is_published(placement)),
+    })
 }
 
 #[cfg(test)]

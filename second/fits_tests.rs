@@ -2,6 +2,7 @@
 
 use crate::bench::tests::{play, play_on, TABLE};
 use crate::bench::Bench;
+use crate::table_words::{line, placed};
 
 /// Every call that tests whether the state fits.
 const CALLS: [&str; 20] = [
@@ -40,7 +41,7 @@ fn bench_with(parts: &str) -> Bench {
 /// Tests that every call refuses a state with 3 and changes nothing.
 fn expect_misfit(parts: &str) {
     let mut bench = bench_with(parts);
-    let shows = ["state", "pending", "frames", "out"];
+    let shows = ["state", "pending", "received", "frames", "out"];
     let before = shows.map(|show| bench.answer(show.as_bytes()));
     for call in CALLS {
         play_on(&mut bench, &format!("{call} => refused 3"));
@@ -151,6 +152,40 @@ fn messages() {
 }
 
 #[test]
+fn receptions() {
+    // Signals 0 and 1 are published; signal 2 is received, in placement 2.
+    expect_border("wait 0", "received 2 2", "received 2 3");
+    expect_border("wait 0", "received 2 none", "received 2 1");
+    expect_border("received 2 2", "received 0 none", "received 0 0");
+    expect_border("received 2 2", "received 1 none", "received 1 1");
+    expect_border("received 2 2", "received 3 none", "received 3 3");
+    expect_border("received 2 2", "received 255 none", "received 255 2");
+    for other in ["2 0", "2 65535", "0 2", "1 2", "3 2", "3 0", "255 0"] {
+        expect_misfit(&format!("received {other}"));
+    }
+}
+
+#[test]
+fn receptions_in_one_of_several_placements() {
+    // Signal 0 stands in frames 0 and 1, both received; signal 1 in frame 1; signal 2 is published.
+    let frames = [[1, 2, 0], [2, 2, 0], [3, 2, 1]];
+    let signals = [[0, 4, 0], [0, 4, 0], [0, 4, 0]];
+    let placements = [[0, 1, 0], [0, 0, 0], [1, 1, 4], [2, 2, 0]];
+    let table = line(&placed(&frames, &signals, &placements));
+    let right = ["0 0", "0 1", "0 none", "1 2", "2 none", "3 none"];
+    let wrong = [
+        "0 2", "0 3", "0 4", "1 0", "1 1", "1 3", "2 3", "2 0", "3 3",
+    ];
+    let rights = right.map(|part| (part, "none"));
+    let wrongs = wrong.map(|part| (part, "refused 3"));
+    for (part, answer) in rights.into_iter().chain(wrongs) {
+        play(&format!(
+            "{table} => accepted\nset received {part} => set\nmessage => {answer}"
+        ));
+    }
+}
+
+#[test]
 fn refusals_1_and_2_come_before_3() {
     let mut bench = bench_with("wait 1");
     play_on(
@@ -166,17 +201,17 @@ fn refusals_1_and_2_come_before_3() {
         message => refused 3
         ahead 9 => refused 3
         fresh => refused 2
-        table 0 0 0 0 0 => refused 1 4
+        table 0 0 0 0 0 0 => refused 1 5
         set wait 1 => set
-        select 0 => refused 1 4
-        tick => refused 1 4",
+        select 0 => refused 1 5
+        tick => refused 1 5",
     );
 }
 
 #[test]
 fn a_lent_message_of_another_length() {
     play(
-        "table 0 0 0 2 0 2 0 1 0 3 0 9 => accepted
+        "table 0 0 0 2 0 0 2 0 1 0 3 0 9 => accepted
         lend 0A 0B => lent 2
         set message sending 5 2 0 => set
         set entry 1 => set

@@ -16,6 +16,8 @@ mod settings;
 mod signals;
 mod state;
 mod table;
+#[cfg(test)]
+mod table_words;
 mod timing;
 mod transfer;
 mod wire;
@@ -97,7 +99,7 @@ mod tests {
 
     #[test]
     fn the_bench_is_kept_from_line_to_line() {
-        let input = b"room 2\ntake 01 02 08 09 00 00 00 00\ntable 0 0 0 0\ntaken";
+        let input = b"room 2\ntake 01 02 08 09 00 00 00 00\ntable 0 0 0 0 0\ntaken";
         assert_eq!(output_of(input), "room 2\ndone 2\naccepted\ntaken 08 09\n");
     }
 

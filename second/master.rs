@@ -1,4 +1,4 @@
-//! The master's calls and their refusals, by document 01 and Req 01 of document 02.
+//! The master's calls and their refusals, by document 01 and Req 01 and 03 of document 02.
 //!
 //! Each call tests its refusals in the order of their numbers, before it changes anything; a row
 //! of values tests 12 directly after 3.
@@ -8,7 +8,7 @@ use crate::fits::fits;
 use crate::refusal::Refusal;
 use crate::signals;
 use crate::state::{Came, State, Ticked};
-use crate::table::{Signal, SignalKind, Table, FRAME_BYTES};
+use crate::table::{Placement, Signal, SignalKind, Table};
 use crate::transfer::{Open, REQUEST_FRAME};
 
 /// The master: its table, its frame bytes and its state.
@@ -84,21 +84,34 @@ impl Master {
 
     /// Tests refusals 1 to 6 and gives a signal to write.
     fn writable(&self, number: usize, kind: SignalKind) -> Result<Signal, Refusal> {
-        let signal = self.signal(number)?;
-        if !self.checked_table()?.frames[signal.frame].published {
+        self.signal(number)?;
+        if !self.checked_table()?.publishes(number) {
             return Err(Refusal::NotPublished);
         }
         self.readable(number, kind).cloned()
     }
 
-    /// Gives the frame bytes of a signal's frame.
-    fn data_of(&self, signal: &Signal) -> &[u8] {
-        &self.buffer[FRAME_BYTES * signal.frame..FRAME_BYTES * (signal.frame + 1)]
+    /// Puts a value into every placement of a signal, at its offset, and marks each of its frames.
+    fn put(&mut self, number: usize, put_at: impl Fn(&mut [u8], usize)) -> Result<(), Refusal> {
+        let placements = self.checked_table()?.placements_of(number);
+        let placements: Vec<Placement> = placements.copied().collect();
+        for placement in placements {
+            put_at(&mut self.buffer[placement.frame_bytes()], placement.offset);
+            self.state.mark_written(placement.frame);
+        }
+        Ok(())
     }
 
-    /// Gives the frame bytes of a signal's frame to change them.
-    fn data_of_mut(&mut self, signal: &Signal) -> &mut [u8] {
-        &mut self.buffer[FRAME_BYTES * signal.frame..FRAME_BYTES * (signal.frame + 1)]
+    /// Gives the placement that a read goes by; there is none where the signal was never received.
+    ///
+    /// A published signal is read in its first placement, another one in the one received last.
+    fn read_placement(&self, number: usize) -> Result<Option<&Placement>, Refusal> {
+        let table = self.checked_table()?;
+        if table.publishes(number) {
+            return Ok(table.placements_of(number).next());
+        }
+        let received = self.state.received[number];
+        Ok(received.map(|placement| &table.placements[placement]))
     }
 
     /// Writes a scalar.
@@ -107,10 +120,9 @@ impl Master {
         if value >= 1 << signal.width {
             return Err(Refusal::ValueOutOfRange);
         }
-        let data = self.data_of_mut(&signal);
-        signals::put_scalar(data, signal.offset, signal.width, value as u16);
-        self.state.mark_written(signal.frame);
-        Ok(())
+        self.put(number, |data, offset| {
+            signals::put_scalar(data, offset, signal.width, value as u16);
+        })
     }
 
     /// Writes a row of scalars one by one, or none of them where one is refused.
@@ -135,23 +147,29 @@ impl Master {
         if bytes.len() * 8 != signal.width {
             return Err(Refusal::ValueOutOfRange);
         }
-        signals::put_array(self.data_of_mut(&signal), signal.offset, bytes);
-        self.state.mark_written(signal.frame);
-        Ok(())
+        self.put(number, |data, offset| {
+            signals::put_array(data, offset, bytes);
+        })
     }
 
     /// Reads a scalar.
     pub fn read(&self, number: usize) -> Result<u16, Refusal> {
         let signal = self.readable(number, SignalKind::Scalar)?;
-        let data = self.data_of(signal);
-        Ok(signals::scalar(data, signal.offset, signal.width))
+        let Some(placement) = self.read_placement(number)? else {
+            return Ok(signal.start);
+        };
+        let data = &self.buffer[placement.frame_bytes()];
+        Ok(signals::scalar(data, placement.offset, signal.width))
     }
 
     /// Reads an array.
     pub fn read_array(&self, number: usize) -> Result<Vec<u8>, Refusal> {
         let signal = self.readable(number, SignalKind::Array)?;
-        let data = self.data_of(signal);
-        Ok(signals::array(data, signal.offset, signal.width))
+        let Some(placement) = self.read_placement(number)? else {
+            return Ok(signal.start_bytes());
+        };
+        let data = &self.buffer[placement.frame_bytes()];
+        Ok(signals::array(data, placement.offset, signal.width))
     }
 
     /// Asks for a schedule.
@@ -228,6 +246,13 @@ impl Master {
         frames.filter(|&frame| self.state.pending[frame]).collect()
     }
 
+    /// Gives each signal that has a last reception, with the number of its placement behind it.
+    pub fn received(&self) -> Vec<usize> {
+        let receptions = self.state.received.iter().enumerate();
+        let pairs = receptions.filter_map(|(signal, placement)| Some([signal, (*placement)?]));
+        pairs.flatten().collect()
+    }
+
     /// Gives the bytes that the master sends in the open transfer; a wrong table has no frames.
     pub fn out(&self) -> Vec<u8> {
         let transfer = &self.state.transfer;
@@ -246,6 +271,10 @@ impl Master {
 #[cfg(test)]
 #[path = "master_tests.rs"]
 mod tests;
+
+#[cfg(test)]
+#[path = "placement_tests.rs"]
+mod placement_tests;
 
 #[cfg(test)]
 #[path = "row_tests.rs"]

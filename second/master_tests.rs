@@ -264,7 +264,7 @@ fn failed_messages() {
 #[test]
 fn a_delay_of_1_starts_a_slot_at_every_tick_and_65535_waits() {
     play(
-        "table 0 0 0 2 0 3 0 1 1 3 0 65535 => accepted
+        "table 0 0 0 2 0 0 3 0 1 1 3 0 65535 => accepted
         select 0 => selected
         tick => open 7D
         tick => open 7D
@@ -272,7 +272,7 @@ fn a_delay_of_1_starts_a_slot_at_every_tick_and_65535_waits() {
         tick => open 7D",
     );
     let mut bench = crate::bench::Bench::new();
-    bench.answer(b"table 0 0 0 1 0 3 0 65535");
+    bench.answer(b"table 0 0 0 1 0 0 3 0 65535");
     bench.answer(b"select 0");
     assert_eq!(bench.answer(b"tick").unwrap(), "open 7D");
     for _ in 1..65_535 {
@@ -307,7 +307,7 @@ fn fresh_begins_anew_and_leaves_the_lent_message() {
 #[test]
 fn a_whole_message_of_4095_bytes_takes_683_frames() {
     let mut bench = crate::bench::Bench::new();
-    bench.answer(b"table 0 0 0 1 0 2 0 1");
+    bench.answer(b"table 0 0 0 1 0 0 2 0 1");
     bench.lent = vec![0xA5; 4_095];
     bench.answer(b"send 1 4095");
     bench.answer(b"select 0");

@@ -5,8 +5,8 @@ use crate::bench::Bench;
 
 /// Frames 2 (signal 0, three bits) and 4 (signal 1, an array, and signal 3, eight bits) are
 /// published and stand in a list with a slot at every tick; frame 5 (signal 2) is received.
-const TABLE: &str = "table 3 4 2 1 2 1 1 4 3 1 5 1 2 0 0 0 3 5 1 1 0 16 9 2 0 0 8 1 \
-                     1 0 16 8 100 0 0 0 1 0 1 0 1";
+const TABLE: &str = "table 3 4 2 1 4 2 1 1 4 3 1 5 1 2 0 3 5 1 16 9 0 8 1 0 8 100 \
+                     0 0 0 1 1 0 2 2 0 3 1 16 0 0 0 1 0 1 0 1";
 
 /// Gives a bench that has taken `TABLE` and a fresh call.
 fn fresh_bench() -> Bench {
@@ -21,8 +21,8 @@ fn play_fresh(dialogue: &str) {
 }
 
 /// Gives everything that a row may change.
-fn shown(bench: &mut Bench) -> [Option<String>; 4] {
-    ["state", "pending", "frames", "out"].map(|show| bench.answer(show.as_bytes()))
+fn shown(bench: &mut Bench) -> [Option<String>; 5] {
+    ["state", "pending", "received", "frames", "out"].map(|show| bench.answer(show.as_bytes()))
 }
 
 /// Tests that each of these requests has its answer and changes nothing.
@@ -66,13 +66,13 @@ fn empty_rows_write_nothing() {
 #[test]
 fn refusals_1_to_3_come_first() {
     let rows = ["row 0 : 0", "row :", "row 0 :", "row : 0", "row 9 : 8"];
-    let wrong_table = "table 0 0 0 0 7";
+    let wrong_table = "table 0 0 0 0 0 7";
     for row in rows {
         play(&format!(
             "{row} => refused 1 0
-            {wrong_table} => refused 1 4
+            {wrong_table} => refused 1 5
             buffer 1 => buffer 1
-            {row} => refused 1 4
+            {row} => refused 1 5
             {TABLE} => accepted
             set wait 1 => set
             buffer 23 => buffer 23

@@ -80,6 +80,8 @@ pub enum Show {
     Out,
     /// `state`
     State,
+    /// `received`
+    Received,
     /// `taken`
     Taken,
     /// `assembly`
@@ -124,6 +126,7 @@ fn plain_request(fields: &[&[u8]]) -> Option<Request> {
         [b"frames"] => Some(Request::Show(Show::Frames)),
         [b"out"] => Some(Request::Show(Show::Out)),
         [b"state"] => Some(Request::Show(Show::State)),
+        [b"received"] => Some(Request::Show(Show::Received)),
         [b"taken"] => Some(Request::Show(Show::Taken)),
         [b"assembly"] => Some(Request::Show(Show::Assembly)),
         _ => None,

@@ -3,7 +3,7 @@
 use crate::diagnostic::Message;
 use crate::fields::{bit, byte_number, number, pair, pairs, word};
 use crate::reassembler::OpenMessage;
-use crate::state::{State, FRAMES_MAX};
+use crate::state::{State, FRAMES_MAX, SIGNALS_MAX};
 use crate::transfer::{Open, Status, RESPONSE_BYTES};
 
 /// What a `set` line sets.
@@ -38,6 +38,11 @@ pub enum Part {
     Status(Status),
     /// `set pending F B`
     Pending { frame: usize, pending: bool },
+    /// `set received S K` and `set received S none`
+    Received {
+        signal: usize,
+        placement: Option<usize>,
+    },
 }
 
 impl Setting {
@@ -75,6 +80,10 @@ impl Part {
                 frame: number(frame, FRAMES_MAX as u64 - 1)? as usize,
                 pending: bit(pending)?,
             }),
+            [b"received", signal, placement] => Some(Part::Received {
+                signal: number(signal, SIGNALS_MAX as u64 - 1)? as usize,
+                placement: number_or_none(placement)?,
+            }),
             _ => None,
         }
     }
@@ -92,6 +101,7 @@ impl Part {
             Part::Message(message) => state.message = message,
             Part::Status(status) => state.status = status,
             Part::Pending { frame, pending } => state.pending[frame] = pending,
+            Part::Received { signal, placement } => state.received[signal] = placement,
         }
     }
 }

@@ -26,6 +26,9 @@ fn every_part_is_set_and_shown() {
         set status 1 0 1 FF => set
         set pending 59 1 => set
         set pending 0 01 => set
+        set received 255 65535 => set
+        set received 00 00 => set
+        received => received 0 0 255 65535
         state => state wait 65535 entry 65535 request 65535 open frame 65535 count 255 bytes 00 01 02 03 04 05 06 07 FF written 1 message sending 255 65535 65535 status 1 0 1 FF
         pending => pending 0 59
         set pending 59 0 => set
@@ -51,10 +54,11 @@ fn table_and_fresh_set_all_parts_anew() {
         set bytes 00 01 02 03 04 05 06 07 08 => set
         set written 1 => set
         set status 0 1 0 42 => set
-        set pending 0 1 => set";
+        set pending 0 1 => set
+        set received 2 2 => set";
     play_fresh(&format!(
-        "{parts}\nfresh => fresh\nstate => {FRESH}\npending => pending
-        {parts}\ntable 9 => refused 1 1\nstate => {FRESH}\npending => pending"
+        "{parts}\nfresh => fresh\nstate => {FRESH}\npending => pending\nreceived => received
+        {parts}\ntable 9 => refused 1 1\nstate => {FRESH}\npending => pending\nreceived => received"
     ));
 }
 
@@ -62,7 +66,7 @@ fn table_and_fresh_set_all_parts_anew() {
 fn expect_nothing_set(lines: &[&str]) {
     for line in lines {
         play(&format!(
-            "set {line}=> ?\nstate => {FRESH}\nassembly => assembly none"
+            "set {line}=> ?\nstate => {FRESH}\nreceived => received\nassembly => assembly none"
         ));
     }
 }
@@ -84,6 +88,11 @@ fn numbers_above_their_limits() {
         "status 0 0 2 00",
         "pending 60 0",
         "pending 0 2",
+        "received 256 0",
+        "received 256 none",
+        "received 65536 0",
+        "received 0 65536",
+        "received 255 4294967296",
         "assembly 256 7 5 1",
         "assembly 1 65536 5 1",
         "assembly 1 7 65536 1",
@@ -108,6 +117,9 @@ fn too_few_fields() {
         "message sending 1 1",
         "status 0 0 0",
         "pending 0",
+        "received",
+        "received 0",
+        "received none",
         "assembly",
         "assembly 1 7 5",
     ]);
@@ -130,6 +142,9 @@ fn too_many_fields() {
         "message failed 1",
         "status 0 0 0 00 00",
         "pending 0 0 0",
+        "received 0 0 0",
+        "received 0 none 0",
+        "received 0 0 none",
         "assembly 1 7 5 1 1",
         "assembly none 1",
     ]);
@@ -151,9 +166,18 @@ fn other_fields() {
         "message done",
         "status 0 0 0 0",
         "status 0 0 0 ff",
+        "received none 0",
+        "received none none",
+        "received 0 never",
+        "received 0 None",
+        "received 0 -1",
+        "received  0 0",
+        "received 0  0",
+        "Received 0 0",
+        "reception 0 0",
         "assembly nothing",
     ]);
-    play("set => ?\nSet wait 1 => ?\nstate 1 => ?\nassembly 1 => ?");
+    play("set => ?\nSet wait 1 => ?\nstate 1 => ?\nassembly 1 => ?\nreceived 1 => ?\nreceived none => ?");
 }
 
 #[test]
@@ -209,7 +233,7 @@ fn sent_bytes_are_compared_as_they_are_set() {
 #[test]
 fn received_bytes_stand_behind_those_that_are_set() {
     play(
-        "table 1 0 0 1 5 3 2 0 0 0 4 => accepted
+        "table 1 0 0 1 0 5 3 2 0 0 0 4 => accepted
         set entry 0 => set
         set open frame 0 => set
         set bytes 01 EE EE EE 55 66 77 88 99 => set
@@ -278,7 +302,7 @@ fn a_mark_keeps_what_is_pending() {
 #[test]
 fn a_message_goes_on_from_any_frame() {
     play(
-        "table 0 0 0 1 0 2 0 1 => accepted
+        "table 0 0 0 1 0 0 2 0 1 => accepted
         lend 01 02 03 04 05 06 07 08 09 0A 0B 0C => lent 12
         set message sending 7 12 1 => set
         select 0 => selected

@@ -1,4 +1,4 @@
-//! The master's state and its steps, by "Calls and steps" of document 01.
+//! The master's state and its steps, by "Calls and steps" of document 01 and Req 03 of document 02.
 //!
 //! The steps here take a right table, a buffer and a state that fit it; refusals are tested before.
 
@@ -8,6 +8,9 @@ use crate::transfer::{protected_identifier, Open, Status, Transfer, Verdict, REQ
 
 /// The largest number of frames in a table.
 pub const FRAMES_MAX: usize = 60;
+
+/// The largest number of signals in a table.
+pub const SIGNALS_MAX: usize = 256;
 
 /// The answer to a tick.
 #[derive(Debug, Clone, Copy, PartialEq, Eq)]
@@ -42,10 +45,12 @@ pub struct State {
     pub transfer: Transfer,
     pub message: Message,
     pub status: Status,
+    /// For each signal the number of the placement that was received last, if any was.
+    pub received: [Option<usize>; SIGNALS_MAX],
 }
 
 impl State {
-    /// Gives the state with nothing pending, no schedule, no transfer, no message, status 0.
+    /// Gives the state with nothing pending, no schedule, no transfer, no message, status 0 and no reception.
     pub fn fresh() -> State {
         State {
             pending: [false; FRAMES_MAX],
@@ -55,6 +60,7 @@ impl State {
             transfer: Transfer::none(),
             message: Message::None,
             status: Status::default(),
+            received: [None; SIGNALS_MAX],
         }
     }
 
@@ -63,6 +69,15 @@ impl State {
         self.pending[frame] = true;
         if self.transfer.open == Open::Frame(frame) {
             self.transfer.written = true;
+        }
+    }
+
+    /// Makes the placements in a frame those that were received last.
+    fn mark_received(&mut self, table: &Table, frame: usize) {
+        for (number, placement) in table.placements.iter().enumerate() {
+            if placement.frame == frame {
+                self.received[placement.signal] = Some(number);
+            }
         }
     }
 
@@ -135,6 +150,7 @@ impl State {
             Open::Frame(number) if !frame.published => {
                 let begin = FRAME_BYTES * number;
                 buffer[begin..begin + frame.length].copy_from_slice(&data);
+                self.mark_received(table, number);
                 Came::Success
             }
             _ => Came::Success,

@@ -1,9 +1,11 @@
-//! The records of a cluster table that the check accepts, by "The cluster table" of document 01.
+//! The records of a cluster table that the check accepts, by "The cluster table" of document 01 and
+//! Req 03 of document 02.
 
-use crate::cluster::{self, ENTRIES, FRAMES, MEMBERS, SIGNALS};
+use crate::cluster::{self, ENTRIES, FRAMES, MEMBERS, PLACEMENTS, SIGNALS};
 use crate::refusal::Refusal;
 use crate::signals;
 use crate::wire::ChecksumModel;
+use std::ops::Range;
 
 /// The bytes of the frame buffer that belong to one frame.
 pub const FRAME_BYTES: usize = 8;
@@ -29,15 +31,36 @@ pub enum SignalKind {
 /// One signal.
 #[derive(Debug, Clone, PartialEq, Eq)]
 pub struct Signal {
-    /// The number of its frame.
-    pub frame: usize,
     pub kind: SignalKind,
-    /// Its first data bit.
-    pub offset: usize,
     /// Its number of data bits.
     pub width: usize,
-    /// The value of a scalar, or of each byte of an array, after fresh.
+    /// The value of a scalar, or of each byte of an array, after fresh and before any reception.
     pub start: u16,
+}
+
+impl Signal {
+    /// Gives the bytes of an array at the start.
+    pub fn start_bytes(&self) -> Vec<u8> {
+        vec![self.start as u8; self.width / 8]
+    }
+}
+
+/// One place of a signal.
+#[derive(Debug, Clone, Copy, PartialEq, Eq)]
+pub struct Placement {
+    /// The number of its signal.
+    pub signal: usize,
+    /// The number of its frame.
+    pub frame: usize,
+    /// Its first data bit in the frame.
+    pub offset: usize,
+}
+
+impl Placement {
+    /// Gives where the bytes of its frame stand in the frame buffer.
+    pub fn frame_bytes(&self) -> Range<usize> {
+        FRAME_BYTES * self.frame..FRAME_BYTES * (self.frame + 1)
+    }
 }
 
 /// What a slot opens.
@@ -68,6 +91,8 @@ pub struct Entry {
 pub struct Table {
     pub frames: Vec<Frame>,
     pub signals: Vec<Signal>,
+    /// The places of all signals, by ascending signal numbers; each signal has one at least.
+    pub placements: Vec<Placement>,
     /// The frame numbers of each list's members, in priority order.
     pub lists: Vec<Vec<usize>>,
     /// The entries of all schedules, in the table's order.
@@ -81,13 +106,15 @@ impl Table {
             return Err(Refusal::TableFault(position));
         }
         let (frames, _) = cluster::records::<3>(words, FRAMES);
-        let (signals, _) = cluster::records::<5>(words, SIGNALS);
+        let (signals, _) = cluster::records::<3>(words, SIGNALS);
+        let (placements, _) = cluster::records::<3>(words, PLACEMENTS);
         let (members, _) = cluster::records::<2>(words, MEMBERS);
         let (entries, _) = cluster::records::<4>(words, ENTRIES);
         let members = members.iter().map(|&[list, frame]| (list, frame.into()));
         Ok(Table {
             frames: frames.iter().map(read_frame).collect(),
             signals: signals.iter().map(read_signal).collect(),
+            placements: placements.iter().map(read_placement).collect(),
             lists: grouped(members),
             entries: entries.iter().map(read_entry).collect(),
         })
@@ -118,18 +145,35 @@ impl Table {
         FRAME_BYTES * self.frames.len()
     }
 
+    /// Gives the placements of a signal, in the table's order.
+    pub fn placements_of(&self, signal: usize) -> impl Iterator<Item = &Placement> {
+        let placements = self.placements.iter();
+        placements.filter(move |placement| placement.signal == signal)
+    }
+
+    /// Tells whether the master publishes the frame of a placement.
+    pub fn is_published(&self, placement: &Placement) -> bool {
+        self.frames[placement.frame].published
+    }
+
+    /// Tells whether the master publishes a signal: all its frames are published, or none is.
+    pub fn publishes(&self, signal: usize) -> bool {
+        let mut placements = self.placements_of(signal);
+        placements.any(|placement| self.is_published(placement))
+    }
+
     /// Gives the frame bytes that a fresh call leaves.
     pub fn fresh_buffer(&self) -> Vec<u8> {
         let mut buffer = vec![255; self.buffer_length()];
-        for signal in &self.signals {
-            let data = &mut buffer[FRAME_BYTES * signal.frame..FRAME_BYTES * (signal.frame + 1)];
+        for placement in &self.placements {
+            let signal = &self.signals[placement.signal];
+            let data = &mut buffer[placement.frame_bytes()];
             match signal.kind {
                 SignalKind::Scalar => {
-                    signals::put_scalar(data, signal.offset, signal.width, signal.start);
+                    signals::put_scalar(data, placement.offset, signal.width, signal.start);
                 }
                 SignalKind::Array => {
-                    let bytes = vec![signal.start as u8; signal.width / 8];
-                    signals::put_array(data, signal.offset, &bytes);
+                    signals::put_array(data, placement.offset, &signal.start_bytes());
                 }
             }
         }
@@ -152,17 +196,24 @@ fn read_frame(&[identifier, length, flags]: &[u16; 3]) -> Frame {
 }
 
 /// Reads a signal record.
-fn read_signal(&[frame, kind, offset, width, start]: &[u16; 5]) -> Signal {
+fn read_signal(&[kind, width, start]: &[u16; 3]) -> Signal {
     Signal {
-        frame: frame.into(),
         kind: if kind == 0 {
             SignalKind::Scalar
         } else {
             SignalKind::Array
         },
-        offset: offset.into(),
         width: width.into(),
         start,
+    }
+}
+
+/// Reads a placement record.
+fn read_placement(&[signal, frame, offset]: &[u16; 3]) -> Placement {
+    Placement {
+        signal: signal.into(),
+        frame: frame.into(),
+        offset: offset.into(),
     }
 }
 
@@ -196,51 +247,75 @@ fn grouped<T>(items: impl Iterator<Item = (u16, T)>) -> Vec<Vec<T>> {
 #[cfg(test)]
 mod tests {
     use super::*;
+    use crate::table_words::{placed, unplaced, worked};
 
     #[test]
     fn a_fault_is_refused_with_its_position() {
         assert_eq!(Table::read(&[]), Err(Refusal::TableFault(0)));
-        assert_eq!(Table::read(&[0, 0, 0, 0, 9]), Err(Refusal::TableFault(4)));
+        assert_eq!(
+            Table::read(&[0, 0, 0, 0, 0, 9]),
+            Err(Refusal::TableFault(5))
+        );
     }
 
     #[test]
-    fn frames_and_signals() {
-        let words = [
-            2, 2, 0, 0, 7, 8, 1, 9, 2, 2, 1, 0, 3, 12, 4095, 0, 1, 16, 48, 9,
-        ];
+    fn frames_signals_and_placements() {
+        let frames = [[7, 8, 1], [9, 2, 2]];
+        let signals = [[0, 12, 4095], [1, 48, 9]];
+        let words = placed(&frames, &signals, &[[0, 1, 3], [1, 0, 16]]);
         let table = Table::read(&words).unwrap();
         assert_eq!(table.buffer_length(), 16);
         assert_eq!(table.frames[0].identifier, 7);
         assert_eq!(table.frames[0].length, 8);
-        assert_eq!(
-            table
-                .frames
-                .iter()
-                .map(|frame| frame.published)
-                .collect::<Vec<_>>(),
-            [true, false]
-        );
+        let published: Vec<bool> = table.frames.iter().map(|frame| frame.published).collect();
+        assert_eq!(published, [true, false]);
         assert_eq!(table.frames[0].model, ChecksumModel::Enhanced);
         assert_eq!(table.frames[1].model, ChecksumModel::Classic);
         let scalar = Signal {
-            frame: 1,
             kind: SignalKind::Scalar,
-            offset: 3,
             width: 12,
             start: 4095,
         };
         assert_eq!(table.signals[0], scalar);
         assert_eq!(table.signals[1].kind, SignalKind::Array);
+        assert_eq!(table.signals[1].start_bytes(), [9; 6]);
+        let placement = Placement {
+            signal: 0,
+            frame: 1,
+            offset: 3,
+        };
+        assert_eq!(table.placements[0], placement);
+        assert_eq!(table.placements[0].frame_bytes(), 8..16);
+        assert!(!table.publishes(0) && table.publishes(1));
+    }
+
+    #[test]
+    fn placements_of_a_signal() {
+        let table = Table::read(&worked().words()).unwrap();
+        let places = |signal| -> Vec<(usize, usize)> {
+            let placements = table.placements_of(signal);
+            placements
+                .map(|place| (place.frame, place.offset))
+                .collect()
+        };
+        assert_eq!(places(0), [(0, 0), (1, 4)]);
+        assert_eq!(places(1), [(1, 8)]);
+        assert_eq!(places(2), []);
     }
 
     #[test]
     fn lists_and_schedules() {
-        let mut words = vec![3, 0, 3, 5];
-        words.extend([1, 1, 1, 2, 1, 3, 3, 1, 1]);
-        words.extend([0, 2, 0, 0, 1, 1]);
-        words.extend([
-            0, 0, 1, 5, 0, 1, 1, 6, 1, 2, 0, 7, 2, 3, 0, 65_535, 2, 1, 0, 1,
-        ]);
+        let words = unplaced(
+            &[[1, 1, 1], [2, 1, 3], [3, 1, 1]],
+            &[[0, 2], [0, 0], [1, 1]],
+            &[
+                [0, 0, 1, 5],
+                [0, 1, 1, 6],
+                [1, 2, 0, 7],
+                [2, 3, 0, 65_535],
+                [2, 1, 0, 1],
+            ],
+        );
         let table = Table::read(&words).unwrap();
         assert_eq!(table.lists, [vec![2, 0], vec![1]]);
         let entries: Vec<(usize, Slot, u16)> = table
@@ -268,13 +343,21 @@ mod tests {
 
     #[test]
     fn fresh_bytes() {
-        let words = [
-            2, 3, 0, 0, 7, 8, 1, 9, 2, 2, 1, 0, 3, 12, 0, 0, 1, 16, 32, 9, 0, 0, 63, 1, 0,
-        ];
+        let frames = [[7, 8, 1], [9, 2, 2]];
+        let signals = [[0, 12, 0], [1, 32, 9], [0, 1, 0]];
+        let words = placed(&frames, &signals, &[[0, 1, 3], [1, 0, 16], [2, 0, 63]]);
         let table = Table::read(&words).unwrap();
         let mut expected = vec![255, 255, 9, 9, 9, 9, 255, 127];
         expected.extend([0b0000_0111, 0b1000_0000, 255, 255, 255, 255, 255, 255]);
         assert_eq!(table.fresh_buffer(), expected);
-        assert_eq!(Table::read(&[0, 0, 0, 0]).unwrap().fresh_buffer(), []);
+        assert_eq!(Table::read(&[0; 5]).unwrap().fresh_buffer(), []);
+    }
+
+    #[test]
+    fn fresh_bytes_of_the_worked_table() {
+        let table = Table::read(&worked().words()).unwrap();
+        let mut expected = vec![0xF5, 255, 255, 255, 255, 255, 255, 255];
+        expected.extend([0x5F, 0x00, 255, 255, 255, 255, 255, 255]);
+        assert_eq!(table.fresh_buffer(), expected);
     }
 }

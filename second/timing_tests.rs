@@ -6,18 +6,14 @@
 use super::*;
 use crate::bench::tests::{play, play_on};
 use crate::bench::Bench;
+use crate::table_words::unplaced;
 use Judged::{Holds, Short};
 
 /// Gives a table of frames with these lengths, all published, these members and these entries.
 fn table(lengths: &[u16], members: &[[u16; 2]], entries: &[[u16; 4]]) -> Table {
-    let counts = [lengths.len(), 0, members.len(), entries.len()];
-    let mut words = counts.map(|count| count as u16).to_vec();
-    for (identifier, &length) in (0..).zip(lengths) {
-        words.extend([identifier, length, 1]);
-    }
-    words.extend(members.concat());
-    words.extend(entries.concat());
-    Table::read(&words).expect("a right table")
+    let numbered = (0..).zip(lengths);
+    let frames: Vec<[u16; 3]> = numbered.map(|(n, &length)| [n, length, 1]).collect();
+    Table::read(&unplaced(&frames, members, entries)).expect("a right table")
 }
 
 /// Gives a table of one frame in one slot.
@@ -104,7 +100,7 @@ fn requests_and_responses_have_eight_bytes() {
 
 #[test]
 fn a_received_frame_counts() {
-    let words = |delay| [1, 0, 0, 1, 2, 4, 0, 0, 0, 0, delay];
+    let words = |delay| [1, 0, 0, 1, 0, 2, 4, 0, 0, 0, 0, delay];
     expect(&Table::read(&words(84)).unwrap(), 14, 100, Holds);
     expect(&Table::read(&words(83)).unwrap(), 14, 100, Short(0));
 }
@@ -182,14 +178,14 @@ fn refusal_1_comes_first() {
     play(
         "judge 1 1 => refused 1 0
         judge 0 0 => refused 1 0
-        table 0 0 0 1 0 3 0 x => ?
+        table 0 0 0 1 0 0 3 0 x => ?
         judge 0 65536 => refused 1 0
-        table 0 0 0 1 0 3 0 0 => refused 1 7
-        judge 1736 100 => refused 1 7
-        judge 0 100 => refused 1 7
-        table 0 0 0 1 0 3 0 1 => accepted
+        table 0 0 0 1 0 0 3 0 0 => refused 1 8
+        judge 1736 100 => refused 1 8
+        judge 0 100 => refused 1 8
+        table 0 0 0 1 0 0 3 0 1 => accepted
         judge 0 100 => refused 13
-        table 0 0 0 1 0 3 0 x => ?
+        table 0 0 0 1 0 0 3 0 x => ?
         judge 1736 100 => holds
         judge 1735 100 => short 0",
     );
@@ -200,17 +196,18 @@ fn the_state_and_the_buffer_do_not_matter() {
     let mut bench = Bench::new();
     play_on(
         &mut bench,
-        "table 1 0 1 2 2 1 1 0 0 0 1 0 1 0 2 0 1 => accepted
+        "table 1 0 1 2 0 2 1 1 0 0 0 1 0 1 0 2 0 1 => accepted
         set entry 9 => set
         set wait 9 => set
         set open frame 7 => set
         set pending 59 1 => set
         set message sending 1 0 9 => set
+        set received 9 9 => set
         buffer 3 => buffer 3
         tick => refused 2
         message => refused 3",
     );
-    let shows = ["state", "pending", "frames", "out"];
+    let shows = ["state", "pending", "received", "frames", "out"];
     let before = shows.map(|show| bench.answer(show.as_bytes()));
     play_on(
         &mut bench,

@@ -11,6 +11,9 @@ mod damaged;
 #[path = "scripts/random.rs"]
 mod random;
 #[allow(dead_code)]
+#[path = "scripts/signal_tables.rs"]
+mod signal_tables;
+#[allow(dead_code)]
 #[path = "scripts/tables.rs"]
 mod tables;
 #[path = "scripts/times.rs"]
@@ -168,12 +171,13 @@ fn odd_lines() -> Vec<Vec<u8>> {
         "checksum 1 classic 0", "checksum 1 classic 00 0a", "checksum 1 classic 00  00", "checksum 256 classic 00",
         "checksum 1 classic..", "checksum 1 classic00", "checksum 1 classicenhanced 00", "tock", "?", "pid 1\r", "\r",
         "table", "table ", " table", "table 1 ", "table 61", "table 65535", "table 65536", "table 61 65536", "table x",
-        "table 61 x", "table 0", "table 0 0", "table 0 0 0", "table 0 0 0 0", "table 0 0 0 0 ", "table 0 0 0 0 0",
-        "table  0 0 0 0", "table 0 0  0 0", "table 00000 0 0 0", "table 0 0 0 0000000065536", "table 0 0 0 65537",
-        "table 0 0 0 4294967296", "table 18446744073709551616 0 0 0", "table 0 0 0 -0", "table +0 0 0 0",
-        "table 0 0 0 0\r", "table\t0 0 0 0", "table 0 0 0 0x0", "table 0 0 0 FF", "table ..", "table0 0 0 0", "tables",
-        "Table 0 0 0 0", "table 60 256 60 256", "table 60 256 60 257", "table 60 256 61", "table 60 257", "table 0 1 0 0",
-        "table 0 0 1 0 0 0",
+        "table 61 x", "table 0", "table 0 0", "table 0 0 0", "table 0 0 0 0", "table 0 0 0 0 0", "table 0 0 0 0 0 ",
+        "table 0 0 0 0 0 0", "table  0 0 0 0 0", "table 0 0  0 0 0", "table 00000 0 0 0 0", "table 0 0 0 0 0000000065536",
+        "table 0 0 0 0 65537", "table 0 0 0 0 4294967296", "table 18446744073709551616 0 0 0 0", "table 0 0 0 0 -0",
+        "table +0 0 0 0 0", "table 0 0 0 0 0\r", "table\t0 0 0 0 0", "table 0 0 0 0 0x0", "table 0 0 0 0 FF", "table ..",
+        "table0 0 0 0 0", "tables", "Table 0 0 0 0 0", "table 60 256 60 256 512", "table 60 256 60 256 513",
+        "table 60 256 60 257", "table 60 256 61", "table 60 257", "table 0 1 0 0 0", "table 0 1 0 0 0 0 1 0",
+        "table 0 1 0 0 0 0 1 0 0", "table 0 0 0 0 1 0 0 0", "table 0 0 1 0 0 0 0",
     ]
     .iter()
     .map(|line| line.as_bytes().to_vec())
@@ -189,7 +193,7 @@ fn odd_lines() -> Vec<Vec<u8>> {
         }
         lines.push(data);
         lines.push(table_of_zeros(length));
-        lines.push([b"table 0 0 0 ".to_vec(), vec![b'0'; length - 12]].concat());
+        lines.push([b"table 0 0 0 0 ".to_vec(), vec![b'0'; length - 14]].concat());
         lines.push(vec![b'#'; length]);
         lines.push(vec![b'x'; length]);
     }
@@ -203,7 +207,7 @@ fn odd_judge_lines() -> Vec<Vec<u8>> {
         lines.push(format!("judge {}1736 100", "0".repeat(length - 14)).into_bytes());
         lines.push(format!("judge 1735 {}100", "0".repeat(length - 14)).into_bytes());
     }
-    [lines.clone(), vec![b"table 0 0 0 1 0 2 0 1".to_vec()], lines].concat()
+    [lines.clone(), vec![b"table 0 0 0 1 0 0 2 0 1".to_vec()], lines].concat()
 }
 
 /// All requests: odd judge lines before any table, every identifier, every byte, odd lines, the checksums, damaged

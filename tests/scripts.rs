@@ -49,6 +49,8 @@ mod random;
 mod reassembler;
 #[path = "scripts/reassembly.rs"]
 mod reassembly;
+#[path = "scripts/receptions.rs"]
+mod receptions;
 #[path = "../second/refusal.rs"]
 mod refusal;
 #[path = "scripts/rows.rs"]
@@ -63,6 +65,8 @@ mod setting;
 mod settings;
 #[path = "scripts/settings_lines.rs"]
 mod settings_lines;
+#[path = "scripts/signal_tables.rs"]
+mod signal_tables;
 #[path = "../second/signals.rs"]
 mod signals;
 #[path = "../second/state.rs"]

@@ -7,7 +7,7 @@ use crate::settings_lines;
 use crate::tables::{right_table, table_line, Size};
 
 /// Every call of the master, the judge, and the lines that show what a call may have changed.
-const CALLS: [&str; 22] = [
+const CALLS: [&str; 23] = [
     "fresh",
     "write 0 0",
     "writes 0 00",
@@ -30,6 +30,7 @@ const CALLS: [&str; 22] = [
     "frames",
     "out",
     "state",
+    "received",
 ];
 
 /// Sets some parts of the state, whatever the table is.
@@ -93,14 +94,22 @@ pub fn empty_tables(script: &mut Script) {
         "table 0",
         "table 0 0",
         "table 0 0 0",
+        "table 0 0 0 0",
         "table 61",
         "table 60",
         "table 0 257",
         "table 0 0 61",
         "table 0 0 0 257",
+        "table 0 0 0 0 513",
+        "table 0 0 0 0 0 0",
+        "table 1 0 0 0 0",
+        "table 0 1 0 0 0",
+        "table 0 1 0 0 0 0 1 0",
+        "table 0 1 0 0 0 0 1 0 0",
+        "table 0 0 0 0 1",
+        "table 0 0 0 0 1 0 0 0",
+        "table 0 0 0 0 512",
         "table 0 0 0 0 0",
-        "table 1 0 0 0",
-        "table 0 0 0 0",
     ] {
         script.say(line);
         let count = script.random.one_of(&[2, 5, CALLS.len()]);

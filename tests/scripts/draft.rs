@@ -8,6 +8,9 @@ use crate::transfer::Open;
 /// The state is shown after one of so many lines.
 const STATE_SHOWN: usize = 12;
 
+/// The receptions are shown after one of so many lines.
+const RECEPTIONS_SHOWN: usize = 40;
+
 /// A script and the bench it leads to, by which its further lines are steered.
 pub struct Script {
     pub bench: Bench,
@@ -43,6 +46,9 @@ impl Script {
         }
         if self.random.once_in(STATE_SHOWN) {
             self.add(b"state".to_vec());
+        }
+        if self.random.once_in(RECEPTIONS_SHOWN) {
+            self.add(b"received".to_vec());
         }
         answer
     }

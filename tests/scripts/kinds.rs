@@ -3,7 +3,7 @@
 use crate::draft::Script;
 use crate::tables::Size;
 use crate::{assemblies, borders, damage, judging, limits, lines, messages, reassembly};
-use crate::{rows, runs, setting, settings_lines, values};
+use crate::{receptions, rows, runs, setting, settings_lines, values};
 
 /// Fills a script with one to four acts and looks at the state at the end.
 pub fn fill(script: &mut Script) {
@@ -11,7 +11,8 @@ pub fn fill(script: &mut Script) {
         act(script);
     }
     for line in [
-        "state", "out", "pending", "frames", "assembly", "taken", "status", "message", "tick",
+        "state", "out", "pending", "received", "frames", "assembly", "taken", "status", "message",
+        "tick",
     ] {
         script.say(line);
     }
@@ -19,7 +20,7 @@ pub fn fill(script: &mut Script) {
 
 /// Adds one act of any kind.
 fn act(script: &mut Script) {
-    match script.random.below(1_040) {
+    match script.random.below(1_120) {
         0..=139 => run(script, &[Size::Tiny, Size::Small], 100, 400),
         140..=189 => run(script, &[Size::Middle], 200, 400),
         190..=259 => {
@@ -45,7 +46,8 @@ fn act(script: &mut Script) {
         984..=986 => limits::counts(script),
         987..=995 => runs::long_delays(script),
         996..=999 => runs::long_waits(script),
-        _ => judging::judging(script),
+        1_000..=1_039 => judging::judging(script),
+        _ => receptions::receptions(script),
     }
 }
 

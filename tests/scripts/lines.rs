@@ -40,9 +40,10 @@ pub const NUMBERS: [u128; 24] = [
 ];
 
 /// Requests with one number, `N` in its place, and the largest number that it takes.
-const LIMITS: [(&str, u128); 21] = [
+const LIMITS: [(&str, u128); 22] = [
     ("table N", 65_535),
     ("table 0 0 0 N", 65_535),
+    ("table 0 0 0 0 N", 65_535),
     ("buffer N", 512),
     ("write N 0", 65_535),
     ("write 0 N", (1 << 32) - 1),
@@ -160,7 +161,9 @@ fn any_line(random: &mut Random) -> String {
         21 => "message".to_string(),
         22 => format!("ahead {one}"),
         23 => random
-            .one_of(&["pending", "frames", "out", "taken", "state", "assembly"])
+            .one_of(&[
+                "pending", "frames", "out", "taken", "state", "assembly", "received", "received",
+            ])
             .to_string(),
         24..=26 => wire_line(random),
         27 => format!("room {one}"),
@@ -178,7 +181,7 @@ fn any_line(random: &mut Random) -> String {
 /// A line for a table of few words, damaged.
 fn damaged_table_line(random: &mut Random) -> Vec<u8> {
     let zeros = " 0".repeat(random.below(6));
-    let line = random.one_of(&["table", "table 0 0 0 1 0 2 0 1", "table 1 0 0 0 2 1"]);
+    let line = random.one_of(&["table", "table 0 0 0 1 0 0 2 0 1", "table 1 0 0 0 0 2 1"]);
     let mut line = format!("{line}{zeros}").into_bytes();
     damage(random, &mut line);
     line
@@ -289,6 +292,29 @@ pub fn long_lines(script: &mut Script) {
     }
 }
 
+/// The head, the filling and the tail of lines that may be long.
+const LONG_LINES: [(&[u8], &[u8], &[u8]); 19] = [
+    (b"pid ", b"0", b"5"),
+    (b"table 0 0 0 0 ", b"0", b"0"),
+    (b"table 1 0 0 0 0 2 1 1", b" 0", b""),
+    (b"table 00 0 0 0 0", b" 7", b""),
+    (b"set received 0 ", b"0", b"5"),
+    (b"checksum 5 classic", b" 00", b""),
+    (b"writes 0", b" 5A", b""),
+    (b"row", b" 0", b" :"),
+    (b"row :", b" 7", b""),
+    (b"row 0 : ", b"0", b"1"),
+    (b"take 01 01", b" 00", b""),
+    (b"lend", b" A5", b""),
+    (b"write 0 ", b"0", b"1"),
+    (b"judge 1 ", b"0", b"1"),
+    (b"#", b"#", b""),
+    (b"# ", b"tick ", b""),
+    (b"tick", b" ", b""),
+    (b"x", b"\xFF", b"\r"),
+    (b" ", b"\0", b"tick"),
+];
+
 /// A line of about the largest length, or far longer.
 fn long_line(random: &mut Random) -> Vec<u8> {
     let lengths = [
@@ -302,26 +328,7 @@ fn long_line(random: &mut Random) -> Vec<u8> {
         150_000,
     ];
     let length = random.one_of(&lengths);
-    let (head, filling, tail): (&[u8], &[u8], &[u8]) = random.one_of(&[
-        (b"pid ", b"0", b"5"),
-        (b"table 0 0 0 ", b"0", b"0"),
-        (b"table 1 0 0 0 2 1 1", b" 0", b""),
-        (b"table 00 0 0 0", b" 7", b""),
-        (b"checksum 5 classic", b" 00", b""),
-        (b"writes 0", b" 5A", b""),
-        (b"row", b" 0", b" :"),
-        (b"row :", b" 7", b""),
-        (b"row 0 : ", b"0", b"1"),
-        (b"take 01 01", b" 00", b""),
-        (b"lend", b" A5", b""),
-        (b"write 0 ", b"0", b"1"),
-        (b"judge 1 ", b"0", b"1"),
-        (b"#", b"#", b""),
-        (b"# ", b"tick ", b""),
-        (b"tick", b" ", b""),
-        (b"x", b"\xFF", b"\r"),
-        (b" ", b"\0", b"tick"),
-    ]);
+    let (head, filling, tail) = random.one_of(&LONG_LINES);
     let mut line = head.to_vec();
     while line.len() + filling.len() + tail.len() <= length {
         line.extend_from_slice(filling);

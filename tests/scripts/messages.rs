@@ -3,7 +3,8 @@
 use crate::diagnostic::{frame_count, Message};
 use crate::draft::Script;
 use crate::runs::{peek, slot};
-use crate::tables::{right_frames, right_members, right_signals, sections, table_line};
+use crate::signal_tables::right_signals;
+use crate::tables::{right_frames, right_members, sections, table_line};
 
 /// The length of the message being sent, if there is one.
 fn length_being_sent(script: &Script) -> Option<usize> {
@@ -136,7 +137,7 @@ fn one_message(script: &mut Script, length: usize) {
 
 /// A message of more than 16 frames sent whole, with a look at the state after each of them.
 pub fn whole_message(script: &mut Script) {
-    script.say("table 0 0 0 2 0 2 0 1 0 3 0 1");
+    script.say("table 0 0 0 2 0 0 2 0 1 0 3 0 1");
     script.say("select 0");
     let length = script.random.between(90, 260);
     lend(script, length);
@@ -154,7 +155,7 @@ pub fn whole_message(script: &mut Script) {
 
 /// A message of the largest length or near it, every frame a success.
 pub fn longest_message(script: &mut Script) {
-    script.say("table 0 0 0 1 0 2 0 1");
+    script.say("table 0 0 0 1 0 0 2 0 1");
     script.say("select 0");
     let length = script.random.one_of(&[4_095, 4_095, 4_094, 4_090, 3_000]);
     lend(script, length);

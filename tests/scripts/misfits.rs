@@ -2,16 +2,16 @@
 
 use crate::diagnostic::{frame_count, Message};
 use crate::random::Random;
-use crate::state::State;
+use crate::state::{State, SIGNALS_MAX};
 use crate::states::{enter, fitting, message_being_sent, open_transfer, openable};
-use crate::table::{Slot, Table};
+use crate::table::{Placement, Slot, Table};
 use crate::transfer::Open;
 
 /// Makes a fitting state and its neighbour, if the table has what the clause is about.
 type Clause = fn(&mut Random, &Table) -> Option<(State, State)>;
 
 /// The clauses of refusal 3; those with many cases come more often.
-const CLAUSES: [Clause; 21] = [
+const CLAUSES: [Clause; 26] = [
     requested_schedule,
     current_entry,
     wait_above_the_delay,
@@ -33,6 +33,11 @@ const CLAUSES: [Clause; 21] = [
     message_without_a_frame,
     message_without_a_frame,
     only_what_is_open_counts,
+    reception_of_another_signal,
+    reception_in_a_published_frame,
+    reception_beyond_the_placements,
+    reception_beyond_the_signals,
+    reception_of_the_first_signal_beyond,
 ];
 
 /// Pairs of states at the borders of all clauses that the table has, in any order.
@@ -289,4 +294,83 @@ fn only_what_is_open_counts(random: &mut Random, table: &Table) -> Option<(State
         other.transfer.bytes.copy_from_slice(&bytes);
         other.transfer.written = true;
     })
+}
+
+/// The number of any placement of which this holds, if there is one.
+fn any_placement(
+    random: &mut Random,
+    table: &Table,
+    holds: impl Fn(&Placement) -> bool,
+) -> Option<usize> {
+    let numbers = 0..table.placements.len();
+    let found: Vec<usize> = numbers
+        .filter(|&number| holds(&table.placements[number]))
+        .collect();
+    match found.len() {
+        0 => None,
+        count => Some(found[random.below(count)]),
+    }
+}
+
+/// A signal was received last in a placement of its own, and in one of another signal.
+fn reception_of_another_signal(random: &mut Random, table: &Table) -> Option<(State, State)> {
+    let received = |placement: &Placement| !table.is_published(placement);
+    let own = any_placement(random, table, received)?;
+    let signal = table.placements[own].signal;
+    let other = any_placement(random, table, |placement| {
+        received(placement) && placement.signal != signal
+    })?;
+    let mut state = fitting(random, table);
+    state.received[signal] = random.one_of(&[Some(own), None]);
+    beside(state, |state| state.received[signal] = Some(other))
+}
+
+/// A published signal was never received, and in one of its placements or another one.
+fn reception_in_a_published_frame(random: &mut Random, table: &Table) -> Option<(State, State)> {
+    let published = |placement: &Placement| table.is_published(placement);
+    let own = any_placement(random, table, published)?;
+    let any = random.below(table.placements.len());
+    let number = random.one_of(&[own, own, own, any]);
+    let signal = table.placements[own].signal;
+    let state = fitting(random, table);
+    beside(state, |other| other.received[signal] = Some(number))
+}
+
+/// A signal was received last in the last placement or never, and in one that is not there.
+fn reception_beyond_the_placements(random: &mut Random, table: &Table) -> Option<(State, State)> {
+    let count = table.placements.len();
+    let signal = table.placements.last()?.signal;
+    let any = random.below(table.signals.len());
+    let signal = random.one_of(&[signal, signal, any]);
+    let number = beyond(random, count);
+    let state = fitting(random, table);
+    beside(state, |other| other.received[signal] = Some(number))
+}
+
+/// A signal that is not there was never received, and in any placement.
+fn reception_beyond_the_signals(random: &mut Random, table: &Table) -> Option<(State, State)> {
+    let count = table.signals.len();
+    if count == SIGNALS_MAX {
+        return None;
+    }
+    let any = random.between(count, SIGNALS_MAX - 1);
+    let signal = random.one_of(&[count, count, 255, any]);
+    let number = random.below(table.placements.len() + 1);
+    let state = fitting(random, table);
+    beside(state, |other| other.received[signal] = Some(number))
+}
+
+/// The same for the signal directly behind the last one and the placements of the last one.
+fn reception_of_the_first_signal_beyond(
+    random: &mut Random,
+    table: &Table,
+) -> Option<(State, State)> {
+    let count = table.signals.len();
+    if count == SIGNALS_MAX {
+        return None;
+    }
+    let last = any_placement(random, table, |placement| placement.signal + 1 == count)?;
+    let number = random.one_of(&[last, table.placements.len()]);
+    let state = fitting(random, table);
+    beside(state, |other| other.received[count] = Some(number))
 }

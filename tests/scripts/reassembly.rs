@@ -65,7 +65,7 @@ fn message(script: &mut Script) {
                     script
                         .random
                         .clone()
-                        .one_of(&["table 0 0 0 0", "table 1", "fresh"]),
+                        .one_of(&["table 0 0 0 0 0", "table 1", "fresh"]),
                 );
             }
             _ => {}

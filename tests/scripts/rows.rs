@@ -4,7 +4,7 @@ use crate::draft::Script;
 use crate::lines::{damage, with_changed_field};
 use crate::random::Random;
 use crate::runs::{select, slot};
-use crate::table::{Signal, SignalKind, Table};
+use crate::table::{SignalKind, Table};
 use crate::tables::{list_table, right_table, table_line, Size};
 use crate::values::{missing_number, read_signal, value_beyond, value_inside};
 
@@ -64,7 +64,10 @@ pub fn write_some(script: &mut Script) {
 
 /// Writes a short row with one to three signals of a frame at any places of it.
 pub fn write_frame(script: &mut Script, frame: usize) {
-    let of_frame = scalars(script, |signal| signal.frame == frame);
+    let of_frame = scalars(script, |table, number| {
+        let mut placements = table.placements_of(number);
+        placements.any(|placement| placement.frame == frame)
+    });
     let count = short_count(&mut script.random);
     let mut pairs = right_pairs(script, count);
     if !of_frame.is_empty() {
@@ -105,7 +108,7 @@ fn write_row(script: &mut Script, count: usize) {
 /// Right pairs of any signals, in half of the cases of three signals or fewer; none where the
 /// table has no published scalar.
 fn right_pairs(script: &mut Script, count: usize) -> Vec<Pair> {
-    let mut signals = scalars(script, |_| true);
+    let mut signals = scalars(script, |_, _| true);
     if signals.is_empty() {
         return Vec::new();
     }
@@ -124,27 +127,27 @@ fn right_pair(script: &mut Script, signals: &[(usize, usize)]) -> Pair {
 }
 
 /// The numbers and widths of the published scalars of which this holds.
-fn scalars(script: &Script, holds: impl Fn(&Signal) -> bool) -> Vec<(usize, usize)> {
-    numbers(script, |table, signal| {
-        is_published(table, signal) && signal.kind == SignalKind::Scalar && holds(signal)
+fn scalars(script: &Script, holds: impl Fn(&Table, usize) -> bool) -> Vec<(usize, usize)> {
+    numbers(script, |table, number| {
+        is_published(table, number, SignalKind::Scalar) && holds(table, number)
     })
 }
 
 /// The numbers and widths of the signals of which this holds.
-fn numbers(script: &Script, holds: impl Fn(&Table, &Signal) -> bool) -> Vec<(usize, usize)> {
+fn numbers(script: &Script, holds: impl Fn(&Table, usize) -> bool) -> Vec<(usize, usize)> {
     let Some(table) = script.table() else {
         return Vec::new();
     };
     let signals = table.signals.iter().enumerate();
-    let found = signals.filter(|(_, signal)| holds(table, signal));
+    let found = signals.filter(|&(number, _)| holds(table, number));
     found
         .map(|(number, signal)| (number, signal.width))
         .collect()
 }
 
-/// Tells whether the master publishes a signal.
-fn is_published(table: &Table, signal: &Signal) -> bool {
-    table.frames[signal.frame].published
+/// Tells whether a signal is of this kind and the master publishes it.
+fn is_published(table: &Table, number: usize, kind: SignalKind) -> bool {
+    table.signals[number].kind == kind && table.publishes(number)
 }
 
 /// Writes these pairs, in some cases with bad ones among them or as rows of unequal length.
@@ -180,11 +183,11 @@ fn bad_pair(script: &mut Script) -> Pair {
     let refusal = script.random.one_of(&[4, 5, 6, 7]);
     let signals = match refusal {
         4 => Vec::new(),
-        5 => numbers(script, |table, signal| !is_published(table, signal)),
-        6 => numbers(script, |table, signal| {
-            is_published(table, signal) && signal.kind == SignalKind::Array
+        5 => numbers(script, |table, number| !table.publishes(number)),
+        6 => numbers(script, |table, number| {
+            is_published(table, number, SignalKind::Array)
         }),
-        _ => scalars(script, |_| true),
+        _ => scalars(script, |_, _| true),
     };
     if signals.is_empty() {
         let value = script.random.one_of(&[0, 1, u64::from(u32::MAX)]);

@@ -166,7 +166,7 @@ fn write_open_row(script: &mut Script) {
 
 /// Looks at a part of the state.
 pub fn peek(script: &mut Script) {
-    match script.random.below(21) {
+    match script.random.below(24) {
         0..=3 => script.say("status"),
         4..=6 => script.say("pending"),
         7..=9 => ahead(script),
@@ -175,6 +175,7 @@ pub fn peek(script: &mut Script) {
         12 => script.say("message"),
         13..=16 => script.say("state"),
         17 => judging::judge(script),
+        18..=19 => script.say("received"),
         _ => {
             let number = signal_number(script);
             read_signal(script, number, 95)
@@ -233,7 +234,7 @@ fn begin_anew(script: &mut Script) {
             messages::lend(script, length);
         }
     }
-    for line in ["state", "frames", "out"] {
+    for line in ["state", "received", "frames", "out"] {
         script.say(line);
     }
     any_call(script);
@@ -288,7 +289,7 @@ pub fn long_delays(script: &mut Script) {
             1, 2, 255, 256, 257, 32_767, 32_768, 65_534, 65_535, any, any,
         ];
         let (first, second) = (script.random.one_of(&delays), script.random.one_of(&delays));
-        script.say(format!("table 0 0 0 2 0 3 0 {first} 0 2 0 {second}"));
+        script.say(format!("table 0 0 0 2 0 0 3 0 {first} 0 2 0 {second}"));
         script.say("select 0");
         for _ in 0..script.random.between(2, 6) {
             script.say("tick");
@@ -305,7 +306,7 @@ pub fn long_waits(script: &mut Script) {
     }
     let (first, second) = (delays[0], delays[1]);
     script.say(format!(
-        "table 0 0 0 3 0 3 0 {first} 0 2 0 {second} 1 3 0 1"
+        "table 0 0 0 3 0 0 3 0 {first} 0 2 0 {second} 1 3 0 1"
     ));
     script.say("select 0");
     for number in 0..=first + second {

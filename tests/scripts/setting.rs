@@ -67,6 +67,7 @@ pub fn set_runs(script: &mut Script) {
         script.say("state");
         transfers::steer(script);
         script.say("state");
+        script.say("received");
         script.say("tick");
         script.say("state");
         let length = script.random.one_of(&[0, 0, 5, 20]);
@@ -181,7 +182,7 @@ fn call(script: &mut Script, number: usize) {
 
 /// Looks at the whole state and the frame bytes.
 fn look(script: &mut Script) {
-    for line in ["state", "pending", "frames", "out"] {
+    for line in ["state", "pending", "received", "frames", "out"] {
         script.say(line);
     }
 }

@@ -5,7 +5,7 @@ use crate::lines::{number_near, NUMBERS};
 use crate::random::Random;
 
 /// Lines with one number, `N` in its place, and the largest number that it takes.
-const LIMITS: [(&str, u128); 18] = [
+const LIMITS: [(&str, u128); 21] = [
     ("set wait N", 65_535),
     ("set entry N", 65_535),
     ("set request N", 65_535),
@@ -20,6 +20,9 @@ const LIMITS: [(&str, u128); 18] = [
     ("set status 0 0 N FF", 1),
     ("set pending N 1", 59),
     ("set pending 0 N", 1),
+    ("set received N 0", 255),
+    ("set received N none", 255),
+    ("set received 0 N", 65_535),
     ("set assembly N 7 5 1", 255),
     ("set assembly 1 N 5 1", 65_535),
     ("set assembly 1 7 N 1", 65_535),
@@ -27,7 +30,7 @@ const LIMITS: [(&str, u128); 18] = [
 ];
 
 /// Lines that are right.
-const LINES: [&str; 22] = [
+const LINES: [&str; 25] = [
     "set wait 1",
     "set entry 0",
     "set entry none",
@@ -46,14 +49,17 @@ const LINES: [&str; 22] = [
     "set message failed",
     "set status 1 1 1 A5",
     "set pending 3 1",
+    "set received 0 1",
+    "set received 2 none",
     "set assembly none",
     "set assembly 5 20 11 2",
+    "received",
     "state",
     "assembly",
 ];
 
 /// Lines with a word or a number in the place of another one, or too few or too many of them.
-const ODD_LINES: [&str; 44] = [
+const ODD_LINES: [&str; 53] = [
     "set",
     "set ",
     "set none",
@@ -95,6 +101,15 @@ const ODD_LINES: [&str; 44] = [
     "set status 7 00",
     "set pending 1",
     "set pending 1 none",
+    "set received",
+    "set received 1",
+    "set received none",
+    "set received none 1",
+    "set received 1 nothing",
+    "set received 1 never",
+    "set received 1 2 3",
+    "set received 1 none 3",
+    "received 1",
     "set assembly nothing",
     "set assembly 5 20 11",
     "set assembly 5 20 11 2 2",
@@ -153,7 +168,9 @@ pub fn malformed(script: &mut Script) {
 
 /// Looks at what a line may have set.
 fn look(script: &mut Script) {
-    let shows = ["state", "state", "assembly", "pending", "message", "tick"];
+    let shows = [
+        "state", "state", "assembly", "pending", "received", "message", "tick",
+    ];
     let line = script.random.one_of(&shows);
     script.say(line);
 }

@@ -13,6 +13,7 @@ pub fn fitting(random: &mut Random, table: &Table) -> State {
     state.message = fitting_message(random);
     state.status = any_status(random);
     state.transfer = any_record(random, 255);
+    set_receptions(random, table, &mut state);
     let chance = random.one_of(&[0, 10, 50, 100]);
     for (bit, frame) in state.pending.iter_mut().zip(&table.frames) {
         *bit = frame.published && random.percent(chance);
@@ -27,6 +28,16 @@ pub fn fitting(random: &mut Random, table: &Table) -> State {
         }
     }
     state
+}
+
+/// Gives signals that are not published any of their placements as the one received last.
+fn set_receptions(random: &mut Random, table: &Table, state: &mut State) {
+    let chance = random.one_of(&[0, 20, 50, 100]);
+    for (number, placement) in table.placements.iter().enumerate() {
+        if !table.is_published(placement) && random.percent(chance) {
+            state.received[placement.signal] = Some(number);
+        }
+    }
 }
 
 /// Makes an entry the current one, with a wait that fits, mostly with a transfer that it can open.
@@ -114,8 +125,8 @@ pub fn set(script: &mut Script, state: &State) {
     let often = script.random.one_of(&[3, 10, 40]);
     let mut lines = Vec::new();
     for (line, old) in wanted.into_iter().zip(there) {
-        let number_of_a_frame = line.starts_with("set pending");
-        if line != old || !number_of_a_frame && script.random.once_in(often) {
+        let one_of_many = line.starts_with("set pending") || line.starts_with("set received");
+        if line != old || !one_of_many && script.random.once_in(often) {
             lines.push(line);
         }
     }
@@ -141,6 +152,12 @@ fn lines_of(state: &State) -> Vec<String> {
     ];
     for (frame, &pending) in state.pending.iter().enumerate() {
         lines.push(format!("set pending {frame} {}", u8::from(pending)));
+    }
+    for (signal, &placement) in state.received.iter().enumerate() {
+        lines.push(format!(
+            "set received {signal} {}",
+            number_or_none(placement)
+        ));
     }
     lines
 }

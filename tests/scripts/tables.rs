@@ -1,12 +1,27 @@
 //! Right cluster tables of all sizes.
 
 use crate::random::Random;
+use crate::signal_tables::{most_signals, right_signals, signal_in_each, Signals};
 
-/// The words of a table by section: counts, frames, signals, members, entries.
-pub type Sections = [Vec<u16>; 5];
+/// The words of a table by section: counts, frames, signals, placements, members, entries.
+pub type Sections = [Vec<u16>; 6];
+
+// The sections.
+pub const COUNTS: usize = 0;
+pub const FRAMES: usize = 1;
+pub const SIGNALS: usize = 2;
+pub const PLACEMENTS: usize = 3;
+pub const MEMBERS: usize = 4;
+pub const ENTRIES: usize = 5;
+
+/// The place of each section's count among the counts; the counts have none themselves.
+pub const COUNT_PLACE: [usize; 6] = [0, 0, 1, 4, 2, 3];
 
 /// The most frames, signals, members and entries of a table.
 pub const COUNT_MAX: [usize; 4] = [60, 256, 60, 256];
+
+/// The most bytes of a line.
+const LINE_LENGTH_MAX: usize = 20_000;
 
 /// How large a table is to be.
 #[derive(Clone, Copy, PartialEq, Eq)]
@@ -37,7 +52,11 @@ impl Size {
 pub fn right_table(random: &mut Random, size: Size) -> Sections {
     let counts = size.counts(random);
     let frames = right_frames(random, counts[0], size == Size::Limit);
-    let signals = right_signals(random, &frames, counts[1]);
+    let signals = if size == Size::Limit {
+        most_signals(random, &frames)
+    } else {
+        right_signals(random, &frames, counts[1])
+    };
     let members = right_members(random, &frames, counts[2]);
     let lists = members.last().map_or(0, |member| member[0] + 1);
     let entries = right_entries(random, counts[0] as u16, lists, counts[3]);
@@ -52,16 +71,7 @@ pub fn list_table(random: &mut Random) -> Sections {
         .iter_mut()
         .for_each(|frame| frame[1] = random.between(1, 3) as u16);
     frames[random.below(count)][2] &= random.one_of(&[2, 3]);
-    let signal = |number| {
-        [
-            number as u16,
-            0,
-            random.below(4) as u16,
-            4,
-            random.below(16) as u16,
-        ]
-    };
-    let signals: Vec<[u16; 5]> = (0..count).map(signal).collect();
+    let signals = signal_in_each(random, &frames);
     let members = right_members(random, &frames, count);
     let lists = members
         .last()
@@ -115,7 +125,7 @@ pub fn slot_table(random: &mut Random, size: Size) -> Sections {
     let members = right_members(random, &frames, counts[2]);
     let lists = members.last().map_or(0, |member| member[0] + 1);
     let entries = right_entries(random, counts[0] as u16, lists, counts[3]);
-    sections(&frames, &[], &members, &entries)
+    sections(&frames, &Signals::default(), &members, &entries)
 }
 
 /// A right table with as many frames, signals, lists and schedules as there may be.
@@ -123,7 +133,8 @@ pub fn numerous_table(random: &mut Random) -> Sections {
     let all_published = random.once_in(2);
     let mut frames = right_frames(random, COUNT_MAX[0], all_published);
     frames[59][2] |= 1;
-    let signals = right_signals(random, &frames, COUNT_MAX[1]);
+    frames.iter_mut().for_each(|frame| frame[1] = 8);
+    let signals = most_signals(random, &frames);
     let mut members = right_members(random, &frames, COUNT_MAX[2]);
     (0..)
         .zip(&mut members)
@@ -140,15 +151,23 @@ pub fn numerous_table(random: &mut Random) -> Sections {
 /// Joins the records of a table and counts them.
 pub fn sections(
     frames: &[[u16; 3]],
-    signals: &[[u16; 5]],
+    signals: &Signals,
     members: &[[u16; 2]],
     entries: &[[u16; 4]],
 ) -> Sections {
-    let counts = [frames.len(), signals.len(), members.len(), entries.len()];
+    let placements = signals.placements();
+    let counts = [
+        frames.len(),
+        signals.records.len(),
+        members.len(),
+        entries.len(),
+        placements.len(),
+    ];
     [
         counts.map(|count| count as u16).to_vec(),
         frames.concat(),
-        signals.concat(),
+        signals.records.concat(),
+        placements.concat(),
         members.concat(),
         entries.concat(),
     ]
@@ -182,71 +201,6 @@ pub fn right_frames(random: &mut Random, count: usize, all_published: bool) -> V
         .iter()
         .map(|&identifier| frame(identifier))
         .collect()
-}
-
-/// At most this many signals: frames filled from below, with and without gaps, all shuffled.
-pub fn right_signals(random: &mut Random, frames: &[[u16; 3]], count: usize) -> Vec<[u16; 5]> {
-    let scalar_max = if count > 2 * frames.len() {
-        random.one_of(&[1, 3, 8])
-    } else {
-        random.one_of(&[5, 16, 16])
-    };
-    let mut signals = Vec::new();
-    for (number, frame) in frames.iter().enumerate() {
-        let end = 8 * frame[1];
-        let mut offset = signal_gap(random);
-        while let Some(signal) = right_signal(random, number as u16, offset, end, scalar_max) {
-            offset = signal[2] + signal[3] + signal_gap(random);
-            signals.push(signal);
-        }
-    }
-    random.shuffle(&mut signals);
-    signals.truncate(count);
-    signals
-}
-
-/// The bits of no signal below the next one, mostly none.
-fn signal_gap(random: &mut Random) -> u16 {
-    if random.once_in(4) {
-        random.below(10) as u16
-    } else {
-        0
-    }
-}
-
-/// A signal at this offset or, for arrays, at the next byte; none where the frame ends before.
-fn right_signal(
-    random: &mut Random,
-    frame: u16,
-    offset: u16,
-    end: u16,
-    scalar_max: u16,
-) -> Option<[u16; 5]> {
-    let array = random.once_in(5);
-    let offset = if array {
-        offset.next_multiple_of(8)
-    } else {
-        offset
-    };
-    if offset >= end {
-        return None;
-    }
-    if array {
-        let width = 8 * random.between(1, usize::from((end - offset) / 8)) as u16;
-        return Some([frame, 1, offset, width, start_value(random, 8)]);
-    }
-    let width = random.between(1, scalar_max.min(end - offset).into()) as u16;
-    Some([frame, 0, offset, width, start_value(random, width)])
-}
-
-/// A start value of at most this many bits, often at an end of the range.
-fn start_value(random: &mut Random, width: u16) -> u16 {
-    let largest = u16::MAX >> (16 - width);
-    match random.below(4) {
-        0 => largest,
-        1 => 0,
-        _ => random.word() & largest,
-    }
 }
 
 /// At most this many members: published frames in any order, in one list or several.
@@ -307,10 +261,11 @@ fn right_delay(random: &mut Random) -> u16 {
     }
 }
 
-/// The line for a table, once in sixteen times with zeros before its numbers.
+/// The line for a table, once in sixteen times with zeros before its numbers, as many as fit.
 pub fn table_line(random: &mut Random, words: &[u16]) -> String {
+    let most = LINE_LENGTH_MAX / (words.len() + 2) - 1;
     let digits = if random.once_in(16) {
-        random.below(7)
+        random.below(7).min(most)
     } else {
         1
     };

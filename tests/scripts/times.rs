@@ -1,7 +1,7 @@
 //! Tick lengths and bit times for the judge: slots exactly full, nearly so, limits and any.
 
 use crate::random::Random;
-use crate::tables::Sections;
+use crate::tables::{Sections, ENTRIES};
 
 /// A tick length and a bit time.
 type Times = (usize, usize);
@@ -74,12 +74,12 @@ fn common_divisor(one: usize, other: usize) -> usize {
 
 /// The slots of a right table; none where there are no words.
 pub fn slots(words: &[u16]) -> Vec<Slot> {
-    let Some(counts) = words.first_chunk::<4>() else {
+    let Some(counts) = words.first_chunk::<5>() else {
         return Vec::new();
     };
-    let [frames, signals, members, _] = counts.map(usize::from);
-    let (frame_words, rest) = words[4..].split_at(3 * frames);
-    let (member_words, entry_words) = rest[5 * signals..].split_at(2 * members);
+    let [frames, signals, members, _, placements] = counts.map(usize::from);
+    let (frame_words, rest) = words[5..].split_at(3 * frames);
+    let (member_words, entry_words) = rest[3 * (signals + placements)..].split_at(2 * members);
     let length = |frame: u16| usize::from(frame_words[3 * usize::from(frame) + 1]);
     let longest = |list: u16| {
         let members = member_words.chunks(2).filter(|member| member[0] == list);
@@ -200,7 +200,7 @@ pub fn change_delays(random: &mut Random, table: &mut Sections) {
     let times = random.one_of(&[1, 2, any, DELAY_TIMES_MAX]);
     let kind = random.below(6);
     let slots = slots(&table.concat());
-    for (entry, slot) in table[4].chunks_mut(4).zip(slots) {
+    for (entry, slot) in table[ENTRIES].chunks_mut(4).zip(slots) {
         entry[3] = match kind {
             0 => entry[3],
             1 => random.between(LONG_DELAY, 65_535) as u16,
@@ -216,9 +216,9 @@ pub fn change_delays(random: &mut Random, table: &mut Sections) {
 
 /// Makes the delay of one slot one tick shorter or, seldom, longer, where it can be.
 fn change_one(random: &mut Random, table: &mut Sections) {
-    let entries = table[4].len() / 4;
+    let entries = table[ENTRIES].len() / 4;
     if entries > 0 {
-        let delay = &mut table[4][4 * random.below(entries) + 3];
+        let delay = &mut table[ENTRIES][4 * random.below(entries) + 3];
         *delay = match random.below(4) {
             0 => delay.saturating_add(1),
             _ => (*delay - 1).max(1),

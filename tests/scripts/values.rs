@@ -1,7 +1,7 @@
 //! Writes and reads of signals, and wrong buffers.
 
 use crate::draft::{with_bytes, Script};
-use crate::table::{Signal, SignalKind, Table};
+use crate::table::{Signal, SignalKind};
 use crate::tables::{right_table, table_line, Size};
 
 /// A signal number: mostly one that is there.
@@ -22,15 +22,10 @@ pub fn missing_number(script: &mut Script) -> usize {
 
 /// A signal number to write: mostly of a signal that the master publishes.
 pub fn published_number(script: &mut Script) -> usize {
-    let is_published = |table: &Table, number: usize| {
-        let frame = table.signals[number].frame;
-        table.frames[frame].published
-    };
     let published: Vec<usize> = script.table().map_or(Vec::new(), |table| {
-        let numbers = 0..table.signals.len();
-        numbers
-            .filter(|&number| is_published(table, number))
-            .collect()
+        let numbers = table.placements.iter();
+        let published = numbers.filter(|placement| table.is_published(placement));
+        published.map(|placement| placement.signal).collect()
     });
     if published.is_empty() || script.random.once_in(8) {
         return signal_number(script);
@@ -120,9 +115,9 @@ pub fn read_signal(script: &mut Script, number: usize, right: usize) -> String {
 
 /// A signal number of this frame, if it has one.
 pub fn signal_of_frame(script: &mut Script, frame: usize) -> Option<usize> {
-    let signals = &script.table()?.signals;
-    let of_frame = (0..signals.len()).filter(|&number| signals[number].frame == frame);
-    let numbers: Vec<usize> = of_frame.collect();
+    let placements = script.table()?.placements.iter();
+    let of_frame = placements.filter(|placement| placement.frame == frame);
+    let numbers: Vec<usize> = of_frame.map(|placement| placement.signal).collect();
     match numbers.len() {
         0 => None,
         count => Some(numbers[script.random.below(count)]),

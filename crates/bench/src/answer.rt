@@ -56,7 +56,7 @@ pub(crate) fn line(
 // Whether a line shows something.
 fn is_shown(form: u32) -> bool {
     match form {
-        Form::PENDING..=Form::ASSEMBLY => true,
+        Form::PENDING..=Form::RECEIVED => true,
         _ => false,
     }
 }
@@ -111,7 +111,8 @@ fn show(desk: &mut Desk, table: &[u16], frames: &[u8], room: &[u8], out: &mut Ou
         Form::OUT => sent(desk, table, out),
         Form::STATE => shows::state(desk, out),
         Form::TAKEN => shows::bytes(Text::TAKEN, desk[ROOM_USED], room, desk, out),
-        _ => shows::assembly(desk, out),
+        Form::ASSEMBLY => shows::assembly(desk, out),
+        _ => shows::received(desk, out),
     }
 }
 

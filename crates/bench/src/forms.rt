@@ -51,29 +51,31 @@ impl Form {
 
     pub(crate) const ASSEMBLY: u32 = 18;
 
-    pub(crate) const TABLE: u32 = 19;
+    pub(crate) const RECEIVED: u32 = 19;
 
-    pub(crate) const BUFFER: u32 = 20;
+    pub(crate) const TABLE: u32 = 20;
 
-    pub(crate) const LEND: u32 = 21;
+    pub(crate) const BUFFER: u32 = 21;
 
-    pub(crate) const ROOM: u32 = 22;
+    pub(crate) const LEND: u32 = 22;
 
-    pub(crate) const TAKE: u32 = 23;
+    pub(crate) const ROOM: u32 = 23;
 
-    pub(crate) const JUDGE: u32 = 24;
+    pub(crate) const TAKE: u32 = 24;
 
-    pub(crate) const PID: u32 = 25;
+    pub(crate) const JUDGE: u32 = 25;
 
-    pub(crate) const ID: u32 = 26;
+    pub(crate) const PID: u32 = 26;
 
-    pub(crate) const CLASSIC: u32 = 27;
+    pub(crate) const ID: u32 = 27;
 
-    pub(crate) const ENHANCED: u32 = 28;
+    pub(crate) const CLASSIC: u32 = 28;
+
+    pub(crate) const ENHANCED: u32 = 29;
     // The first of the lines that set a part of the state.
-    pub(crate) const SETS: u32 = 29;
+    pub(crate) const SETS: u32 = 30;
     // No form: the number of all.
-    pub(crate) const NONE: u32 = 49;
+    pub(crate) const NONE: u32 = 52;
 }
 
 // Reads a line as the first form that it has, and puts the form, the place of the list and the numbers on the desk; a line that is too
@@ -86,13 +88,13 @@ pub(crate) fn take(line: &[u8], desk: &mut Desk) {
     let read = forms::read(
         line,
         b"tick|byte HH|write 65535 4294967295|writes 65535 ..|row ..|read 65535|reads 65535|ahead 65535|select 65535|\
-        fresh|status|send 255 4294967295|message|pending|frames|out|state|taken|assembly|table ..|buffer 512|lend ..|\
+        fresh|status|send 255 4294967295|message|pending|frames|out|state|taken|assembly|received|table ..|buffer 512|lend ..|\
         room 4096|take ..|judge 4294967295 4294967295|pid 255|id HH|checksum 255 classic ..|checksum 255 enhanced ..|\
         set wait 65535|set entry 65535|set entry none|set request 65535|set request none|set open nothing|\
         set open frame 65535|set open request|set open response|set count 255|\
         set bytes HH HH HH HH HH HH HH HH HH|set written 1|set message none|set message sending 255 65535 65535|\
         set message completed|set message failed|set status 1 1 1 HH|set pending 59 1|\
-        set assembly none|set assembly 255 65535 65535 255",
+        set assembly none|set assembly 255 65535 65535 255|set received 255 65535|set received 255 none",
     );
     put_line(desk, read);
 }

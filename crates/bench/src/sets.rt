@@ -21,8 +21,10 @@ pub(crate) fn set(desk: &mut Desk) -> Reply {
     }
     let setting = part(form - Form::SETS, desk[NUMBERS], desk[NUMBERS + 1]);
     let place = setting.place;
-    if place < NUMBERS {
+    if place < SIZE {
         desk[place] = setting.value;
+    }
+    if place < NUMBERS {
         put_numbers(desk, place + 1, setting.from, setting.count);
     }
     Reply::alone(Text::SET)
@@ -50,7 +52,9 @@ fn part(k: u32, n: u32, b: u32) -> Setting {
         16 => several(ERROR, n, 1, 3),
         17 => one(size(n), b),
         18 => one(ASSEMBLY, 0),
-        _ => several(ASSEMBLY, 1, 0, 4),
+        19 => several(ASSEMBLY, 1, 0, 4),
+        20 => one(RECEIVED + size(n), b),
+        _ => one(RECEIVED + size(n), NONE),
     }
 }
 

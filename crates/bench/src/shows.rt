@@ -1,5 +1,5 @@
-// What is shown and not called: the pending bits, the frame bytes, the bytes that the master sends, the rest of the state, and the
-// reassembler.
+// What is shown and not called: the pending bits, the frame bytes, the bytes that the master sends, the rest of the state, the
+// placements received last, and the reassembler.
 use crate::buffers::Output;
 use crate::buffers::within;
 use crate::print;
@@ -21,6 +21,21 @@ pub(crate) fn pending(desk: &mut Desk, out: &mut Output) {
             texts::put(out, desk, Text::PENDING_FRAME, ANSWER);
         }
         f += 1;
+    }
+}
+
+// Shows the signals of which a placement was received, each with the one received last.
+pub(crate) fn received(desk: &mut Desk, out: &mut Output) {
+    texts::put(out, desk, Text::RECEIVED, ANSWER);
+    let mut s: usize = 0;
+    while s < SIGNALS {
+        let placement = desk[RECEIVED + s];
+        if placement != NONE {
+            desk[ANSWER] = (s % 65536) as u32;
+            desk[ANSWER + 1] = placement;
+            texts::put(out, desk, Text::RECEIVED_PLACEMENT, ANSWER);
+        }
+        s += 1;
     }
 }
 

@@ -121,7 +121,11 @@ impl Text {
 
     pub(crate) const ASSEMBLY: u32 = 61;
 
-    pub(crate) const END: u32 = 62;
+    pub(crate) const RECEIVED: u32 = 62;
+
+    pub(crate) const RECEIVED_PLACEMENT: u32 = 63;
+
+    pub(crate) const END: u32 = 64;
 }
 
 // Prints a text with the numbers of the desk from a place on.
@@ -135,7 +139,7 @@ pub(crate) fn put(out: &mut Output, desk: &mut Desk, text: u32, from: usize) {
         bytes H H H H H H|bytes H H H H H H H|bytes H H H H H H H H|response H H H H H H H H|pending| N|frames|\
         out|taken|state wait N entry E request E open| nothing| frame N| request| response| count N \
         bytes H H H H H H H H H written N message| none| sending N N N| completed| failed| status N N N H|\
-        assembly none|assembly N N N N|\n",
+        assembly none|assembly N N N N|received| N N|\n",
         size(text),
         desk,
         from,

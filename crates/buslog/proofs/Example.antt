@@ -8,8 +8,9 @@ use Rattle.wire.specs.Identifier.{p0, p1, protectedByte, rightParity}
 use Rattle.wire.specs.Checksum.{withCarry, sum, covered, modelOf, inverted, checksumByte}
 use Rattle.cluster.specs.Lists.{firstFrom}
 use Rattle.cluster.specs.Table as table
+use Rattle.cluster.specs.Places.{anyBelow}
 use Rattle.cluster.specs.Columns.{headerColumns, frameColumns}
-use Rattle.cluster.specs.Right.{anyBelow, headerRight, frameRight, records, wordsRight}
+use Rattle.cluster.specs.Right.{headerRight, frameRight, records, allPlaced, frontRight, backRight, wordsRight}
 use Rattle.cluster.specs.Check.{faults, surplus, judged, RightTable, TakenTable}
 use Rattle.cluster.proofs.TakenLaws.{right-taken}
 use Rattle.buslog.specs.Pairs.{digitOf, isPair, pairByte, arePairs, pairBytes, lineBytes, digitCharacter, pairOf}
@@ -41,8 +42,8 @@ example = refl
 
 -- the built-in table is accepted
 pub built-in-right : RightTable builtIn
-unfolding builtIn judged faults surplus wordsRight records headerRight headerColumns frameRight frameColumns anyBelow table.word
-    table.frameCount table.signalCount table.memberCount table.entryCount table.size table.identifier table.frameLength table.flags
+unfolding builtIn judged faults surplus wordsRight frontRight backRight allPlaced records headerRight headerColumns frameRight frameColumns anyBelow table.word
+    table.frameCount table.signalCount table.memberCount table.entryCount table.placementCount table.placedSignals table.counted table.size table.identifier table.frameLength table.flags
 built-in-right = refl
 
 -- and taken, so no part of a log is refused under it

@@ -13,7 +13,7 @@ use Rattle.signal.proofs.Inside.{order}
 use Rattle.wire.specs.Bits.{bit}
 use Rattle.wire.specs.declared.checksum.Model.the-variants.{Enhanced}
 use Rattle.cluster.specs.Table as table
-use Rattle.cluster.specs.Table.{frameCount, identifier, frameLength, frameModel, signalCount, memberCount, entryCount}
+use Rattle.cluster.specs.Table.{frameCount, identifier, frameLength, frameModel, signalCount, memberCount, entryCount, placementCount}
 use Rattle.buslog.specs.declared.judge.Verdict.{Verdict}
 use Rattle.buslog.specs.declared.judge.Verdict.the-variants.{Text, Parity, Unknown, Length, Checksum, Ok}
 use Rattle.buslog.specs.Pairs.{digitCharacter, pairOf, spelled}
@@ -156,9 +156,9 @@ header-is = refl
 
 -- "Its built-in table has one frame: identifier 2, length 1, enhanced", and no signals, members and entries
 pub built-in-exactly : (frameCount builtIn ≡ 1) × (identifier builtIn 0 ≡ 2) × (frameLength builtIn 0 ≡ 1) × (frameModel builtIn 0 ≡ Enhanced)
-    × (signalCount builtIn ≡ 0) × (memberCount builtIn ≡ 0) × (entryCount builtIn ≡ 0)
-unfolding builtIn table.word frameCount identifier frameLength table.flags table.classic bit signalCount memberCount entryCount
-built-in-exactly = (refl, refl, refl, refl, refl, refl, refl)
+    × (signalCount builtIn ≡ 0) × (memberCount builtIn ≡ 0) × (entryCount builtIn ≡ 0) × (placementCount builtIn ≡ 0)
+unfolding builtIn table.word frameCount identifier frameLength table.flags table.classic bit signalCount memberCount entryCount placementCount
+built-in-exactly = (refl, refl, refl, refl, refl, refl, refl, refl)
 
 -- ---- the rows
 

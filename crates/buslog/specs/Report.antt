@@ -21,7 +21,7 @@ rowsOf t n (l ∷ ls) = rowOf n (lineVerdict t l) ++ rowsOf t (n + 1) ls
 
 -- "Its built-in table has one frame: identifier 2, length 1, enhanced": flags 0, and no signals, members and entries
 unfoldable pub builtIn : List ℕ
-builtIn = 1 ∷ 0 ∷ 0 ∷ 0 ∷ 2 ∷ 1 ∷ 0 ∷ []
+builtIn = 1 ∷ 0 ∷ 0 ∷ 0 ∷ 0 ∷ 2 ∷ 1 ∷ 0 ∷ []
 
 -- the report of a whole log: a header, and a row for each line, "line number (decimal, from 1)"; "empty input gives the header only"
 unfoldable pub reportOf : List ℕ → List ℕ → List ℕ

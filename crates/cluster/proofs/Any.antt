@@ -5,7 +5,7 @@ use mathlib.Core.Bool.{Bool, true, false, true≢false, _||_}
 use native.Mathlib.Decide.{ℕ-discrete}
 use native.Mathlib.Omega.{arith}
 use Rattle.wire.proofs.Tests.{whether}
-use Rattle.cluster.specs.Right.{anyBelow}
+use Rattle.cluster.specs.Places.{anyBelow}
 
 or-left : (a b : Bool) → (a || b) ≡ false → a ≡ false
 or-left true b h = h

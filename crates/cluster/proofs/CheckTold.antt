@@ -16,7 +16,7 @@ use Rattle.cluster.specs.Table.{size}
 use Rattle.cluster.specs.Right.{wordsRight}
 use Rattle.cluster.specs.Check.{fault, faults, surplus, judged, takenOf}
 use Rattle.cluster.specs.Answers.{verdictTold, rightFrom, rightWords, checkTold}
-use Rattle.cluster.proofs.Accepted.{words, faults-length}
+use Rattle.cluster.proofs.Accepted.{words, faults-length, none-missing}
 
 -- the first fault of some words stands behind those that are right
 faults-right : (t : List ℕ) (i : ℕ) (rights : List Bool)
@@ -40,12 +40,13 @@ unfolding judged surplus checkTold rightWords
 judged-told t =
     let rights = wordsRight t in
     let k = rightFrom t 0 rights in
-    let f : faults t 0 rights ≡ cond (eqb k (size t)) Accepted (fault k) = rw (← words t) (faults-right t 0 rights ∙ rw zero-add) in
-    whether (eqb k (size t))
+    let f : faults t 0 rights ≡ cond (eqb k (length rights)) Accepted (fault k) = faults-right t 0 rights ∙ rw zero-add in
+    whether (eqb k (length rights))
     (λ y.
     let a : faults t 0 rights ≡ Accepted = f ∙ rw y in
-    let e = eqb-true k (size t) y in
-    let l : size t ≤ length t = omega (arith, faults-length t 0 rights a (omega arith), words t) in
+    let all : length rights ≡ size t = words t (none-missing t a) in
+    let e : k ≡ size t = eqb-true k (length rights) y ∙ all in
+    let l : size t ≤ length t = omega (arith, faults-length t 0 rights a (omega arith), all) in
     order (size t) (length t)
     (λ b. rw (a, y, lt-ltb (size t) (length t) b, ne-eqb (length t) (size t) (λ q. omega arith), e))
     (λ b. rw (a, y, le-ltb (size t) (length t) b, eq-eqb (length t) (size t) (omega arith))))

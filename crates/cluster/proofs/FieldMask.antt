@@ -13,7 +13,7 @@ use Rattle.wire.proofs.Tests.{whether}
 use Rattle.signal.specs.Signal.{number, inside}
 use Rattle.signal.proofs.Inside.{order, inside-true, inside-low, inside-high}
 use Rattle.signal.proofs.Numbers.{bit-none, bit-shift, number-mod, number-bits, number-below, bit-number, number-ext, number-join}
-use Rattle.cluster.specs.Right.{anyBelow}
+use Rattle.cluster.specs.Places.{anyBelow}
 use Rattle.cluster.specs.Read.{hits}
 use Rattle.cluster.proofs.Any.{none-below, any-found, any-ext}
 

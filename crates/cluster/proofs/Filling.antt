@@ -1,4 +1,4 @@
--- The frame buffer as it is filled, byte by byte and signal by signal.
+-- The frame buffer as it is filled, byte by byte and placement by placement.
 use Prim.Native.Nat.{ℕ, zero, suc, _+_, _%_, _<_, _≤_}
 use mathlib.Core.Path.{_≡_, refl, sym, _∙_, ap}
 use mathlib.Core.Bool.{Bool, true, false}
@@ -8,9 +8,8 @@ use native.Mathlib.Omega.{arith}
 use borrow.Author.Fill.{fill-more}
 use lib.ListN.{length, set, take, drop, replicate, length-replicate, drop-of-length-le}
 use Rattle.signal.specs.Signal.{putScalar, putArray}
-use Rattle.cluster.specs.Table.{signalCount, signalWidth, signalStart, isArray}
-use Rattle.cluster.specs.Fresh.{arrayLength, putStart, filled}
-use Rattle.cluster.specs.Places.{signalPlace}
+use Rattle.cluster.specs.Table.{signalWidth, signalStart, isArray, placementCount}
+use Rattle.cluster.specs.Fresh.{arrayLength, startAt, putStart, filled}
 use Rattle.cluster.proofs.Starts.{filled-length}
 
 -- one more byte set
@@ -28,28 +27,28 @@ take-replicate (suc n) zero x h = absurd (omega arith)
 take-replicate (suc n) (suc m) x h = ap (λ (l : List ℕ). x ∷ l) (take-replicate n m x (omega arith))
 
 -- what a signal's start value leaves, by its kind
-start-array : (t : List ℕ) (s : ℕ) (bs : List ℕ) → isArray t s ≡ true
-    → putStart t s bs ≡ putArray bs (signalPlace t s) (replicate (arrayLength t s) (signalStart t s % 256))
-unfolding putStart
-start-array t s bs h = rw h
+start-array : (t : List ℕ) (s place : ℕ) (bs : List ℕ) → isArray t s ≡ true
+    → startAt t s place bs ≡ putArray bs place (replicate (arrayLength t s) (signalStart t s % 256))
+unfolding startAt
+start-array t s place bs h = rw h
 
-start-scalar : (t : List ℕ) (s : ℕ) (bs : List ℕ) → isArray t s ≡ false
-    → putStart t s bs ≡ putScalar bs (signalPlace t s) (signalWidth t s) (signalStart t s)
-unfolding putStart
-start-scalar t s bs h = rw h
+start-scalar : (t : List ℕ) (s place : ℕ) (bs : List ℕ) → isArray t s ≡ false
+    → startAt t s place bs ≡ putScalar bs place (signalWidth t s) (signalStart t s)
+unfolding startAt
+start-scalar t s place bs h = rw h
 
 -- what the code puts of an array, and of a scalar
 pub array-put : (t : List ℕ) (s : ℕ) (bs : List ℕ) (array : Bool) (place start n : ℕ) (bytes : List ℕ)
-    → array ≡ isArray t s → array ≡ true → place ≡ signalPlace t s → start ≡ signalStart t s → n ≡ arrayLength t s → n ≤ 8
-    → bytes ≡ putArray bs place (take n (replicate 8 (start % 256))) → bytes ≡ putStart t s bs
-array-put t s bs array place start n bytes ea h ep es en b e =
-    e ∙ rw (take-replicate n 8 (start % 256) b, ep, es, en) (sym (start-array t s bs (sym ea ∙ h)))
+    → array ≡ isArray t s → array ≡ true → start ≡ signalStart t s → n ≡ arrayLength t s → n ≤ 8
+    → bytes ≡ putArray bs place (take n (replicate 8 (start % 256))) → bytes ≡ startAt t s place bs
+array-put t s bs array place start n bytes ea h es en b e =
+    e ∙ rw (take-replicate n 8 (start % 256) b, es, en) (sym (start-array t s place bs (sym ea ∙ h)))
 
 pub scalar-put : (t : List ℕ) (s : ℕ) (bs : List ℕ) (array : Bool) (place width start : ℕ) (bytes : List ℕ)
-    → array ≡ isArray t s → array ≡ false → place ≡ signalPlace t s → width ≡ signalWidth t s → start ≡ signalStart t s
-    → bytes ≡ putScalar bs place width start → bytes ≡ putStart t s bs
-scalar-put t s bs array place width start bytes ea h ep ew es e =
-    e ∙ rw (ep, ew, es) (sym (start-scalar t s bs (sym ea ∙ h)))
+    → array ≡ isArray t s → array ≡ false → width ≡ signalWidth t s → start ≡ signalStart t s
+    → bytes ≡ putScalar bs place width start → bytes ≡ startAt t s place bs
+scalar-put t s bs array place width start bytes ea h ew es e =
+    e ∙ rw (ew, es) (sym (start-scalar t s place bs (sym ea ∙ h)))
 
 -- no start value put, and one more
 pub filled-none : (t bytes : List ℕ) (size : ℕ) → bytes ≡ replicate size 255 → bytes ≡ filled t (length bytes) 0
@@ -64,6 +63,6 @@ filled-turn t size n old bytes eo e = e ∙ rw (eo, add-one n)
 pub filled-same : (t : List ℕ) (n size : ℕ) (first bytes : List ℕ) → first ≡ replicate size 255 → bytes ≡ filled t (length first) n → length bytes ≡ size
 filled-same t n size first bytes ef e = ap length e ∙ filled-length t (length first) n ∙ ap length ef ∙ length-replicate size 255
 
-pub filled-all : (t : List ℕ) (n size : ℕ) (first bytes : List ℕ) → n ≡ signalCount t → first ≡ replicate size 255 → bytes ≡ filled t (length first) n
-    → bytes ≡ filled t size (signalCount t)
+pub filled-all : (t : List ℕ) (n size : ℕ) (first bytes : List ℕ) → n ≡ placementCount t → first ≡ replicate size 255 → bytes ≡ filled t (length first) n
+    → bytes ≡ filled t size (placementCount t)
 filled-all t n size first bytes en ef e = let d : length first ≡ size = ap length ef ∙ length-replicate size 255 in rw (d, en) at e

@@ -15,9 +15,9 @@ use Rattle.signal.proofs.Inside.{order}
 use Rattle.cluster.specs.Check.{fault, faults, then, surplus, judged, RightTable}
 use Rattle.cluster.specs.declared.Verdict.{Verdict}
 use Rattle.cluster.specs.declared.Verdict.the-variants.{Accepted, Refused}
-use Rattle.cluster.specs.Right.{wordsRight}
+use Rattle.cluster.specs.Right.{allPlaced, wordsRight}
 use Rattle.cluster.specs.Table.{size}
-use Rattle.cluster.proofs.Accepted.{words, faults-true, then-first, AllTrue}
+use Rattle.cluster.proofs.Accepted.{words, faults-true, none-missing, then-first, AllTrue}
 
 all-true : (bs : List Bool) → AllTrue bs → (j : ℕ) → j < length bs → getD bs j false ≡ true
 all-true [] a j h = absurd (omega arith)
@@ -80,17 +80,17 @@ module _ (t : List ℕ) where
 
   -- ---- the whole table
 
-  -- the word at a position is missing, wrong or surplus
+  -- the word at a position is missing, wrong or surplus; where a signal has no placement, the place behind the placements counts as a word
   abbrev pub AtFault : ℕ → Type 0
   AtFault p =
-      ((length t ≡ p) × (p < size t))
-      ⊎ ((p < size t) × (getD (wordsRight t) p true ≡ false))
-      ⊎ ((p ≡ size t) × (p < length t))
+      ((length t ≡ p) × (p < length (wordsRight t)))
+      ⊎ ((p < length (wordsRight t)) × (getD (wordsRight t) p true ≡ false))
+      ⊎ ((p ≡ size t) × (p < length t) × (allPlaced t ≡ true))
 
   -- "the position of the first word that is wrong, missing or surplus"
   pub record FirstFault (r : Refusal) : Type 0 where
     pub number : r .number ≡ table
-    pub before : (j : ℕ) → j < r .place → (j < length t) × (j < size t) × (getD (wordsRight t) j false ≡ true)
+    pub before : (j : ℕ) → j < r .place → (j < length t) × (j < length (wordsRight t)) × (getD (wordsRight t) j false ≡ true)
     pub fault : AtFault (r .place)
     pub within : r .place ≤ length t
 
@@ -98,7 +98,7 @@ module _ (t : List ℕ) where
   in-words : (r : Refusal) → FirstOf t 0 (wordsRight t) r → FirstFault r
   in-words r f =
       let p : r .place ≡ f .count = ap (λ x. x .place) (f .place) ∙ omega arith in
-      let l : f .count < size t = omega (arith, words t, f .within) in
+      let l : f .count < length (wordsRight t) = f .within in
       let b : (j : ℕ) → j < f .count → j < length t = (λ j h. omega (arith, f .before j h .0)) in
       record {
         number = ap (λ x. x .number) (f .place);
@@ -119,10 +119,12 @@ module _ (t : List ℕ) where
       (λ e. let b : size t < length t = ltb-true (size t) (length t) e in
       let s : fault (size t) ≡ Refused r = rw e at h in
       let p : r .place ≡ size t = cc in
+      let placed = none-missing t a in
+      let due : length (wordsRight t) ≡ size t = words t placed in
       record {
         number = cc;
-        before = λ j l. (omega arith, omega arith, all-true (wordsRight t) (faults-true t 0 (wordsRight t) a) j (omega (arith, words t)));
-        fault = inr (inr (p, omega arith));
+        before = λ j l. (omega arith, omega arith, all-true (wordsRight t) (faults-true t 0 (wordsRight t) a) j (omega arith));
+        fault = inr (inr (p, omega arith, placed));
         within = omega arith;
       })
       (λ e. let s : Accepted ≡ Refused r = rw e at h in absurd (let z : _≡_ {A = ℕ} 0 1 = cc in omega arith))
@@ -139,16 +141,18 @@ module _ (t : List ℕ) where
   pub words-right : RightTable t → (j : ℕ) → j < size t → getD (wordsRight t) j false ≡ true
   unfolding judged
   words-right ok j h =
-      all-true (wordsRight t) (faults-true t 0 (wordsRight t) (then-first (faults t 0 (wordsRight t)) (surplus t) ok)) j (omega (arith, words t))
+      let a = then-first (faults t 0 (wordsRight t)) (surplus t) ok in
+      all-true (wordsRight t) (faults-true t 0 (wordsRight t) a) j (omega (arith, words t (none-missing t a)))
 
   -- and conversely: a table of the right length of which every word is right is accepted
-  pub all-right : length t ≡ size t → ((j : ℕ) → j < size t → getD (wordsRight t) j true ≡ true) → RightTable t
-  all-right e right = by-verdict (judged t) (λ r h. never (r .place) (first-fault r h .fault))
+  pub all-right : length t ≡ size t → allPlaced t ≡ true → ((j : ℕ) → j < size t → getD (wordsRight t) j true ≡ true) → RightTable t
+  all-right e placed right = by-verdict (judged t) (λ r h. never (r .place) (first-fault r h .fault))
     where
       never : (p : ℕ) → AtFault p → ⊥
       never p =
           ⊎-elim
-          (λ m. omega (arith, m))
+          (λ m. omega (arith, m, words t placed))
           (⊎-elim
-          (λ w. let z : _≡_ {A = Bool} true false = sym (right p (w .0)) ∙ w .1 in let n : _≡_ {A = ℕ} 0 1 = cc in omega arith)
+          (λ w. let z : _≡_ {A = Bool} true false = sym (right p (omega (arith, w .0, words t placed))) ∙ w .1 in
+          let n : _≡_ {A = ℕ} 0 1 = cc in omega arith)
           (λ l. omega (arith, l)))

@@ -16,16 +16,18 @@ use Rattle.signal.proofs.Laws.{bit-stays, bit-put-inside}
 use Rattle.signal.proofs.Numbers.{number-ext, number-bits}
 use Rattle.cluster.specs.Check.{RightTable}
 use Rattle.cluster.specs.Table.{frameCount, signalCount, signalWidth, signalStart, isArray}
+use Rattle.cluster.specs.Table.{placementCount, placementSignal, placementWidth}
 use Rattle.cluster.specs.Fresh.{arrayLength, putStart, filled, freshBytes}
-use Rattle.cluster.specs.Places.{signalPlace, occupies}
-use Rattle.cluster.proofs.DisjointSignals.{other-bits}
-use Rattle.cluster.proofs.Occupied.{occupies-from, not-occupied}
-use Rattle.cluster.proofs.PlaceLaws.{place-end, array-bits}
-use Rattle.cluster.proofs.SignalLaws.{scalar-width-high, scalar-start-below, array-width-whole, array-width-high, array-start-high}
+use Rattle.cluster.specs.Places.{placeOf, covers}
+use Rattle.cluster.proofs.DisjointPlacements.{other-placement}
+use Rattle.cluster.proofs.Occupied.{covers-from, not-covered}
+use Rattle.cluster.proofs.PlacementLaws.{placement-signal-below, place-end}
+use Rattle.cluster.proofs.SignalLaws.{scalar-width-high, scalar-start-below, array-width-whole, array-width-high, array-start-high, array-bits}
+use Rattle.cluster.proofs.SomePlacement.{Of}
 use Rattle.cluster.proofs.Starts.{startBytes, startWidth, startBit, array-start-width, scalar-start-width, array-start-bit, scalar-start-bit}
 use Rattle.cluster.proofs.Starts.{start-within, start-is, start-bytes-length, replicate-bytes, filled-length}
 
--- ---- the bits of no signal
+-- ---- the bits of no placement
 
 ones : (k : ℕ) → k < 8 → bit 255 k ≡ true
 unfolding bit
@@ -35,27 +37,29 @@ set-bit : (size j : ℕ) → j < 8 * size → bitAt (replicate size 255) j ≡ t
 unfolding bitAt
 set-bit size j h = rw (getD-replicate {A = ℕ} size (j / 8) 255 0 (omega arith)) (ones (j % 8) (omega arith))
 
--- a start value changes no bit that is not its signal's
-start-outside : (t bs : List ℕ) (s j : ℕ) → occupies t s j ≡ false → bitAt (putStart t s bs) j ≡ bitAt bs j
-start-outside t bs s j h =
+-- a start value changes no bit that is not its placement's
+start-outside : (t bs : List ℕ) (k j : ℕ) → covers t k j ≡ false → bitAt (putStart t k bs) j ≡ bitAt bs j
+unfolding placementWidth
+start-outside t bs k j h =
+    let s = placementSignal t k in
     let w : startWidth t s ≤ signalWidth t s = start-within t s in
-    rw (start-is t s bs)
-    (bit-stays bs (signalPlace t s) (startWidth t s) (startBit t s) j (⊎-elim (λ a. inl a) (λ a. inr (omega arith)) (not-occupied t s j h)))
+    rw (start-is t k bs)
+    (bit-stays bs (placeOf t k) (startWidth t s) (startBit t s) j (⊎-elim (λ a. inl a) (λ a. inr (omega arith)) (not-covered t k j h)))
 
--- a bit of none of the first n signals
+-- a bit of none of the first n placements
 module _ (t : List ℕ) (size j : ℕ) (within : j < 8 * size) where
-  free-bit : (n : ℕ) → ((s : ℕ) → s < n → occupies t s j ≡ false) → bitAt (filled t size n) j ≡ true
+  free-bit : (n : ℕ) → ((k : ℕ) → k < n → covers t k j ≡ false) → bitAt (filled t size n) j ≡ true
   unfolding filled
   free-bit zero free = set-bit size j within
-  free-bit (suc n) free = start-outside t (filled t size n) n j (free n (omega arith)) ∙ free-bit n (λ s h. free s (omega arith))
+  free-bit (suc n) free = start-outside t (filled t size n) n j (free n (omega arith)) ∙ free-bit n (λ k h. free k (omega arith))
 
--- "255 everywhere": every bit of no signal is 1
+-- "255 everywhere": every bit of no placement is 1
 pub fresh-free : (t : List ℕ) (j : ℕ) → j < 64 * frameCount t
-    → ((s : ℕ) → s < signalCount t → occupies t s j ≡ false) → bitAt (freshBytes t) j ≡ true
+    → ((k : ℕ) → k < placementCount t → covers t k j ≡ false) → bitAt (freshBytes t) j ≡ true
 unfolding freshBytes
-fresh-free t j h free = free-bit t (8 * frameCount t) j (omega arith) (signalCount t) free
+fresh-free t j h free = free-bit t (8 * frameCount t) j (omega arith) (placementCount t) free
 
--- ---- the bits of each signal of an accepted table
+-- ---- the bits of each placement of an accepted table
 
 module _ (t : List ℕ) (ok : RightTable t) where
   -- an array has the bytes of its width
@@ -70,55 +74,60 @@ module _ (t : List ℕ) (ok : RightTable t) where
       (λ a. array-start-width t s a ∙ array-bits t ok s h a)
       (λ a. scalar-start-width t s a ∙ omega (arith, scalar-width-high t ok s h a))
 
-  -- a start value sets the bits of its signal, and none of another one
-  own-bit : (bs : List ℕ) (s : ℕ) → length bs ≡ 8 * frameCount t → s < signalCount t → (k : ℕ) → k < signalWidth t s
-      → bitAt (putStart t s bs) (signalPlace t s + k) ≡ startBit t s k
-  own-bit bs s l h k b =
-      rw (start-is t s bs, start-wide s h)
-      (bit-put-inside bs (signalPlace t s) (signalWidth t s) (startBit t s) k (omega (arith, place-end t ok s h)) b)
+  -- a start value sets the bits of its placement, and none of another one
+  own-bit : (bs : List ℕ) (k : ℕ) → length bs ≡ 8 * frameCount t → k < placementCount t → (i : ℕ) → i < placementWidth t k
+      → bitAt (putStart t k bs) (placeOf t k + i) ≡ startBit t (placementSignal t k) i
+  unfolding placementWidth
+  own-bit bs k l h i b =
+      let s = placementSignal t k in
+      rw (start-is t k bs, start-wide s (placement-signal-below t ok k h))
+      (bit-put-inside bs (placeOf t k) (signalWidth t s) (startBit t s) i (omega (arith, place-end t ok k h)) b)
 
-  other-bit : (bs : List ℕ) (r s : ℕ) → r < signalCount t → s < signalCount t → (r ≡ s → ⊥) → (k : ℕ) → k < signalWidth t s
-      → bitAt (putStart t r bs) (signalPlace t s + k) ≡ bitAt bs (signalPlace t s + k)
-  other-bit bs r s hr hs n k b =
-      let j = signalPlace t s + k in
-      start-outside t bs r j (other-bits t ok s r j hs hr (λ e. n (sym e)) (occupies-from t s j (omega arith) (omega arith)))
+  other-bit : (bs : List ℕ) (m k : ℕ) → m < placementCount t → k < placementCount t → (m ≡ k → ⊥) → (i : ℕ) → i < placementWidth t k
+      → bitAt (putStart t m bs) (placeOf t k + i) ≡ bitAt bs (placeOf t k + i)
+  other-bit bs m k hm hk n i b =
+      let j = placeOf t k + i in
+      start-outside t bs m j (other-placement t ok k m j hk hm (λ e. n (sym e)) (covers-from t k j (omega arith) (omega arith)))
 
-  filled-bit : (n s : ℕ) → n ≤ signalCount t → s < n → (k : ℕ) → k < signalWidth t s
-      → bitAt (filled t (8 * frameCount t) n) (signalPlace t s + k) ≡ startBit t s k
+  filled-bit : (n k : ℕ) → n ≤ placementCount t → k < n → (i : ℕ) → i < placementWidth t k
+      → bitAt (filled t (8 * frameCount t) n) (placeOf t k + i) ≡ startBit t (placementSignal t k) i
   unfolding filled
-  filled-bit zero s m h k b = absurd (omega arith)
-  filled-bit (suc n) s m h k b =
+  filled-bit zero k m h i b = absurd (omega arith)
+  filled-bit (suc n) k m h i b =
       let size = 8 * frameCount t in
-      elim (ℕ-discrete n s) [
-        | yes e ↦ rw e (own-bit (filled t size s) s (filled-length t size s) (omega arith) k b)
-        | no d ↦ other-bit (filled t size n) n s (omega arith) (omega arith) d k b ∙ filled-bit n s (omega arith) (omega arith) k b
+      elim (ℕ-discrete n k) [
+        | yes e ↦ rw e (own-bit (filled t size k) k (filled-length t size k) (omega arith) i b)
+        | no d ↦ other-bit (filled t size n) n k (omega arith) (omega arith) d i b ∙ filled-bit n k (omega arith) (omega arith) i b
       ]
 
-  -- "then the start values": the bits of each signal are those of its start value
-  pub fresh-bit : (s : ℕ) → s < signalCount t → (k : ℕ) → k < signalWidth t s → bitAt (freshBytes t) (signalPlace t s + k) ≡ startBit t s k
-  unfolding freshBytes
-  fresh-bit s h = filled-bit (signalCount t) s (omega arith) h
+  -- "then the start values": the bits of each placement of a signal are those of its start value
+  module _ (s k : ℕ) (o : Of t s k) where
+    own-signal : s < signalCount t
+    own-signal = rw (o .is) at (placement-signal-below t ok k (o .there))
 
-  -- a scalar reads as its start value, and each byte of an array too
-  pub fresh-scalar : (s : ℕ) → s < signalCount t → isArray t s ≡ false
-      → getScalar (freshBytes t) (signalPlace t s) (signalWidth t s) ≡ signalStart t s
-  unfolding getScalar
-  fresh-scalar s h a =
-      let w : scalarWidth (signalWidth t s) ≡ signalWidth t s = omega (arith, scalar-width-high t ok s h a) in
-      rw w
-      (number-ext (signalWidth t s) (λ k. bitAt (freshBytes t) (signalPlace t s + k)) (startBit t s) (fresh-bit s h)
-      ∙ ap (number (signalWidth t s)) (scalar-start-bit t s a)
-      ∙ number-bits (signalWidth t s) (signalStart t s) (scalar-start-below t ok s h a))
+    pub fresh-bit : (i : ℕ) → i < signalWidth t s → bitAt (freshBytes t) (placeOf t k + i) ≡ startBit t s i
+    unfolding freshBytes placementWidth
+    fresh-bit i b =
+        rw (o .is) at (filled-bit (placementCount t) k (omega arith) (o .there) i (rw (o .is) b))
 
-  pub fresh-array : (s : ℕ) → s < signalCount t → isArray t s ≡ true
-      → getArray (freshBytes t) (signalPlace t s) (arrayLength t s) ≡ replicate (arrayLength t s) (signalStart t s)
-  unfolding getArray startBytes
-  fresh-array s h a =
-      let vs = startBytes t s in
-      let m : signalStart t s % 256 ≡ signalStart t s = omega (arith, array-start-high t ok s h a) in
-      bytes-ext (arrayLength t s) (λ k. bitAt (freshBytes t) (signalPlace t s + k)) (startBit t s)
-      (λ k b. fresh-bit s h k (omega (arith, array-bits t ok s h a)))
-      ∙ ap (bytesOf (arrayLength t s)) (array-start-bit t s a)
-      ∙ ap (λ (n : ℕ). bytesOf n (bitAt vs)) (sym (start-bytes-length t s))
-      ∙ bytes-are vs (replicate-bytes (arrayLength t s) (signalStart t s % 256) (omega arith))
-      ∙ rw m
+    -- a scalar reads as its start value, and each byte of an array too
+    pub fresh-scalar : isArray t s ≡ false → getScalar (freshBytes t) (placeOf t k) (signalWidth t s) ≡ signalStart t s
+    unfolding getScalar
+    fresh-scalar a =
+        let w : scalarWidth (signalWidth t s) ≡ signalWidth t s = omega (arith, scalar-width-high t ok s own-signal a) in
+        rw w
+        (number-ext (signalWidth t s) (λ i. bitAt (freshBytes t) (placeOf t k + i)) (startBit t s) fresh-bit
+        ∙ ap (number (signalWidth t s)) (scalar-start-bit t s a)
+        ∙ number-bits (signalWidth t s) (signalStart t s) (scalar-start-below t ok s own-signal a))
+
+    pub fresh-array : isArray t s ≡ true → getArray (freshBytes t) (placeOf t k) (arrayLength t s) ≡ replicate (arrayLength t s) (signalStart t s)
+    unfolding getArray startBytes
+    fresh-array a =
+        let vs = startBytes t s in
+        let m : signalStart t s % 256 ≡ signalStart t s = omega (arith, array-start-high t ok s own-signal a) in
+        bytes-ext (arrayLength t s) (λ i. bitAt (freshBytes t) (placeOf t k + i)) (startBit t s)
+        (λ i b. fresh-bit i (omega (arith, array-bits t ok s own-signal a)))
+        ∙ ap (bytesOf (arrayLength t s)) (array-start-bit t s a)
+        ∙ ap (λ (n : ℕ). bytesOf n (bitAt vs)) (sym (start-bytes-length t s))
+        ∙ bytes-are vs (replicate-bytes (arrayLength t s) (signalStart t s % 256) (omega arith))
+        ∙ rw m

@@ -8,18 +8,21 @@ use lib.ListN.{length}
 use Rattle.cluster.specs.Check.{RightTable}
 use Rattle.cluster.specs.Columns.{headerColumns}
 use Rattle.cluster.specs.Right.{headerRight}
-use Rattle.cluster.specs.Table.{mostFrames, mostSignals, mostMembers, mostEntries, frameCount, signalCount, memberCount, entryCount, size}
+use Rattle.cluster.specs.Table.{mostFrames, mostSignals, mostMembers, mostEntries, mostPlacements}
+use Rattle.cluster.specs.Table.{frameCount, signalCount, memberCount, entryCount, placementCount, size}
 use Rattle.cluster.proofs.Accepted.{AllTrue, exact, header-right}
 
 -- a header of which each word is right
 pub header-counts : (t : List ℕ) → AllTrue (headerRight t)
     → (frameCount t ≤ mostFrames) × (signalCount t ≤ mostSignals) × (memberCount t ≤ mostMembers) × (entryCount t ≤ mostEntries)
+    × (placementCount t ≤ mostPlacements)
 unfolding headerRight headerColumns
 header-counts t right = (
   leb-true (frameCount t) mostFrames (right .0),
   leb-true (signalCount t) mostSignals (right .1 .0),
   leb-true (memberCount t) mostMembers (right .1 .1 .0),
   leb-true (entryCount t) mostEntries (right .1 .1 .1 .0),
+  leb-true (placementCount t) mostPlacements (right .1 .1 .1 .1 .0),
 )
 
 module _ (t : List ℕ) (ok : RightTable t) where
@@ -39,11 +42,15 @@ module _ (t : List ℕ) (ok : RightTable t) where
   pub entry-count : entryCount t ≤ 256
   entry-count = header-counts t (header-right t ok) .3
 
-  -- "Length is exactly 4 + 3F + 5S + 2M + 4E"
-  pub table-length : length t ≡ 4 + 3 * frameCount t + 5 * signalCount t + 2 * memberCount t + 4 * entryCount t
+  -- at most 512 placements
+  pub placement-count : placementCount t ≤ 512
+  placement-count = header-counts t (header-right t ok) .4
+
+  -- the length is exactly 5 + 3F + 3S + 3P + 2M + 4E
+  pub table-length : length t ≡ 5 + 3 * frameCount t + 3 * signalCount t + 3 * placementCount t + 2 * memberCount t + 4 * entryCount t
   unfolding size
   table-length = omega (arith, exact t ok)
 
-  -- "at most 2,608"
-  pub table-limit : length t ≤ 2608
-  table-limit = omega (arith, table-length, frame-count, signal-count, member-count, entry-count)
+  -- at most 3,633
+  pub table-limit : length t ≤ 3633
+  table-limit = omega (arith, table-length, frame-count, signal-count, member-count, entry-count, placement-count)

@@ -6,8 +6,10 @@ pub mod Clauses
 pub mod ColumnsExactly
 pub mod Counting
 pub mod CountingUp
-pub mod DisjointSignals
+pub mod DisjointPlacements
+pub mod EachPlacement
 pub mod Earlier
+pub mod EarlierPlacement
 pub mod EntryLaws
 pub mod EntryTurn
 pub mod FieldLaws
@@ -29,7 +31,9 @@ pub mod MemberTurn
 pub mod NextEntry
 pub mod Occupied
 pub mod OrderExactly
-pub mod PlaceLaws
+pub mod PlacementLaws
+pub mod PlacementMarks
+pub mod PlacementTurn
 pub mod RightExactly
 pub mod Scan
 pub mod ScheduleLaws
@@ -37,7 +41,9 @@ pub mod Searching
 pub mod Sections
 pub mod SignalLaws
 pub mod SignalTurn
+pub mod SomePlacement
 pub mod Starts
+pub mod StickingOut
 pub mod TakenLaws
 pub mod UsedMarks
 pub mod ValueLaws

@@ -12,7 +12,7 @@ use lib.Dec.{eqb}
 use lib.ListN.{length, getD}
 use Rattle.signal.proofs.Inside.{order}
 use Rattle.cluster.specs.Lists.{firstFrom, firstEntry, nextEntry, membersFrom, members, nextMember}
-use Rattle.cluster.specs.Table.{word, frameCount, signalCount, memberCount, memberList, memberFrame, entryCount, entrySchedule}
+use Rattle.cluster.specs.Table.{placementCount, word, frameCount, signalCount, memberCount, memberList, memberFrame, entryCount, entrySchedule}
 use Rattle.cluster.proofs.InWords.{M, E, listWord, memberWord, scheduleWord}
 use Rattle.cluster.proofs.ListLaws.{Each, each}
 use Rattle.cluster.proofs.ListWalk.{turn-in, turn-out}
@@ -59,7 +59,7 @@ module _ (t : List ℕ) where
 
   -- a schedule's first entry is the least with its number
   pub first-entry-exactly : (n d : ℕ) → d < E t → (firstEntry t n ≡ d) ↔ FirstOf n d
-  unfolding firstEntry entryCount entrySchedule frameCount signalCount memberCount word
+  unfolding firstEntry entryCount entrySchedule frameCount signalCount placementCount memberCount word
   first-entry-exactly n d b =
       let found = found-exactly (scheduleWord t) n 0 (E t) d (omega arith) in (
         (λ e. let w = found .0 e in (b, w .1, λ c l. w .2 c (omega arith) l)),
@@ -68,7 +68,7 @@ module _ (t : List ℕ) where
 
   -- where no entry has the number, the number of entries is told
   pub first-entry-none : (n : ℕ) → (firstEntry t n ≡ E t) ↔ ((e : ℕ) → e < E t → scheduleWord t e ≢ n)
-  unfolding firstEntry entryCount entrySchedule frameCount signalCount memberCount word
+  unfolding firstEntry entryCount entrySchedule frameCount signalCount placementCount memberCount word
   first-entry-none n =
       let none = none-exactly (scheduleWord t) n 0 (E t) in (
         (λ h e b. none .0 (omega arith) e (omega arith) (omega arith)),
@@ -80,7 +80,7 @@ module _ (t : List ℕ) where
       → (nextEntry t e ≡ d)
       ↔ (((e + 1 < E t) × (scheduleWord t (e + 1) ≡ scheduleWord t e) × (d ≡ e + 1))
       ⊎ ((e + 1 < E t → scheduleWord t (e + 1) ≢ scheduleWord t e) × FirstOf (scheduleWord t e) d))
-  unfolding entryCount entrySchedule frameCount signalCount memberCount word
+  unfolding entryCount entrySchedule frameCount signalCount placementCount memberCount word
   next-entry-exactly e d b =
       order (e + 1) (E t)
       (λ l. elim (ℕ-discrete (scheduleWord t (e + 1)) (scheduleWord t e)) [
@@ -117,12 +117,12 @@ module _ (t : List ℕ) where
   -- the first member of a list from member m on is the least there with its number
   pub next-member-exactly : (l m d : ℕ) → d < M t
       → (nextMember t l m ≡ d) ↔ ((m ≤ d) × (listWord t d ≡ l) × ((k : ℕ) → m ≤ k → k < d → listWord t k ≢ l))
-  unfolding nextMember memberCount memberList frameCount signalCount word
+  unfolding nextMember memberCount memberList frameCount signalCount placementCount word
   next-member-exactly l m d b = found-exactly (listWord t) l m (M t - m) d (omega arith)
 
   -- where there is none, the number of members is told
   pub next-member-none : (l m : ℕ) → m ≤ M t → (nextMember t l m ≡ M t) ↔ ((k : ℕ) → m ≤ k → k < M t → listWord t k ≢ l)
-  unfolding nextMember memberCount memberList frameCount signalCount word
+  unfolding nextMember memberCount memberList frameCount signalCount placementCount word
   next-member-none l m b =
       let none = none-exactly (listWord t) l m (M t - m) in (
         (λ h k a c. none .0 (omega arith) k a (omega arith)),
@@ -171,7 +171,7 @@ module _ (t : List ℕ) where
   pub members-in-order : (l i j : ℕ) → i < j → j < length (members t l)
       → (a : ℕ) × (b : ℕ) × (a < b) × (b < M t)
       × (listWord t a ≡ l) × (listWord t b ≡ l) × (getD (members t l) i 0 ≡ memberWord t a) × (getD (members t l) j 0 ≡ memberWord t b)
-  unfolding members memberCount memberList memberFrame frameCount signalCount word
+  unfolding members memberCount memberList memberFrame frameCount signalCount placementCount word
   members-in-order l i j b h =
       let w = all-ordered l 0 (M t) i j b h in
       (w .0, w .1, w .3, omega (arith, w .4), w .5, w .6, w .7, w .8)

@@ -10,9 +10,9 @@ use Rattle.wire.proofs.Tests.{whether}
 use Rattle.signal.specs.Signal.{bitAt, putBits, scalarWidth, putScalar, putArray}
 use Rattle.signal.proofs.Inside.{order}
 use Rattle.signal.proofs.PutBits.{put-length, put-bytes}
-use Rattle.cluster.specs.Table.{frameCount, signalCount, signalWidth, signalStart, isArray}
-use Rattle.cluster.specs.Fresh.{arrayLength, putStart, filled, freshBytes}
-use Rattle.cluster.specs.Places.{signalPlace}
+use Rattle.cluster.specs.Table.{frameCount, signalWidth, signalStart, isArray, placementCount, placementSignal}
+use Rattle.cluster.specs.Fresh.{arrayLength, startAt, putStart, filled, freshBytes}
+use Rattle.cluster.specs.Places.{placeOf}
 
 -- the bytes of an array's start value
 unfoldable pub startBytes : List ℕ → ℕ → List ℕ
@@ -54,12 +54,18 @@ module _ (t : List ℕ) (s : ℕ) where
   unfolding startBytes
   start-bytes-length = length-replicate (arrayLength t s) (signalStart t s % 256)
 
-  pub start-is : (bs : List ℕ) → putStart t s bs ≡ putBits bs (signalPlace t s) (startWidth t s) (startBit t s)
-  unfolding putStart putArray putScalar startWidth startBit startBytes
-  start-is bs =
+  start-put : (place : ℕ) (bs : List ℕ) → startAt t s place bs ≡ putBits bs place (startWidth t s) (startBit t s)
+  unfolding startAt putArray putScalar startWidth startBit startBytes
+  start-put place bs =
       whether (isArray t s)
       (λ h. rw (h, start-bytes-length))
       (λ h. rw h)
+
+-- the bits of the start value of a placement's signal are put at the placement
+pub start-is : (t : List ℕ) (k : ℕ) (bs : List ℕ)
+    → putStart t k bs ≡ putBits bs (placeOf t k) (startWidth t (placementSignal t k)) (startBit t (placementSignal t k))
+unfolding putStart
+start-is t k bs = start-put t (placementSignal t k) (placeOf t k) bs
 
 pub replicate-bytes : (n v : ℕ) → v < 256 → Bytes (replicate n v)
 replicate-bytes n v h i =
@@ -71,20 +77,20 @@ pub filled-length : (t : List ℕ) (size n : ℕ) → length (filled t size n) �
 unfolding filled
 filled-length t size zero = length-replicate size 255
 filled-length t size (suc n) =
-    rw (start-is t n (filled t size n)) (put-length (filled t size n) (signalPlace t n) (startWidth t n) (startBit t n))
+    rw (start-is t n (filled t size n)) (put-length (filled t size n) (placeOf t n) (startWidth t (placementSignal t n)) (startBit t (placementSignal t n)))
     ∙ filled-length t size n
 
 filled-bytes : (t : List ℕ) (size n : ℕ) → Bytes (filled t size n)
 unfolding filled
 filled-bytes t size zero = replicate-bytes size 255 (omega arith)
 filled-bytes t size (suc n) =
-    rw (start-is t n (filled t size n)) (put-bytes (filled t size n) (signalPlace t n) (startWidth t n) (startBit t n))
+    rw (start-is t n (filled t size n)) (put-bytes (filled t size n) (placeOf t n) (startWidth t (placementSignal t n)) (startBit t (placementSignal t n)))
 
 -- "a lent buffer of exactly 8F bytes"
 pub fresh-length : (t : List ℕ) → length (freshBytes t) ≡ 8 * frameCount t
 unfolding freshBytes
-fresh-length t = filled-length t (8 * frameCount t) (signalCount t)
+fresh-length t = filled-length t (8 * frameCount t) (placementCount t)
 
 pub fresh-bytes : (t : List ℕ) → Bytes (freshBytes t)
 unfolding freshBytes
-fresh-bytes t = filled-bytes t (8 * frameCount t) (signalCount t)
+fresh-bytes t = filled-bytes t (8 * frameCount t) (placementCount t)

@@ -26,21 +26,23 @@ pub taken-refused : (t : List ℕ) (r : Refusal) → (takenOf t ≡ Refused r) �
 unfolding takenOf
 taken-refused t r = (λ h. h, λ h. h)
 
--- "at most 2,608": no fault stands behind the longest table
-fault-high : (t : List ℕ) (r : Refusal) → judged t ≡ Refused r → r .place ≤ 2608
+-- no fault stands behind the longest table, of 3,633 words
+fault-high : (t : List ℕ) (r : Refusal) → judged t ≡ Refused r → r .place ≤ 3633
 fault-high t r h =
     let w = refused-exactly t r .0 h .1 in
-    order 3 (r .place)
+    order 4 (r .place)
     (λ b.
     let f = w .before 0 (omega arith) .2 .frames refl in
     let s = w .before 1 (omega arith) .2 .signals refl in
     let m = w .before 2 (omega arith) .2 .members refl in
-    let e = w .before 3 b .2 .entries refl in
-    let due : r .place ≤ wordsDue t = ⊎-elim (λ x. omega (arith, x .0)) (⊎-elim (λ x. omega (arith, x .0)) (λ x. omega (arith, x .0))) (w .there) in
+    let e = w .before 3 (omega arith) .2 .entries refl in
+    let p = w .before 4 b .2 .placements refl in
+    let due : r .place ≤ wordsDue t =
+    ⊎-elim (λ x. omega (arith, x .0)) (⊎-elim (λ x. omega (arith, x .0)) (⊎-elim (λ x. omega (arith, x .0)) (λ x. omega (arith, x .0)))) (w .there) in
     omega arith)
     (λ b. omega arith)
 
-pub taken-high : (t : List ℕ) (r : Refusal) → takenOf t ≡ Refused r → r .place ≤ 2608
+pub taken-high : (t : List ℕ) (r : Refusal) → takenOf t ≡ Refused r → r .place ≤ 3633
 unfolding takenOf
 taken-high t r h = fault-high t r h
 

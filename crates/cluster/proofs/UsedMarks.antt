@@ -11,7 +11,7 @@ use lib.Dec.{eqb}
 use lib.ListN.{length, getD, set, replicate, getD-replicate, length-replicate, length-set, List·getD-eq-default}
 use lib.Seq.{getD-set-same, getD-set-other}
 use Rattle.signal.proofs.Inside.{order}
-use Rattle.cluster.specs.Right.{anyBelow}
+use Rattle.cluster.specs.Places.{anyBelow}
 
 -- an array of one value reads as that value, there and behind
 pub getD-same : {A : Type 0} (n : ℕ) (v : A) (i : ℕ) → getD (replicate n v) i v ≡ v

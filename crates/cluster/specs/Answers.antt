@@ -33,4 +33,4 @@ rightWords t = rightFrom t 0 (wordsRight t)
 -- "The table check accepts" where all words are there and right and there are no more of them, "or gives the position of the first word that is wrong,
 -- missing or surplus": as many as are right before it
 unfoldable pub checkTold : List ℕ → Told
-checkTold t = cond (eqb (rightWords t) (size t) && eqb (length t) (size t)) (gives []) (refuses (refusedAt 1 (rightWords t)))
+checkTold t = cond (eqb (rightWords t) (length (wordsRight t)) && eqb (length t) (size t)) (gives []) (refuses (refusedAt 1 (rightWords t)))

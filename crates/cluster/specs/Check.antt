@@ -8,8 +8,9 @@ use lib.ListN.{length}
 use Rattle.refusal.specs.Numbers.{table, refusedAt}
 use Rattle.cluster.specs.declared.Verdict.{Verdict}
 use Rattle.cluster.specs.declared.Verdict.the-variants.{Accepted, Refused}
-use Rattle.cluster.specs.Table.{frameCount, signalCount, memberCount, entryCount, frameAt, signalAt, memberAt, entryAt, size}
-use Rattle.cluster.specs.Right.{records, headerRight, frameRight, signalRight, memberRight, entryRight, wordsRight}
+use Rattle.cluster.specs.Table.{frameCount, signalCount, memberCount, entryCount, placementCount}
+use Rattle.cluster.specs.Table.{frameAt, signalAt, placementAt, memberAt, entryAt, size}
+use Rattle.cluster.specs.Right.{records, headerRight, frameRight, signalRight, placementRight, allPlaced, memberRight, entryRight, wordsRight}
 
 -- "refusal 1" with the position
 abbrev pub fault : ℕ → Verdict
@@ -34,6 +35,13 @@ frameFaults t = faults t (frameAt 0) (records 0 (frameCount t) (frameRight t))
 
 abbrev pub signalFaults : List ℕ → Verdict
 signalFaults t = faults t (signalAt t 0) (records 0 (signalCount t) (signalRight t))
+
+abbrev pub placementFaults : List ℕ → Verdict
+placementFaults t = faults t (placementAt t 0) (records 0 (placementCount t) (placementRight t))
+
+-- refusal 1 "also covers a signal with no placement", told "directly behind the last" one
+unfoldable pub unplaced : List ℕ → Verdict
+unplaced t = cond (allPlaced t) Accepted (fault (placementAt t (placementCount t)))
 
 abbrev pub memberFaults : List ℕ → Verdict
 memberFaults t = faults t (memberAt t 0) (records 0 (memberCount t) (memberRight t))

@@ -1,10 +1,10 @@
--- Document 01, "The cluster table": the columns of each record, over its words and what is known of the words before. What is right
+-- Document 01, "The cluster table", and document 02, Req 03: the columns of each record, over its words and what is known of the words before. What is right
 -- (specs/Right) takes them over the fields of a table, and the check over the words that it reads, with its marks.
-use Prim.Native.Nat.{ℕ, zero, suc, _+_, _%_, _^_}
+use Prim.Native.Nat.{ℕ, zero, suc, _%_, _^_}
 use mathlib.Core.Bool.{Bool, true, not, cond, _&&_, _||_}
 use mathlib.Core.List.{List, [], _∷_}
 use lib.Dec.{ltb, leb, eqb}
-use Rattle.cluster.specs.Table.{mostFrames, mostSignals, mostMembers, mostEntries, identifiers}
+use Rattle.cluster.specs.Table.{mostFrames, mostSignals, mostMembers, mostEntries, mostPlacements, identifiers}
 
 -- a..b
 abbrev pub within : ℕ → ℕ → ℕ → Bool
@@ -12,10 +12,15 @@ within a b x = leb a x && leb x b
 
 -- ---- the header
 
--- "frames F (0..60), signals S (0..256), list members M (0..60), schedule entries E (0..256)"
-unfoldable pub headerColumns : ℕ → ℕ → ℕ → ℕ → List Bool
-headerColumns frames signals members entries =
-    leb frames mostFrames ∷ leb signals mostSignals ∷ leb members mostMembers ∷ leb entries mostEntries ∷ []
+-- "frames F (0..60), signals S (0..256), list members M (0..60), schedule entries E (0..256)", "a fifth word P (0..512)"
+unfoldable pub headerColumns : ℕ → ℕ → ℕ → ℕ → ℕ → List Bool
+headerColumns frames signals members entries placements =
+    leb frames mostFrames
+    ∷ leb signals mostSignals
+    ∷ leb members mostMembers
+    ∷ leb entries mostEntries
+    ∷ leb placements mostPlacements
+    ∷ []
 
 -- ---- a frame
 
@@ -36,25 +41,13 @@ frameColumns used id bytes flags = identifierRight used id ∷ lengthRight bytes
 
 -- ---- a signal
 
--- "frame number < F"
-abbrev pub signalFrameRight : ℕ → ℕ → Bool
-signalFrameRight frames frame = ltb frame frames
-
 -- "kind 0 scalar, 1 array"
 abbrev pub signalKindRight : ℕ → Bool
 signalKindRight kind = leb kind 1
 
--- "offset below 8 x length, for arrays a multiple of 8"
-unfoldable pub offsetRight : Bool → ℕ → ℕ → Bool
-offsetRight array bits offset = ltb offset bits && cond array (eqb (offset % 8) 0) true
-
 -- "width 1..16, for arrays 8..64 in eights"
 unfoldable pub widthRight : Bool → ℕ → Bool
 widthRight array width = cond array (within 8 64 width && eqb (width % 8) 0) (within 1 16 width)
-
--- "inside the frame and overlapping no earlier signal"
-abbrev pub signalWidthRight : Bool → ℕ → Bool → ℕ → ℕ → Bool
-signalWidthRight array bits overlap offset width = widthRight array width && leb (offset + width) bits && not overlap
 
 -- "start value below 2^width, for arrays 0..255"
 unfoldable pub startLimit : Bool → ℕ → ℕ
@@ -63,21 +56,46 @@ startLimit array width = cond array 256 (2 ^ width)
 abbrev pub startRight : Bool → ℕ → ℕ → Bool
 startRight array width start = ltb start (startLimit array width)
 
-unfoldable pub signalColumns : ℕ → ℕ → Bool → ℕ → ℕ → ℕ → ℕ → ℕ → List Bool
-signalColumns frames bits overlap frame kind offset width start =
-    signalFrameRight frames frame
-    ∷ signalKindRight kind
-    ∷ offsetRight (eqb kind 1) bits offset
-    ∷ signalWidthRight (eqb kind 1) bits overlap offset width
+unfoldable pub signalColumns : ℕ → ℕ → ℕ → List Bool
+signalColumns kind width start =
+    signalKindRight kind
+    ∷ widthRight (eqb kind 1) width
     ∷ startRight (eqb kind 1) width start
     ∷ []
 
--- ---- a member
+-- ---- numbers that count up
 
--- "first 0, then equal to the previous one or one more", of a list or schedule number; `count` is one more than the previous one
+-- "first 0, then equal to the previous one or one more", of a signal, list or schedule number; `count` is one more than the previous one
 unfoldable pub follows : ℕ → ℕ → Bool
 follows zero number = eqb number 0
 follows (suc previous) number = eqb number previous || eqb number (suc previous)
+
+-- ---- a placement
+
+-- "in ascending signal order", and the signal is there
+abbrev pub placementSignalRight : ℕ → Bool → ℕ → Bool
+placementSignalRight signals up signal = up && ltb signal signals
+
+-- "frame number < F"; refusal 1 covers "two in one frame, or mixed publishers"
+abbrev pub placementFrameRight : ℕ → Bool → Bool → ℕ → Bool
+placementFrameRight frames again mixed frame = ltb frame frames && not again && not mixed
+
+-- "offset below 8 x length, for arrays a multiple of 8"
+unfoldable pub offsetRight : Bool → ℕ → ℕ → Bool
+offsetRight array bits offset = ltb offset bits && cond array (eqb (offset % 8) 0) true
+
+-- "fit and overlap are judged at the offset word"
+abbrev pub placementOffsetRight : Bool → ℕ → Bool → Bool → ℕ → Bool
+placementOffsetRight array bits out overlap offset = offsetRight array bits offset && not out && not overlap
+
+unfoldable pub placementColumns : ℕ → ℕ → Bool → Bool → Bool → Bool → ℕ → Bool → Bool → ℕ → ℕ → ℕ → List Bool
+placementColumns signals frames up again mixed array bits out overlap signal frame offset =
+    placementSignalRight signals up signal
+    ∷ placementFrameRight frames again mixed frame
+    ∷ placementOffsetRight array bits out overlap offset
+    ∷ []
+
+-- ---- a member
 
 -- "frame number, master-published, no earlier member"
 abbrev pub memberFrameRight : ℕ → Bool → Bool → ℕ → Bool

@@ -14,8 +14,8 @@ ghost use Rattle.cluster.specs.Check.{entryFaults};
 ghost use Rattle.cluster.specs.Columns.{targetRight, entryColumns};
 ghost use Rattle.cluster.specs.Lists.{firstEntry, nextEntry};
 ghost use Rattle.cluster.specs.Read.{EntryRead, leading};
-ghost use Rattle.cluster.specs.Table.{mostFrames, mostSignals, mostMembers, mostEntries};
-ghost use Rattle.cluster.specs.Table.{frameCount, signalCount, memberCount, entryCount, scheduleCount};
+ghost use Rattle.cluster.specs.Table.{mostFrames, mostSignals, mostMembers, mostEntries, mostPlacements};
+ghost use Rattle.cluster.specs.Table.{frameCount, signalCount, memberCount, entryCount, placementCount, scheduleCount};
 ghost use Rattle.cluster.specs.Table.{entrySchedule, entryKind, entryTarget, entryDelay};
 
 // How many entries there are, in all schedules together.
@@ -99,7 +99,7 @@ pub fn next(t: &[u16], e: u16) -> u16
 // Checks the entries' records.
 pub(crate) fn judge(t: &[u16]) -> Verdict
     requires { ⌜ (frameCount (now t) ≤ mostFrames) × (signalCount (now t) ≤ mostSignals) × (memberCount (now t) ≤ mostMembers) ⌝ }
-    requires { ⌜ entryCount (now t) ≤ mostEntries ⌝ }
+    requires { ⌜ (entryCount (now t) ≤ mostEntries) × (placementCount (now t) ≤ mostPlacements) ⌝ }
     ensures { λ r. ⌜ r ≡ entryFaults (now (t .entry)) ⌝ }
 {
     let lists = members::lists(t);

@@ -1,4 +1,4 @@
-// The cluster table of document 01, a lent slice of 16-bit words: the check, the fields by name, and the bytes a fresh call
+// The cluster table of documents 01 and 02, a lent slice of 16-bit words: the check, the fields by name, and the bytes a fresh call
 // leaves. Every call accepts every slice and every number. The crates above use these names and never the layout.
 use refusal::Refusal;
 
@@ -7,6 +7,7 @@ pub mod frames;
 pub mod fresh;
 mod marks;
 pub mod members;
+pub mod placements;
 pub mod signals;
 mod table;
 pub mod values;
@@ -33,6 +34,8 @@ impl Limits {
 
     pub const ENTRIES: usize = 256;
 
+    pub const PLACEMENTS: usize = 512;
+
     pub const IDENTIFIERS: usize = 60;
 }
 
@@ -48,6 +51,12 @@ pub fn check(t: &[u16]) -> Verdict
         return Verdict::Refused(refusal);
     }
     if let Verdict::Refused(refusal) = signals::judge(t) {
+        return Verdict::Refused(refusal);
+    }
+    if let Verdict::Refused(refusal) = placements::judge(t) {
+        return Verdict::Refused(refusal);
+    }
+    if let Verdict::Refused(refusal) = placements::unplaced(t) {
         return Verdict::Refused(refusal);
     }
     if let Verdict::Refused(refusal) = members::judge(t) {

@@ -15,8 +15,8 @@ ghost use Rattle.cluster.specs.Check.{memberFaults};
 ghost use Rattle.cluster.specs.Columns.{memberColumns};
 ghost use Rattle.cluster.specs.Lists.{members, nextMember, isOneOf, memberOf};
 ghost use Rattle.cluster.specs.Read.{leading};
-ghost use Rattle.cluster.specs.Table.{mostFrames, mostSignals, mostMembers};
-ghost use Rattle.cluster.specs.Table.{frameCount, signalCount, memberCount, memberList, memberFrame, listCount};
+ghost use Rattle.cluster.specs.Table.{mostFrames, mostSignals, mostMembers, mostPlacements};
+ghost use Rattle.cluster.specs.Table.{frameCount, signalCount, memberCount, placementCount, memberList, memberFrame, listCount};
 
 // How many members there are, in all lists together.
 pub fn count(t: &[u16]) -> u16
@@ -99,7 +99,7 @@ pub fn of_frame(t: &[u16], f: u16) -> u16
 
 // Checks the members' records; the frames in a list so far are marked.
 pub(crate) fn judge(t: &[u16]) -> Verdict
-    requires { ⌜ (frameCount (now t) ≤ mostFrames) × (signalCount (now t) ≤ mostSignals) × (memberCount (now t) ≤ mostMembers) ⌝ }
+    requires { ⌜ (frameCount (now t) ≤ mostFrames) × (signalCount (now t) ≤ mostSignals) × (memberCount (now t) ≤ mostMembers) × (placementCount (now t) ≤ mostPlacements) ⌝ }
     ensures { λ r. ⌜ r ≡ memberFaults (now (t .entry)) ⌝ }
 {
     let mut listed = [false; Limits::FRAMES];

@@ -7,7 +7,7 @@ ghost use Prim.Native.Nat.{_≤_, _<_};
 ghost use Rattle.cluster.specs.Check.{headerFaults, surplus as surplusOf};
 ghost use Rattle.cluster.specs.Columns.{follows as followsOf, headerColumns};
 ghost use Rattle.cluster.specs.Read.{due as dueOf, leading};
-ghost use Rattle.cluster.specs.Table.{word as wordOf, frameAt, signalAt, memberAt, entryAt};
+ghost use Rattle.cluster.specs.Table.{word as wordOf, frameAt, signalAt, placementAt, memberAt, entryAt};
 
 // The word at a position, and 0 where there is none.
 pub(crate) fn word(t: &[u16], i: usize) -> u16
@@ -28,11 +28,13 @@ pub(crate) fn due(t: &[u16], i: usize) -> usize
 pub(crate) struct Layout;
 
 impl Layout {
-    pub(crate) const HEADER: usize = 4;
+    pub(crate) const HEADER: usize = 5;
 
     pub(crate) const FRAME: usize = 3;
 
-    pub(crate) const SIGNAL: usize = 5;
+    pub(crate) const SIGNAL: usize = 3;
+
+    pub(crate) const PLACEMENT: usize = 3;
 
     pub(crate) const MEMBER: usize = 2;
 
@@ -56,20 +58,29 @@ pub(crate) fn signal_at(t: &[u16], s: usize) -> usize
     frame_at(word(t, 0) as usize) + Layout::SIGNAL * s
 }
 
+// Where a placement's record begins.
+pub(crate) fn placement_at(t: &[u16], k: usize) -> usize
+    requires { ⌜ k ≤ 65536 ⌝ }
+    ensures { λ r. ⌜ r ≡ placementAt (now (t .entry)) k ⌝ }
+    ensures { λ r. ⌜ r < 2000000 ⌝ }
+{
+    signal_at(t, word(t, 1) as usize) + Layout::PLACEMENT * k
+}
+
 // Where a member's record begins.
 pub(crate) fn member_at(t: &[u16], m: usize) -> usize
     requires { ⌜ m ≤ 65536 ⌝ }
     ensures { λ r. ⌜ r ≡ memberAt (now (t .entry)) m ⌝ }
-    ensures { λ r. ⌜ r < 2000000 ⌝ }
+    ensures { λ r. ⌜ r < 3000000 ⌝ }
 {
-    signal_at(t, word(t, 1) as usize) + Layout::MEMBER * m
+    placement_at(t, word(t, 4) as usize) + Layout::MEMBER * m
 }
 
 // Where an entry's record begins.
 pub(crate) fn entry_at(t: &[u16], e: usize) -> usize
     requires { ⌜ e ≤ 65536 ⌝ }
     ensures { λ r. ⌜ r ≡ entryAt (now (t .entry)) e ⌝ }
-    ensures { λ r. ⌜ r < 3000000 ⌝ }
+    ensures { λ r. ⌜ r < 4000000 ⌝ }
 {
     member_at(t, word(t, 2) as usize) + Layout::ENTRY * e
 }
@@ -78,7 +89,7 @@ pub(crate) fn entry_at(t: &[u16], e: usize) -> usize
 pub(crate) fn judge(t: &[u16]) -> Verdict
     ensures { λ r. ⌜ r ≡ headerFaults (now (t .entry)) ⌝ }
 {
-    let right = right_words(due(t, 0), due(t, 1), due(t, 2), due(t, 3));
+    let right = right_words(due(t, 0), due(t, 1), due(t, 2), due(t, 3), due(t, 4));
     if right < Layout::HEADER {
         fault(right)
     } else {
@@ -87,8 +98,14 @@ pub(crate) fn judge(t: &[u16]) -> Verdict
 }
 
 // How many words of the header are right before the first that is not.
-fn right_words(frames: usize, signals: usize, members: usize, entries: usize) -> usize
-    ensures { λ r. ⌜ r ≡ leading (headerColumns frames signals members entries) ⌝ }
+fn right_words(
+    frames: usize,
+    signals: usize,
+    members: usize,
+    entries: usize,
+    placements: usize,
+) -> usize
+    ensures { λ r. ⌜ r ≡ leading (headerColumns frames signals members entries placements) ⌝ }
 {
     if Limits::FRAMES < frames {
         return 0;
@@ -99,7 +116,14 @@ fn right_words(frames: usize, signals: usize, members: usize, entries: usize) ->
     if Limits::MEMBERS < members {
         return 2;
     }
-    if entries <= Limits::ENTRIES { 4 } else { 3 }
+    if Limits::ENTRIES < entries {
+        return 3;
+    }
+    if placements <= Limits::PLACEMENTS {
+        5
+    } else {
+        4
+    }
 }
 
 // A word behind the last record.
@@ -114,7 +138,7 @@ pub(crate) fn surplus(t: &[u16]) -> Verdict
     }
 }
 
-// Whether a list or schedule number may follow those before it; `count` is one more than the previous one.
+// Whether a signal, list or schedule number may follow those before it; `count` is one more than the previous one.
 pub(crate) fn follows(count: usize, number: usize) -> bool
     requires { ⌜ number ≤ 65536 ⌝ }
     ensures { λ r. ⌜ r ≡ followsOf count number ⌝ }

@@ -16,6 +16,10 @@ use Rattle.master.specs.declared.state.Message.{Message}
 use Rattle.master.specs.declared.state.Message.the-variants as message
 use Rattle.master.specs.declared.state.Sending.{Sending}
 use Rattle.master.specs.declared.state.Status.{Status}
+use Rattle.master.specs.declared.state.Last.{Last}
+use Rattle.master.specs.declared.state.Last.the-variants.{Never, Placement}
+use Rattle.master.specs.declared.state.Reception.{Reception}
+use Rattle.master.specs.Fresh.{neverReceived}
 use Rattle.transport.specs.declared.reassembly.Assembly.{Assembly}
 use Rattle.transport.specs.declared.reassembly.Reassembly.{Reassembly}
 use Rattle.transport.specs.declared.reassembly.Reassembly.the-variants as reassembly
@@ -38,6 +42,10 @@ openNumber opened.Nothing = 65536
 openNumber (opened.Frame f) = f
 openNumber opened.Request = 65537
 openNumber opened.Response = 65538
+
+abbrev pub receptionNumber : Last → ℕ
+receptionNumber Never = 65536
+receptionNumber (Placement k) = k
 
 -- ---- the master's state, part by part
 
@@ -71,8 +79,13 @@ withMessage message.Failed d = set d 75 3
 abbrev pub withStatus : Status → List ℕ → List ℕ
 withStatus s d = set (set (set (set d 79 (bit (s .error))) 80 (bit (s .success))) 81 (bit (s .overrun))) 82 (s .last)
 
+unfoldable pub withReceived : List Reception → List ℕ → List ℕ
+withReceived rs d = withEach (λ i. receptionNumber (getD rs i neverReceived .last)) 128 256 d
+
 unfoldable pub withState : State → List ℕ → List ℕ
-withState s d = withStatus (s .status) (withMessage (s .message) (withTransfer (s .transfer) (withPlan (s .plan) (withPending (s .pending) d))))
+withState s d =
+    withReceived (s .received)
+    (withStatus (s .status) (withMessage (s .message) (withTransfer (s .transfer) (withPlan (s .plan) (withPending (s .pending) d)))))
 
 -- ---- the reassembler's
 

@@ -16,6 +16,9 @@ use Rattle.master.specs.declared.state.Opened.the-variants as opened
 use Rattle.master.specs.declared.state.Message.{Message}
 use Rattle.master.specs.declared.state.Message.the-variants as message
 use Rattle.master.specs.declared.state.Status.{Status}
+use Rattle.master.specs.declared.state.Reception.{Reception}
+use Rattle.master.specs.declared.state.Last.the-variants.{Placement}
+use Rattle.master.specs.Fresh.{neverReceived}
 use Rattle.transport.specs.declared.reassembly.Reassembly.{Reassembly}
 use Rattle.transport.specs.declared.reassembly.Reassembly.the-variants as reassembly
 
@@ -72,8 +75,23 @@ messageOn d =
 abbrev pub statusOn : List ℕ → Status
 statusOn d = record { error = isSet d 79; success = isSet d 80; overrun = isSet d 81; last = byteAt d 82 }
 
+-- a placement received last: 65,536 stands for never
+unfoldable pub receptionOf : ℕ → Reception
+receptionOf n = cond (eqb n 65536) neverReceived (record { last = Placement (n % 65536) })
+
+unfoldable pub receivedOn : List ℕ → List Reception
+receivedOn d = each (λ i. receptionOf (at d (128 + i))) 256
+
 abbrev pub stateOn : List ℕ → State
-stateOn d = record { pending = pendingOn d; plan = planOn d; transfer = transferOn d; message = messageOn d; status = statusOn d }
+stateOn d =
+    record {
+      pending = pendingOn d;
+      plan = planOn d;
+      transfer = transferOn d;
+      message = messageOn d;
+      status = statusOn d;
+      received = receivedOn d;
+    }
 
 -- ---- the reassembler's
 

@@ -6,7 +6,7 @@ pub mod state;
 ghost use mathlib.Core.Path.{_≡_};
 ghost use Prim.Native.Nat.{_%_};
 
-pub const SIZE: usize = 128;
+pub const SIZE: usize = 384;
 
 pub type Desk = [u32; SIZE];
 
@@ -73,7 +73,12 @@ pub const NUMBERS: usize = 98;
 // The numbers or bytes of an answer.
 pub const ANSWER: usize = 110;
 
-// In the place of an entry or a schedule: none; in that of a frame: nothing is open, or a transfer that is of no frame.
+// The placements received last, one a signal, behind all else.
+pub const SIGNALS: usize = 256;
+
+pub const RECEIVED: usize = 128;
+
+// In the place of an entry, a schedule or a placement: none; in that of a frame: nothing is open, or a transfer that is of no frame.
 pub const NONE: u32 = 65536;
 
 pub const OPEN_REQUEST: u32 = 65537;

@@ -17,26 +17,31 @@ use crate::OPEN;
 use crate::OPEN_REQUEST;
 use crate::OPEN_RESPONSE;
 use crate::OVERRUN;
+use crate::RECEIVED;
 use crate::REQUEST;
 use crate::SENDING;
+use crate::SIGNALS;
 use crate::SUCCESS;
 use crate::WAIT;
 use crate::WRITTEN;
 use crate::byte;
 use crate::word;
 use master::state::Current;
+use master::state::Last;
 use master::state::Message;
 use master::state::Opened;
 use master::state::Plan;
+use master::state::Reception;
 use master::state::Requested;
 use master::state::Sending;
 use master::state::State;
 use master::state::Status;
 use master::state::Transfer;
 ghost use mathlib.Core.Path.{_≡_};
-ghost use Rattle.desk.specs.Taken.{pendingOn, currentOf, requestedOf, planOn, openedOf, nineOn, transferOn, messageOn, statusOn, stateOn};
-ghost use Rattle.desk.specs.Put.{bit, entryNumber, scheduleNumber, openNumber};
-ghost use Rattle.desk.specs.Put.{withPending, withPlan, withNine, withTransfer, withSending, withMessage, withStatus, withState};
+ghost use Rattle.desk.specs.Taken.{pendingOn, currentOf, requestedOf, planOn, openedOf, nineOn, transferOn, messageOn, statusOn};
+ghost use Rattle.desk.specs.Taken.{receptionOf, receivedOn, stateOn};
+ghost use Rattle.desk.specs.Put.{bit, entryNumber, scheduleNumber, openNumber, receptionNumber};
+ghost use Rattle.desk.specs.Put.{withPending, withPlan, withNine, withTransfer, withSending, withMessage, withStatus, withReceived, withState};
 
 // Takes the state.
 pub fn take(desk: &Desk) -> State
@@ -48,6 +53,7 @@ pub fn take(desk: &Desk) -> State
         transfer: transfer(desk),
         message: message(desk),
         status: status(desk),
+        received: received(desk),
     }
 }
 
@@ -171,6 +177,32 @@ fn status(desk: &Desk) -> Status
     }
 }
 
+// The placements received last.
+fn received(desk: &Desk) -> [Reception; SIGNALS]
+    ensures { λ r. ⌜ r ≡ receivedOn (now (desk .entry)) ⌝ }
+{
+    let mut received = [Reception::never(); SIGNALS];
+    let mut s: usize = 0;
+    while s < SIGNALS {
+        received[s] = reception(desk[RECEIVED + s]);
+        s += 1;
+    }
+    received
+}
+
+// The placement of a signal that was received last.
+fn reception(n: u32) -> Reception
+    ensures { λ r. ⌜ r ≡ receptionOf n ⌝ }
+{
+    if n == NONE {
+        Reception::never()
+    } else {
+        Reception {
+            last: Last::Placement(word(n)),
+        }
+    }
+}
+
 // Puts a state.
 pub fn put(desk: &mut Desk, state: State)
     ensures { λ _. ⌜ now (desk .exit) ≡ withState state (now (desk .entry)) ⌝ }
@@ -180,11 +212,13 @@ pub fn put(desk: &mut Desk, state: State)
     let transfer = state.transfer;
     let message = state.message;
     let status = state.status;
+    let received = state.received;
     put_pending(desk, &pending);
     put_plan(desk, plan);
     put_transfer(desk, transfer);
     put_message(desk, message);
     put_status(desk, status);
+    put_received(desk, received);
 }
 
 // Puts the pending bits.
@@ -294,6 +328,29 @@ fn put_status(desk: &mut Desk, status: Status)
     desk[SUCCESS] = bit(status.success);
     desk[OVERRUN] = bit(status.overrun);
     desk[LAST] = status.last as u32;
+}
+
+// Puts the placements received last.
+fn put_received(desk: &mut Desk, received: [Reception; SIGNALS])
+    ensures { λ _. ⌜ now (desk .exit) ≡ withReceived received (now (desk .entry)) ⌝ }
+{
+    let mut s: usize = 0;
+    while s < SIGNALS {
+        let reception = received[s];
+        desk[RECEIVED + s] = reception_number(reception);
+        s += 1;
+    }
+}
+
+// A placement received last as a number.
+fn reception_number(reception: Reception) -> u32
+    ensures { λ r. ⌜ r ≡ receptionNumber (reception .last) ⌝ }
+{
+    let last = reception.last;
+    match last {
+        Last::Never => NONE,
+        Last::Placement(k) => k as u32,
+    }
 }
 
 // A byte as a number.

@@ -3,14 +3,16 @@ use crate::show;
 use cluster::entries;
 use cluster::frames;
 use cluster::members;
+use cluster::placements;
 use cluster::signals;
 
-// A right table: 6 frames, 6 signals, 4 members in 2 lists, 6 entries in 2 schedules.
-const TABLE: [u16; 84] = [
+// A right table: 6 frames, 6 signals, each placed once, 4 members in 2 lists, 6 entries in 2 schedules.
+const TABLE: [u16; 91] = [
     // counts
     6,
     6,
     4,
+    6,
     6,
     // frame 0
     2,
@@ -37,41 +39,53 @@ const TABLE: [u16; 84] = [
     1,
     1,
     // signal 0
-    1,
     0,
-    5,
     3,
     1,
     // signal 1
-    1,
     0,
-    8,
     8,
     200,
     // signal 2
     0,
-    0,
-    4,
     12,
     2748,
     // signal 3
     1,
-    1,
-    32,
     8,
     90,
     // signal 4
-    2,
     1,
-    0,
     16,
     165,
     // signal 5
-    3,
     0,
-    4,
     16,
     4660,
+    // placement 0
+    0,
+    1,
+    5,
+    // placement 1
+    1,
+    1,
+    8,
+    // placement 2
+    2,
+    0,
+    4,
+    // placement 3
+    3,
+    1,
+    32,
+    // placement 4
+    4,
+    2,
+    0,
+    // placement 5
+    5,
+    3,
+    4,
     // member 0
     0,
     1,
@@ -120,13 +134,14 @@ const TABLE: [u16; 84] = [
 pub(crate) fn all() {
     let t = TABLE;
     show::text(
-        b"counts of frames, signals, members, entries, lists and schedules: the table, its first 3 words, its first 0\n",
+        b"counts of frames, signals, members, entries, placements, lists and schedules: the table, its first 3 words, its first 0\n",
     );
     counts(&t);
     counts(&t[..3]);
     counts(&t[..0]);
     all_frames(&t);
     all_signals(&t);
+    all_placements(&t);
     all_members(&t);
     all_entries(&t);
     all_schedules(&t);
@@ -139,6 +154,7 @@ fn counts(t: &[u16]) {
     number(signals::count(t));
     number(members::count(t));
     number(entries::count(t));
+    number(placements::count(t));
     size(members::lists(t));
     size(entries::schedules(t));
     show::text(b"\n");
@@ -161,26 +177,39 @@ fn frame(t: &[u16], f: u16) {
 }
 
 fn all_signals(t: &[u16]) {
-    show::text(
-        b"signals: frame, kind, offset, width, start, place in the buffer, bytes of an array\n",
-    );
+    show::text(b"signals: kind, width, start, bytes of an array\n");
     signal(t, 6);
     signal(t, 65535);
 }
 
 fn signal(t: &[u16], s: u16) {
     label(s);
-    number(signals::frame(t, s));
     number(signals::kind(t, s));
-    number(signals::offset(t, s));
     number(signals::width(t, s));
     number(signals::start(t, s));
-    size(signals::place(t, s));
     if signals::is_array(t, s) {
         size(signals::array_length(t, s));
     } else {
         show::text(b" -");
     }
+    show::text(b"\n");
+}
+
+fn all_placements(t: &[u16]) {
+    show::text(
+        b"placements: signal, frame, offset, place in the buffer; the first placement of the signal of that number\n",
+    );
+    placement(t, 6);
+    placement(t, 65535);
+}
+
+fn placement(t: &[u16], p: u16) {
+    label(p);
+    number(placements::signal(t, p));
+    number(placements::frame(t, p));
+    number(placements::offset(t, p));
+    size(placements::place(t, p));
+    number(placements::first(t, p));
     show::text(b"\n");
 }
 

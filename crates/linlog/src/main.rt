@@ -63,10 +63,10 @@ fn header() -> [u8; 16]
 }
 
 // The built-in table: one frame, identifier 2, length 1, enhanced.
-fn table() -> [u16; 7]
+fn table() -> [u16; 8]
     ensures { λ r. ⌜ r ≡ builtIn ⌝ }
 {
-    [1, 0, 0, 0, 2, 1, 0]
+    [1, 0, 0, 0, 0, 2, 1, 0]
 }
 
 // The log before the first reading: the first line is line 1, and nothing was kept.

@@ -17,6 +17,7 @@ use Rattle.cluster.proofs.FrameLaws.{identifier-below, frame-length-low, frame-
 use Rattle.master.specs.declared.state.Opened.{Opened}
 use Rattle.master.specs.declared.state.Opened.the-variants.{Nothing, Frame, Request, Response}
 use Rattle.master.specs.declared.state.State.{State}
+use Rattle.master.specs.Received.{receivedFits}
 use Rattle.master.specs.Transfers.{formatOf, isOpen, openLength, openIdentifier}
 use Rattle.master.specs.Fits.{entryThere, scheduleThere, frameThere, waitFits, pendingFits, canOpen, countFits, messageFits, stateFits}
 use Rattle.master.specs.Admit.{unless, bufferSize, admitted}
@@ -67,11 +68,13 @@ pub record Fits (t : List ℕ) (s : State) : Type 0 where
   pub can-open : canOpen t (s .message) (s .plan .current) (s .transfer .opened) ≡ true
   pub count-fits : countFits t (s .transfer) ≡ true
   pub message-fits : messageFits (s .message) ≡ true
+  pub receptions-fit : receivedFits t 0 (s .received) ≡ true
 
--- each of eight tests that hold together holds
-eight : (a b c d e f g h : Bool) → (a && b && c && d && e && f && g && h) ≡ true
-    → (a ≡ true) × (b ≡ true) × (c ≡ true) × (d ≡ true) × (e ≡ true) × (f ≡ true) × (g ≡ true) × (h ≡ true)
-eight a b c d e f g h k7 =
+-- each of nine tests that hold together holds
+nine : (a b c d e f g h i : Bool) → (a && b && c && d && e && f && g && h && i) ≡ true
+    → (a ≡ true) × (b ≡ true) × (c ≡ true) × (d ≡ true) × (e ≡ true) × (f ≡ true) × (g ≡ true) × (h ≡ true) × (i ≡ true)
+nine a b c d e f g h i k8 =
+    let k7 = and-left (a && b && c && d && e && f && g && h) i k8 in
     let k6 = and-left (a && b && c && d && e && f && g) h k7 in
     let k5 = and-left (a && b && c && d && e && f) g k6 in
     let k4 = and-left (a && b && c && d && e) f k5 in
@@ -86,6 +89,7 @@ eight a b c d e f g h k7 =
       and-right (a && b && c && d && e) f k5,
       and-right (a && b && c && d && e && f) g k6,
       and-right (a && b && c && d && e && f && g) h k7,
+      and-right (a && b && c && d && e && f && g && h) i k8,
     )
 
 -- each clause of a state that fits holds
@@ -93,9 +97,9 @@ pub fits-clauses : (t : List ℕ) (s : State) → stateFits t s ≡ true → Fit
 unfolding stateFits
 fits-clauses t s h =
     let w =
-    eight (entryThere t (s .plan .current)) (scheduleThere t (s .plan .requested)) (frameThere t (s .transfer .opened)) (waitFits t (s .plan))
+    nine (entryThere t (s .plan .current)) (scheduleThere t (s .plan .requested)) (frameThere t (s .transfer .opened)) (waitFits t (s .plan))
     (pendingFits t 0 (s .pending)) (canOpen t (s .message) (s .plan .current) (s .transfer .opened)) (countFits t (s .transfer))
-    (messageFits (s .message)) h
+    (messageFits (s .message)) (receivedFits t 0 (s .received)) h
     in
     record {
       entry-there = w .0;
@@ -106,13 +110,14 @@ fits-clauses t s h =
       can-open = w .5;
       count-fits = w .6;
       message-fits = w .7;
+      receptions-fit = w .8;
     }
 
 -- and back: a state of which every clause holds fits
 pub fits-all : (t : List ℕ) (s : State) → Fits t s → stateFits t s ≡ true
 unfolding stateFits
 fits-all t s f =
-    rw (f .entry-there, f .schedule-there, f .frame-there, f .wait-fits, f .pending-fits, f .can-open, f .count-fits, f .message-fits)
+    rw (f .entry-there, f .schedule-there, f .frame-there, f .wait-fits, f .pending-fits, f .can-open, f .count-fits, f .message-fits, f .receptions-fit)
 
 -- ---- numbers of an open transfer of which the frame is there
 

@@ -2,14 +2,15 @@
 use Prim.Native.Nat.{ℕ, zero, suc, _+_, _-_, _*_, _≤_, _<_}
 use mathlib.Core.Path.{_≡_, refl}
 use mathlib.Core.Logic.{_↔_, _⊎_, inl, inr, ⊎-elim}
-use mathlib.Core.Bool.{Bool, true, false}
+use mathlib.Core.Bool.{Bool, true, false, not, _&&_}
 use mathlib.Core.List.{List, [], _∷_}
 use native.Mathlib.Omega.{arith}
 use lib.Dec.{eqb, leb, ltb}
 use lib.ListN.{getD}
-use borrow.Author.Tests.{ltb-true, lt-ltb, leb-true, le-leb, eqb-true, eq-eqb}
+use borrow.Author.Tests.{ltb-true, lt-ltb, leb-true, le-leb, eqb-true, eq-eqb, not-true}
 use Rattle.cluster.specs.Check.{RightTable}
 use Rattle.cluster.specs.Table.{frameCount, frameLength, published, memberCount, memberList, memberFrame}
+use Rattle.cluster.specs.Table.{signalCount, placementCount, placementSignal, placementFrame}
 use Rattle.cluster.specs.Table.{entryCount, entrySchedule, entryKind, entryTarget, entryDelay, scheduleCount}
 use Rattle.cluster.specs.Lists.{isOneOf, members}
 use Rattle.cluster.proofs.EntryLaws.{schedule-below, schedule-entry}
@@ -27,10 +28,15 @@ use Rattle.master.specs.declared.state.Opened.the-variants.{Nothing, Fra
 use Rattle.master.specs.declared.state.Sending.{Sending}
 use Rattle.master.specs.declared.state.Message.{Message}
 use Rattle.master.specs.declared.state.Message.the-variants as message
+use Rattle.master.specs.declared.state.Last.{Last}
+use Rattle.master.specs.declared.state.Last.the-variants.{Never, Placement}
 use Rattle.master.specs.declared.state.State.{State}
+use Rattle.master.specs.Fresh.{neverReceived}
+use Rattle.master.specs.Received.{lastOf, lastFits, receivedFits}
 use Rattle.master.specs.Transfers.{isOpen, formatOf}
 use Rattle.master.specs.Fits.{entryThere, scheduleThere, frameThere, waitFits, bitFits, pendingFits, isSending, entryOpens, canOpen, countFits, messageFits, stateFits}
 use Rattle.master.proofs.Admitted.{Fits, fits-clauses, fits-all}
+use Rattle.master.proofs.ReceivedLaws.{fits-at, at-fits}
 use Rattle.master.proofs.Tests.{and-true, never}
 
 -- ---- the clauses
@@ -73,6 +79,9 @@ pub record Clauses (t : List ℕ) (s : State) : Type 0 where
   pub length-low : (x : Sending) → s .message ≡ message.Sending x → 1 ≤ x .length
   pub length-high : (x : Sending) → s .message ≡ message.Sending x → x .length ≤ 4095
   pub frame-left : (x : Sending) → s .message ≡ message.Sending x → FrameLeft (x .length) (x .next)
+  -- document 02, Req 03: "also a last reception in a published frame or one without the signal"; of the 256 signals that a state keeps
+  pub reception : (i k : ℕ) → getD (s .received) i neverReceived .last ≡ Placement k
+      → (i < signalCount t) × (k < placementCount t) × (placementSignal t k ≡ i) × (published t (placementFrame t k) ≡ false)
 
 -- ---- the pending bits
 
@@ -165,6 +174,30 @@ module _ (y : Sending) where
   clauses-sending a b c =
       rw (le-leb 1 (y .length) a, le-leb (y .length) 4095 b, lt-ltb (y .next) (messageFrames (y .length)) (left-to-send (y .length) (y .next) .1 c))
 
+-- ---- a reception
+
+module _ (t : List ℕ) (i k : ℕ) where
+  abbrev Received : Type 0
+  Received = (i < signalCount t) × (k < placementCount t) × (placementSignal t k ≡ i) × (published t (placementFrame t k) ≡ false)
+
+  last-clauses : lastFits t i (Placement k) ≡ true → Received
+  unfolding lastFits
+  last-clauses h =
+      let a = ltb i (signalCount t) in
+      let b = ltb k (placementCount t) in
+      let c = eqb (placementSignal t k) i in
+      let k2 = and-left (a && b && c) (not (published t (placementFrame t k))) h in
+      let k1 = and-left (a && b) c k2 in (
+        ltb-true i (signalCount t) (and-left a b k1),
+        ltb-true k (placementCount t) (and-right a b k1),
+        eqb-true (placementSignal t k) i (and-right (a && b) c k2),
+        not-true (published t (placementFrame t k)) (and-right (a && b && c) (not (published t (placementFrame t k))) h),
+      )
+
+  clauses-last : Received → lastFits t i (Placement k) ≡ true
+  unfolding lastFits
+  clauses-last w = rw (lt-ltb i (signalCount t) (w .0), lt-ltb k (placementCount t) (w .1), eq-eqb (placementSignal t k) i (w .2), w .3)
+
 -- ---- both directions
 
 module _ (t : List ℕ) (ok : RightTable t) (s : State) where
@@ -175,7 +208,7 @@ module _ (t : List ℕ) (ok : RightTable t) (s : State) where
   o = s .transfer .opened
 
   to-clauses : Fits t s → Clauses t s
-  unfolding waitFits countFits formatOf entryOpens
+  unfolding waitFits countFits formatOf entryOpens lastOf
   to-clauses f =
       record {
         schedule = λ n e. schedule-entry t ok n (ltb-true n (scheduleCount t) (rw e at (f .schedule-there)));
@@ -194,8 +227,12 @@ module _ (t : List ℕ) (ok : RightTable t) (s : State) where
         length-low = λ y q. sending-clauses y (rw q at (f .message-fits)) .0;
         length-high = λ y q. sending-clauses y (rw q at (f .message-fits)) .1;
         frame-left = λ y q. sending-clauses y (rw q at (f .message-fits)) .2;
+        reception = λ i k q. last-clauses t i k (rw q at (fits-last (f .receptions-fit) i));
       }
     where
+      fits-last : receivedFits t 0 (s .received) ≡ true → (i : ℕ) → lastFits t i (lastOf (s .received) i) ≡ true
+      fits-last h i = let z : 0 + i ≡ i = omega arith in rw z at (fits-at t 0 i (s .received) h)
+
       opened : (p : Opened) → o ≡ p → isOpen p ≡ true → (e : ℕ) × (c ≡ current.Entry e) × (entryOpens t (s .message) e p ≡ true)
       opened p q y = runs t (s .message) c p y (rw q at (f .can-open))
 
@@ -209,7 +246,7 @@ module _ (t : List ℕ) (ok : RightTable t) (s : State) where
       response-kind e h = eqb-true (entryKind t e) 3 h
 
   from-clauses : Clauses t s → Fits t s
-  unfolding waitFits canOpen entryOpens countFits formatOf messageFits
+  unfolding waitFits canOpen entryOpens countFits formatOf messageFits lastFits lastOf
   from-clauses w =
       record {
         entry-there = there c refl;
@@ -220,6 +257,7 @@ module _ (t : List ℕ) (ok : RightTable t) (s : State) where
         can-open = opened o refl;
         count-fits = counted o refl;
         message-fits = sending (s .message) refl;
+        receptions-fit = at-fits t 0 (s .received) (λ i b. let z : 0 + i ≡ i = omega arith in rw z (received i (lastOf (s .received) i) refl));
       }
     where
       there : (d : Current) → c ≡ d → entryThere t d ≡ true
@@ -260,6 +298,10 @@ module _ (t : List ℕ) (ok : RightTable t) (s : State) where
       counted (Frame f) q = rw q (le-leb (s .transfer .count) (frameLength t f) (omega (arith, w .frame-bytes f q)))
       counted Request q = rw q (le-leb (s .transfer .count) 8 (omega (arith, w .request-bytes q)))
       counted Response q = rw q (le-leb (s .transfer .count) 8 (omega (arith, w .response-bytes q)))
+
+      received : (i : ℕ) (l : Last) → lastOf (s .received) i ≡ l → lastFits t i l ≡ true
+      received i Never q = refl
+      received i (Placement k) q = clauses-last t i k (w .reception i k q)
 
       sending : (m : Message) → s .message ≡ m → messageFits m ≡ true
       sending message.None q = refl

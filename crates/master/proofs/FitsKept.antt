@@ -1,7 +1,7 @@
 -- The state that a step of a call leaves fits the same table: marking, asking, waiting, reading, sending, closing, and one more byte.
 use Prim.Native.Nat.{ℕ, _+_, _-_, _<_}
 use mathlib.Core.Path.{_≡_, refl}
-use mathlib.Core.Bool.{Bool, true}
+use mathlib.Core.Bool.{Bool, true, false}
 use mathlib.Core.List.{List}
 use native.Mathlib.Omega.{arith}
 use borrow.Author.Tests.{ltb-true, lt-ltb, leb-true, le-leb}
@@ -13,7 +13,7 @@ use Rattle.transport.proofs.Tests.{whether}
 use Rattle.master.specs.declared.state.Message.the-variants as message
 use Rattle.master.specs.declared.state.State.{State}
 use Rattle.master.specs.Fresh.{fresh}
-use Rattle.master.specs.Transfers.{isOpen, openLength}
+use Rattle.master.specs.Transfers.{isOpen, openLength, sends}
 use Rattle.master.specs.Fits.{currentDelay, waitFits, canOpen}
 use Rattle.master.specs.Fits.{countFits, messageFits, stateFits}
 use Rattle.master.specs.Write.{marked, rewritten}
@@ -23,6 +23,7 @@ use Rattle.master.specs.Closing.{failed, sent, received}
 use Rattle.master.specs.Byte.{passed, early}
 use Rattle.master.proofs.Admitted.{Fits}
 use Rattle.master.proofs.MessageFits.{message-failed-fits, message-sent-fits, first-frame-fits, nothing-open, open-sending}
+use Rattle.master.proofs.ReceivedLaws.{never-fits, by-fits}
 use Rattle.master.proofs.PendingFits.{none-pending, sent-fits, marks-fit}
 use Rattle.master.specs.State.{withMessage, withPlan, withStatus}
 use Rattle.master.specs.Fresh.{noStatus}
@@ -30,7 +31,7 @@ use Rattle.master.specs.Fresh.{noStatus}
 -- the fresh state fits every table
 pub fresh-fits : (t : List ℕ) → stateFits t fresh ≡ true
 unfolding stateFits fresh waitFits canOpen countFits messageFits
-fresh-fits t = rw (none-pending t 0 60)
+fresh-fits t = rw (none-pending t 0 60, never-fits t 0 256)
 
 module _ (t : List ℕ) (s : State) (fits : Fits t s) where
   -- the state after a write of a published signal fits
@@ -45,6 +46,7 @@ module _ (t : List ℕ) (s : State) (fits : Fits t s) where
     can-open = fits .can-open;
     count-fits = fits .count-fits;
     message-fits = fits .message-fits;
+    receptions-fit = fits .receptions-fit;
   }
 
   -- the state after a select of a schedule that is there fits
@@ -59,6 +61,7 @@ module _ (t : List ℕ) (s : State) (fits : Fits t s) where
     can-open = fits .can-open;
     count-fits = fits .count-fits;
     message-fits = fits .message-fits;
+    receptions-fit = fits .receptions-fit;
   }
 
   -- the state after a waiting tick fits
@@ -74,6 +77,7 @@ module _ (t : List ℕ) (s : State) (fits : Fits t s) where
     can-open = fits .can-open;
     count-fits = fits .count-fits;
     message-fits = fits .message-fits;
+    receptions-fit = fits .receptions-fit;
   }
 
   -- the state after a status reading fits
@@ -87,6 +91,7 @@ module _ (t : List ℕ) (s : State) (fits : Fits t s) where
     can-open = fits .can-open;
     count-fits = fits .count-fits;
     message-fits = fits .message-fits;
+    receptions-fit = fits .receptions-fit;
   }
 
   -- the state after a send of a message with a right length fits
@@ -100,6 +105,7 @@ module _ (t : List ℕ) (s : State) (fits : Fits t s) where
     can-open = open-sending t (s .message) _ (s .plan .current) (s .transfer .opened) refl (fits .can-open);
     count-fits = fits .count-fits;
     message-fits = first-frame-fits nad n h;
+    receptions-fit = fits .receptions-fit;
   }
 
   -- the state after a failed transfer fits
@@ -114,12 +120,13 @@ module _ (t : List ℕ) (s : State) (fits : Fits t s) where
     can-open = nothing-open t (messageFailed (s .transfer .opened) (s .message)) (s .plan .current);
     count-fits = refl;
     message-fits = message-failed-fits (s .transfer .opened) (s .message) (fits .message-fits);
+    receptions-fit = fits .receptions-fit;
   }
 
   -- the state after a transfer that was received with success fits
-  pub received-fits : Fits t (received t s)
+  pub received-fits : RightTable t → sends t (s .transfer .opened) ≡ false → Fits t (received t s)
   unfolding received countFits
-  received-fits = record {
+  received-fits ok n = record {
     entry-there = fits .entry-there;
     schedule-there = fits .schedule-there;
     frame-there = refl;
@@ -128,6 +135,7 @@ module _ (t : List ℕ) (s : State) (fits : Fits t s) where
     can-open = nothing-open t (s .message) (s .plan .current);
     count-fits = refl;
     message-fits = fits .message-fits;
+    receptions-fit = by-fits t ok (s .transfer .opened) (s .received) n (fits .receptions-fit);
   }
 
   -- the state after a transfer that was sent with success fits
@@ -142,6 +150,7 @@ module _ (t : List ℕ) (s : State) (fits : Fits t s) where
     can-open = nothing-open t (messageSent (s .transfer .opened) (s .message)) (s .plan .current);
     count-fits = refl;
     message-fits = message-sent-fits (s .transfer .opened) (s .message) (fits .message-fits);
+    receptions-fit = fits .receptions-fit;
   }
 
   -- the state after a byte that is not the last one fits
@@ -160,4 +169,5 @@ module _ (t : List ℕ) (s : State) (fits : Fits t s) where
         (omega (arith, ltb-true (s .transfer .count) (openLength t (s .transfer .opened)) h))))
         (λ n. rw n);
     message-fits = fits .message-fits;
+    receptions-fit = fits .receptions-fit;
   }

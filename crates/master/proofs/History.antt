@@ -20,6 +20,7 @@ pub mod NineBytes
 pub mod TransferIs
 pub mod OpeningIs
 pub mod FramesAre
+pub mod ReceivedAre
 pub mod Agrees
 pub mod Writing
 pub mod Closing
@@ -36,4 +37,6 @@ pub mod Claimed
 pub mod Only
 pub mod InWords
 pub mod LastWrite
+pub mod PlacementsAgree
+pub mod LastReception
 pub mod Example

@@ -26,6 +26,8 @@ pub mod PendingFits
 pub mod PendingLaws
 pub mod PendingLength
 pub mod ReadBack
+pub mod ReceivedLaws
+pub mod ReceivedSteps
 pub mod StartLaws
 pub mod RowCalls
 pub mod Rows

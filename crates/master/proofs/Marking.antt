@@ -1,38 +1,69 @@
--- A signal touches one frame: to mark its frames is to set that frame's bit.
+-- To mark the frames that a signal touches is to set the bit of each of its placements' frames, one after another.
 use Prim.Native.Nat.{ℕ, zero, suc, _+_, _<_, _≤_}
-use mathlib.Core.Path.{_≡_, refl, _∙_}
-use mathlib.Core.Bool.{Bool, true}
+use mathlib.Core.Path.{_≡_, refl, sym, _∙_}
+use mathlib.Core.Bool.{Bool, true, false, _&&_, _||_}
 use mathlib.Core.List.{List, [], _∷_}
+use native.Mathlib.Decide.{ℕ-discrete}
+use native.Mathlib.Numerals.{add-one}
 use native.Mathlib.Omega.{arith}
 use borrow.Author.Tests.{eq-eqb, ne-eqb}
-use lib.ListN.{set, length}
-use Rattle.cluster.specs.Table.{signalFrame}
+use lib.Dec.{eqb}
+use lib.ListN.{length, getD, set, length-set}
+use lib.Seq.{ext-getD, getD-set-same, getD-set-other}
+use Rattle.cluster.specs.Places.{anyBelow, places, somePlacement}
+use Rattle.cluster.specs.Table.{placementCount, placementSignal, placementFrame}
 use Rattle.cluster.specs.Values.{touches}
 use Rattle.master.specs.Write.{markedFrom}
+use Rattle.master.proofs.PendingLaws.{marked-bit}
+use Rattle.master.proofs.PendingLength.{marked-length}
 use Rattle.master.proofs.Tests.{or-true, or-false}
 
-module _ (t : List ℕ) (s : ℕ) where
-  -- behind its frame none is marked
-  none-behind : (f : ℕ) (bits : List Bool) → signalFrame t s < f → markedFrom t s f bits ≡ bits
-  unfolding markedFrom touches
-  none-behind f [] h = refl
-  none-behind f (bit ∷ bits) h = rw (ne-eqb (signalFrame t s) f (λ e. omega arith), or-false bit, none-behind (suc f) bits (omega arith))
+-- one of the first k placements of signal s is in frame f
+abbrev placedIn : List ℕ → ℕ → ℕ → ℕ → Bool
+placedIn t s k f = anyBelow k (λ j. places t s j && eqb (placementFrame t j) f)
 
-  -- from frame f on its bit is the one at place i
-  mark-from : (f i : ℕ) (bits : List Bool) → signalFrame t s ≡ f + i → markedFrom t s f bits ≡ set bits i true
-  unfolding markedFrom touches
-  mark-from f i [] e = refl
-  mark-from f zero (bit ∷ bits) e = rw (eq-eqb (signalFrame t s) f (e ∙ omega arith), or-true bit, none-behind (suc f) bits (omega arith))
-  mark-from f (suc i) (bit ∷ bits) e = rw (ne-eqb (signalFrame t s) f (λ q. omega arith), or-false bit, mark-from (suc f) i bits (omega arith))
+-- the bits of the frames of the first k placements of a signal are set, and every other bit is as it was
+pub record Set (t : List ℕ) (s k : ℕ) (old bits : List Bool) : Type 0 where
+  pub same-length : length bits ≡ length old
+  pub each : (f : ℕ) → f < length old → getD bits f false ≡ (getD old f false || placedIn t s k f)
 
-  pub mark-one : (bits : List Bool) → markedFrom t s 0 bits ≡ set bits (signalFrame t s) true
-  mark-one bits = mark-from 0 (signalFrame t s) bits (omega arith)
+module _ (t : List ℕ) (s : ℕ) (old : List Bool) where
+  pub none-set : Set t s 0 old old
+  unfolding anyBelow
+  none-set = record { same-length = refl; each = λ f h. sym (or-false (getD old f false)) }
 
-  unmarked : (f : ℕ) (bits : List Bool) → f + length bits ≤ signalFrame t s → markedFrom t s f bits ≡ bits
-  unfolding markedFrom touches
-  unmarked f [] h = refl
-  unmarked f (bit ∷ bits) h = rw (ne-eqb (signalFrame t s) f (λ e. omega arith), or-false bit, unmarked (suc f) bits (omega arith))
+  module _ (k : ℕ) (bits : List Bool) (w : Set t s k old bits) where
+    -- placement k is one of the signal: its frame's bit is set, where it has one
+    pub set-here : placementSignal t k ≡ s → Set t s (k + 1) old (set bits (placementFrame t k) true)
+    unfolding anyBelow
+    set-here e = record {
+      same-length = length-set bits (placementFrame t k) true ∙ w .same-length;
+      each = λ f h. rw (add-one k, eq-eqb (placementSignal t k) s e) (bit f h);
+    }
+      where
+        bit : (f : ℕ) → f < length old → getD (set bits (placementFrame t k) true) f false ≡ (getD old f false || (eqb (placementFrame t k) f || placedIn t s k f))
+        bit f h =
+            elim (ℕ-discrete f (placementFrame t k)) [
+              | yes p ↦ rw (p, getD-set-same bits (placementFrame t k) true false (omega (arith, w .same-length)), eq-eqb (placementFrame t k) (placementFrame t k) refl)
+                  (sym (or-true (getD old (placementFrame t k) false)))
+              | no d ↦ rw (getD-set-other bits (placementFrame t k) f true false d, ne-eqb (placementFrame t k) f (λ p. d (sym p))) (w .each f h)
+            ]
 
-  -- a frame that has no bit is not marked
-  pub mark-none : (bits : List Bool) → length bits ≤ signalFrame t s → markedFrom t s 0 bits ≡ bits
-  mark-none bits h = unmarked 0 bits (omega arith)
+    -- placement k is not
+    pub set-not : (placementSignal t k ≡ s → ⊥) → Set t s (k + 1) old bits
+    unfolding anyBelow
+    set-not d = record { same-length = w .same-length; each = λ f h. rw (add-one k, ne-eqb (placementSignal t k) s d) (w .each f h) }
+
+    -- behind the last placement all frames that the signal touches are marked
+    pub all-set : k ≡ placementCount t → bits ≡ markedFrom t s 0 old
+    unfolding touches somePlacement
+    all-set e =
+        ext-getD false bits (markedFrom t s 0 old) (w .same-length ∙ sym (marked-length t s 0 old))
+        (λ f h. let b : f < length old = omega (arith, w .same-length) in
+        w .each f b ∙ rw e (sym (marked-bit t s f old b)))
+
+-- a bit that is not there is not set
+pub set-none : (bits : List Bool) (f : ℕ) (v : Bool) → length bits ≤ f → set bits f v ≡ bits
+set-none [] f v h = refl
+set-none (b ∷ bits) zero v h = absurd (omega arith)
+set-none (b ∷ bits) (suc f) v h = rw (set-none bits f v (omega arith))

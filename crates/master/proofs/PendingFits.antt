@@ -71,7 +71,7 @@ module _ (t : List ℕ) where
     unfolding bitFits
     may-mark f bit h =
         whether (touches t s f)
-        (λ y. rw (lt-ltb f (frameCount t) (touched-below t ok s hs f y), touched-published t s f p y) (or-true (not (bit || touches t s f))))
+        (λ y. rw (lt-ltb f (frameCount t) (touched-below t ok s f y), touched-published t ok s f p y) (or-true (not (bit || touches t s f))))
         (λ n. rw (n, or-false bit) h)
 
     -- the bits fit with those of a published signal's frames set

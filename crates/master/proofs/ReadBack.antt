@@ -14,12 +14,16 @@ use Rattle.cluster.specs.Check.{then, RightTable}
 use Rattle.cluster.specs.Table.{frameCount, frameLength, signalCount, isArray}
 use Rattle.cluster.specs.Places.{occupies}
 use Rattle.cluster.specs.Fresh.{arrayLength}
-use Rattle.cluster.specs.Values.{touches, valueFits, arrayFits, arrayRead}
+use Rattle.cluster.specs.Values.{touches, firstPlacement, signalPublished, valueFits, arrayFits, handedOut, arrayRead}
 use Rattle.cluster.proofs.Accepted.{then-first, then-second}
 use Rattle.cluster.proofs.FrameLaws.{frame-length-high}
-use Rattle.cluster.proofs.ValueLaws.{scalar-length, array-length-stays, read-scalar, read-array, scalar-untouched, array-untouched, scalar-outside, array-outside}
+use Rattle.cluster.proofs.PlacementLaws.{first-there}
+use Rattle.cluster.proofs.ValueLaws.{scalar-length, array-length-stays, read-scalar-at, read-array-at, scalar-untouched, array-untouched, scalar-outside, array-outside}
 use Rattle.transport.proofs.Tests.{order}
+use Rattle.master.specs.declared.state.Last.the-variants.{Placement}
+use Rattle.master.specs.declared.state.Reception.{Reception}
 use Rattle.master.specs.declared.state.State.{State}
+use Rattle.master.specs.Received.{sourceOf, scalarFrom, arrayFrom}
 use Rattle.master.specs.declared.write.WriteAnswer.the-variants.{Written}
 use Rattle.master.specs.declared.write.Wrote.{Wrote}
 use Rattle.master.specs.declared.read.ReadAnswer.the-variants as read
@@ -43,6 +47,11 @@ readable : (t : List ℕ) (n : ℕ) (x : State) (s : ℕ) (kind : Bool) → admi
 unfolding readVerdict
 readable t n x s true a h k = rw (a, lt-ltb s (signalCount t) h, k)
 readable t n x s false a h k = rw (a, lt-ltb s (signalCount t) h, k)
+
+-- a published signal is read from its first placement
+pub source-published : (t : List ℕ) (rs : List Reception) (s : ℕ) → signalPublished t s ≡ true → sourceOf t rs s ≡ Placement (firstPlacement t s)
+unfolding sourceOf
+source-published t rs s p = rw p
 
 -- what an accepted write knows, of a scalar and of an array alike
 record Known (t : List ℕ) (x : State) (bs : List ℕ) (s : ℕ) (kind fits : Bool) : Type 0 where
@@ -71,7 +80,7 @@ known t x bs s kind fits a =
 -- a scalar reads as the value that an accepted write put there
 pub write-value : (t : List ℕ) (x : State) (bs : List ℕ) (s v : ℕ) → writeOf t x bs (put s (scalar v)) .given .answer ≡ Written
     → readScalarOf t (writeOf t x bs (put s (scalar v)) .given .state) (writeOf t x bs (put s (scalar v)) .left) s ≡ read.Value v
-unfolding readScalarOf bufferSize
+unfolding readScalarOf scalarFrom bufferSize
 write-value t x bs s v k =
     let w = put s (scalar v) in
     let knows = known t x bs s false (valueFits t s v) (write-accepts t x bs w k) in
@@ -80,7 +89,9 @@ write-value t x bs s v k =
       write-left t x bs w k,
       scalar-length t bs s v,
       readable t (length bs) (marked t s x) s false (knows .admits-after) (knows .signal .below) (knows .signal .kind-is),
-      read-scalar t (knows .table-right) s (knows .signal .below) (knows .signal .kind-is) bs (knows .size-right) v (knows .signal .value-fits),
+      source-published t (marked t s x .received) s (knows .signal .is-published),
+      read-scalar-at t (knows .table-right) s (knows .signal .below) (knows .signal .kind-is) bs (knows .size-right) v (knows .signal .value-fits)
+          (firstPlacement t s) (first-there t (knows .table-right) s (knows .signal .below)),
     )
 
 -- an array reads as the bytes that an accepted write put there, and as many
@@ -88,7 +99,7 @@ pub write-array-value : (t : List ℕ) (x : State) (bs : List ℕ) (s : ℕ) (vs
     → writeOf t x bs (put s (array vs)) .given .answer ≡ Written
     → readArrayOf t (writeOf t x bs (put s (array vs)) .given .state) (writeOf t x bs (put s (array vs)) .left) s
     ≡ record { answer = bytes.Bytes (length vs); bytes = vs ++ replicate (8 - length vs) 255 }
-unfolding readArrayOf arrayRead bufferSize arrayFits
+unfolding readArrayOf arrayFrom arrayRead handedOut bufferSize arrayFits
 write-array-value t x bs s vs hv k =
     let w = put s (array vs) in
     let knows = known t x bs s true (arrayFits t s vs) (write-accepts t x bs w k) in
@@ -98,7 +109,9 @@ write-array-value t x bs s vs hv k =
       write-left t x bs w k,
       array-length-stays t bs s vs,
       readable t (length bs) (marked t s x) s true (knows .admits-after) (knows .signal .below) (knows .signal .kind-is),
-      read-array t (knows .table-right) s (knows .signal .below) (knows .signal .kind-is) bs (knows .size-right) vs hv (knows .signal .value-fits),
+      source-published t (marked t s x .received) s (knows .signal .is-published),
+      read-array-at t (knows .table-right) s (knows .signal .below) (knows .signal .kind-is) bs (knows .size-right) vs hv (knows .signal .value-fits)
+          (firstPlacement t s) (first-there t (knows .table-right) s (knows .signal .below)),
       e,
     )
 

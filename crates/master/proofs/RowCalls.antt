@@ -13,8 +13,9 @@ use Rattle.cluster.specs.declared.Verdict.the-variants as verdict
 use Rattle.cluster.specs.Check.{then, RightTable}
 use Rattle.cluster.specs.Table.{signalCount, signalKind, signalWidth, isArray}
 use Rattle.cluster.specs.Table.{memberCount, memberFrame, entryCount, entrySchedule, scheduleCount}
-use Rattle.cluster.specs.Values.{signalPublished, valueFits, arrayFits}
+use Rattle.cluster.specs.Values.{signalPublished, firstPlacement, valueFits, arrayFits}
 use Rattle.cluster.specs.Fresh.{arrayLength}
+use Rattle.cluster.proofs.PlacementLaws.{first-there, published-as}
 use Rattle.cluster.proofs.SignalLaws.{array-width-whole}
 use Rattle.cluster.proofs.FreshLaws.{array-length as array-length-is}
 use Rattle.wire.proofs.Tests.{beq-true}
@@ -103,20 +104,21 @@ module _ (t : List ℕ) (x : Held) (w : Put) where
   no-signal-row : s < signalCount t → ¬ Row t x (call.write w) 4
   no-signal-row h (no-signal-to-write l) = omega arith
 
-  no-published-row : signalPublished t s ≡ true → ¬ Row t x (call.write w) 5
-  unfolding signalPublished
-  no-published-row h (not-published n) = never (sym n ∙ h)
+  no-published-row : RightTable t → signalPublished t s ≡ true → ¬ Row t x (call.write w) 5
+  no-published-row ok h (not-published k b e n) = never (sym n ∙ sym (published-as t ok s k (record { there = b; is = e })) ∙ h)
 
-  published-row : signalPublished t s ≡ false → Row t x (call.write w) 5
+  published-row : RightTable t → s < signalCount t → signalPublished t s ≡ false → Row t x (call.write w) 5
   unfolding signalPublished
-  published-row h = not-published h
+  published-row ok b h =
+      let o = first-there t ok s b in
+      not-published (firstPlacement t s) (o .there) (o .is) h
 
   high : (k : ℕ) → Row t x (call.write w) k → k < 8
   high k (table-fault r e) = omega arith
   high k (buffer-size l n) = omega arith
   high k (state-unfit n) = omega arith
   high k (no-signal-to-write l) = omega arith
-  high k (not-published n) = omega arith
+  high k (not-published j b e n) = omega arith
   high k (scalar-into-array v e q) = omega arith
   high k (array-into-scalar vs e q) = omega arith
   high k (value-too-large v e l) = omega arith
@@ -132,8 +134,8 @@ module _ (t : List ℕ) (x : Held) (w : Put) where
           tested t x _ (ltb s (signalCount t)) 4 _ n3 (λ b. no-signal-to-write (ltb-false s (signalCount t) b)) (λ b.
           let below = ltb-true s (signalCount t) b in
           let n4 = one-more _ 4 n3 (no-signal-row below) in
-          tested t x _ (signalPublished t s) 5 _ n4 published-row (λ p.
-          let n5 = one-more _ 5 n4 (no-published-row p) in
+          tested t x _ (signalPublished t s) 5 _ n4 (published-row ok below) (λ p.
+          let n5 = one-more _ 5 n4 (no-published-row ok p) in
           tested t x _ (Bool·beq (isArray t s) (isBytes (w .value))) 6 _ n5 (kind-row (w .value) refl) (λ k.
           let same = beq-true (isArray t s) (isBytes (w .value)) k in
           let n6 = one-more _ 6 n5 (no-kind-row same) in

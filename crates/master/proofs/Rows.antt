@@ -7,7 +7,7 @@ use lib.ListN.{length}
 use Rattle.refusal.specs.declared.Refusal.{Refusal}
 use Rattle.cluster.specs.declared.Verdict.the-variants as verdict
 use Rattle.cluster.specs.Check.{judged}
-use Rattle.cluster.specs.Table.{frameCount, signalCount, published, signalFrame, signalKind, signalWidth}
+use Rattle.cluster.specs.Table.{frameCount, signalCount, published, signalKind, signalWidth, placementCount, placementSignal, placementFrame}
 use Rattle.cluster.specs.Table.{memberCount, memberFrame, entryCount, entrySchedule}
 use Rattle.master.specs.declared.state.Opened.the-variants as opened
 use Rattle.master.specs.declared.state.Sending as state
@@ -47,8 +47,9 @@ pub data Row (t : List ℕ) (x : Held) : Call → ℕ → Type 0 where
   no-array-to-read : {s : ℕ} → signalCount t ≤ s → Row t x (call.readArray s) 4
   no-schedule : {n : ℕ} → ((e : ℕ) → e < entryCount t → ¬ (entrySchedule t e ≡ n)) → Row t x (call.select n) 4
   no-member : {f : ℕ} → ((m : ℕ) → m < memberCount t → ¬ (memberFrame t m ≡ f)) → Row t x (call.numberAhead f) 4
-  -- "write to a signal the master doesn't publish"
-  not-published : {w : Put} → published t (signalFrame t (w .signal)) ≡ false → Row t x (call.write w) 5
+  -- "write to a signal the master doesn't publish": one with a placement in a frame that is not published
+  not-published : {w : Put} → (k : ℕ) → k < placementCount t → placementSignal t k ≡ w .signal → published t (placementFrame t k) ≡ false
+      → Row t x (call.write w) 5
   -- "scalar call on an array or the reverse"
   scalar-into-array : {w : Put} → (v : ℕ) → w .value ≡ scalar v → signalKind t (w .signal) ≡ 1 → Row t x (call.write w) 6
   array-into-scalar : {w : Put} → (vs : List ℕ) → w .value ≡ array vs → ¬ (signalKind t (w .signal) ≡ 1) → Row t x (call.write w) 6

@@ -43,6 +43,11 @@ module _ (t : List ℕ) (s : State) where
   unfolding abandoned failed
   abandoned-plan = whether (isOpen (s .transfer .opened)) (λ y. rw y) (λ n. rw n)
 
+  -- and the receptions
+  pub abandoned-received : abandoned t s .received ≡ s .received
+  unfolding abandoned failed
+  abandoned-received = whether (isOpen (s .transfer .opened)) (λ y. rw y) (λ n. rw n)
+
   -- the state with the open transfer closed as failed fits
   pub abandoned-fits : Fits t s → Fits t (abandoned t s)
   unfolding abandoned
@@ -64,6 +69,7 @@ module _ (t bs m : List ℕ) (s : State) (fits : Fits t s) where
     can-open = rw n (nothing-open t (s .message) (current.Entry e));
     count-fits = fits .count-fits;
     message-fits = fits .message-fits;
+    receptions-fit = fits .receptions-fit;
   }
 
   -- a state that opens what its entry can open fits
@@ -80,6 +86,7 @@ module _ (t bs m : List ℕ) (s : State) (fits : Fits t s) where
         can-open = rw c (w .can-open);
         count-fits = rw y (le-leb 0 (openLength t o) (omega arith));
         message-fits = fits .message-fits;
+        receptions-fit = fits .receptions-fit;
       }))
       (λ n. rw n fits)
 

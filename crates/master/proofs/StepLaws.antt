@@ -249,7 +249,7 @@ effect-fits t x c a =
         let k = then-second (admitted t (bufferSize t) (x .state)) _ a in
         fits-all t _ (asking-fits t (x .state) fits n (ltb-true n (scheduleCount t) (unless-test (ltb n (scheduleCount t)) number.unknown _ k)))
     by (call.tick m) a ok h fits = fits-all t (tickEffect t (x .bytes) m (x .state) .state) (ticked-fits t ok (x .bytes) m (x .state) fits)
-    by (call.byteIn b) a ok h fits = fits-all t (byteEffect t (x .state) (x .bytes) b .given .state) (taken-fits t (x .state) fits (x .bytes) b)
+    by (call.byteIn b) a ok h fits = fits-all t (byteEffect t (x .state) (x .bytes) b .given .state) (taken-fits t ok (x .state) fits (x .bytes) b)
     by call.readStatus a ok h fits = fits-all t _ (status-fits t (x .state) fits)
     by (call.send nad n) a ok h fits =
         let k = then-second (admitted t (bufferSize t) (x .state)) _ a in

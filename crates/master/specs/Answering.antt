@@ -1,5 +1,6 @@
 -- What a history says beside specs/History.antt, as functions of the table and the events alone: the diagnostic message, the bytes that the master
--- sends in the open transfer, all frame bytes, and the status word. Demand 3 speaks of them through the answers of the calls (specs/Replies.antt).
+-- sends in the open transfer, all frame bytes, the placements received last, and the status word. Demand 3 speaks of them through the answers of the
+-- calls (specs/Replies.antt).
 use Prim.Native.Nat.{ℕ, _+_, _*_}
 use mathlib.Core.Bool.{Bool, true, false, cond, not, _&&_, _||_}
 use mathlib.Core.List.{List, [], _∷_, _++_}
@@ -9,12 +10,16 @@ use Rattle.wire.specs.Bits.{digit}
 use Rattle.wire.specs.Identifier.{protectedByte}
 use Rattle.wire.specs.Checksum.{checksumByte}
 use Rattle.wire.specs.declared.checksum.Model.the-variants.{Classic}
-use Rattle.cluster.specs.Table.{identifier, published}
+use Rattle.cluster.specs.Table.{identifier, published, signalStart}
+use Rattle.cluster.specs.Values.{touches, firstPlacement, placementIn, signalPublished, scalarAt, arrayRead, startRead}
+use Rattle.cluster.specs.declared.values.Array.{Array}
 use Rattle.cluster.specs.Fresh.{freshBytes}
 use Rattle.transport.specs.Cutting.{messageFrames, messageFrame}
 use Rattle.transport.specs.Reassembly as lent
 use Rattle.master.specs.declared.state.Opened.{Opened}
 use Rattle.master.specs.declared.state.Opened.the-variants.{Nothing, Frame, Request, Response}
+use Rattle.master.specs.declared.state.Last.{Last}
+use Rattle.master.specs.declared.state.Last.the-variants.{Never, Placement}
 use Rattle.master.specs.declared.state.Message.{Message}
 use Rattle.master.specs.declared.state.Message.the-variants as message
 use Rattle.master.specs.Seq.{Seq, ∅, _▹_}
@@ -90,6 +95,34 @@ bytesAfter t (h ▹ x) =
     cond (succeeds x)
     (storedBy t (openAfter t h) (gotAfter h) (bytesAfter t h))
     (onWrite (λ s v. withValue t (bytesAfter t h) s v) (bytesAfter t h) (act x))
+
+-- ---- the receptions
+
+-- what is known of a signal after a success of a transfer: the placement in a received frame that has it
+unfoldable pub receivedIn : List ℕ → Opened → ℕ → Last → Last
+receivedIn t Nothing s x = x
+receivedIn t (Frame f) s x = cond (not (published t f) && touches t s f) (Placement (placementIn t s f)) x
+receivedIn t Request s x = x
+receivedIn t Response s x = x
+
+-- "the placement received last", after a history
+unfoldable pub receivedAfter : List ℕ → Seq Scheduled → ℕ → Last
+receivedAfter t ∅ s = Never
+receivedAfter t (h ▹ x) s = cond (succeeds x) (receivedIn t (openAfter t h) s (receivedAfter t h s)) (receivedAfter t h s)
+
+-- what a read gives after a history: "the placement received last; before any reception, the start value; of a published one, its first placement"
+unfoldable pub readFrom : List ℕ → Seq Scheduled → ℕ → Last
+readFrom t h s = cond (signalPublished t s) (Placement (firstPlacement t s)) (receivedAfter t h s)
+
+-- the value of a scalar there
+unfoldable pub scalarRead : List ℕ → List ℕ → ℕ → Last → ℕ
+scalarRead t bs s Never = signalStart t s
+scalarRead t bs s (Placement k) = scalarAt t bs s k
+
+-- the bytes of an array, as they are handed out
+unfoldable pub arrayGiven : List ℕ → List ℕ → ℕ → Last → Array
+arrayGiven t bs s Never = startRead t s
+arrayGiven t bs s (Placement k) = arrayRead t bs s k
 
 -- ---- status
 

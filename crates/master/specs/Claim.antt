@@ -11,13 +11,14 @@ use Rattle.master.specs.declared.state.Opened.the-variants.{Nothing, Fra
 use Rattle.master.specs.declared.tick.TickAnswer.{TickAnswer}
 use Rattle.master.specs.declared.byte.ByteAnswer.the-variants as byte
 use Rattle.master.specs.declared.ahead.AheadAnswer.{AheadAnswer}
+use Rattle.master.specs.Fresh.{neverReceived}
 use Rattle.master.specs.Seq.{Seq, ∅, _▹_, _⋈_, Each}
 use Rattle.master.specs.Calls.{Call, tick, byteIn, numberAhead, Answer, Reply, Event, _⇒_}
 use Rattle.master.specs.Run.{Held, answerOf, heldAfter, historyOf}
 use Rattle.master.specs.Acts.{nothing, actOf}
 use Rattle.master.specs.Schedule.{Slot, entry, Scheduled, scheduled}
 use Rattle.master.specs.History.{writes, opens, closes, openAfter, Succeeded, Pending, successes, writtenBytes, eightOf, responseOf, gotAfter}
-use Rattle.master.specs.Answering.{bytesAfter}
+use Rattle.master.specs.Answering.{bytesAfter, receivedAfter}
 use Rattle.master.specs.Replies.{Takes, Count, AheadReply, Replies}
 
 -- the history of some calls after a fresh call, each event with its slots
@@ -40,6 +41,8 @@ pub record HeldClaim (t : List ℕ) (h : Seq Scheduled) (x : Held) : Type 0 wher
   pub bytes : (f : ℕ) → f < frameCount t → published t f ≡ true → eightOf (x .bytes) f ≡ eightOf (writtenBytes t h) f
   -- (a) and all frame bytes are as fresh, the accepted writes and the frames received with success left them
   pub all-bytes : x .bytes ≡ bytesAfter t h
+  -- (a) and of each signal the placement received last is kept
+  pub receptions : (s : ℕ) → getD (x .state .received) s neverReceived .last ≡ receivedAfter t h s
 
 -- what demand 3 says of one history under a table, parts (b) to (e)
 pub record HistoryClaim (t : List ℕ) (h : Seq Scheduled) : Type 0 where

@@ -7,7 +7,8 @@ use Rattle.master.specs.declared.state.Opened.{Opened}
 use Rattle.master.specs.declared.state.Opened.the-variants.{Nothing, Frame, Request, Response}
 use Rattle.master.specs.declared.state.State.{State}
 use Rattle.master.specs.Fresh.{noTransfer}
-use Rattle.master.specs.State.{withPending, withTransfer, withMessage, withStatus}
+use Rattle.master.specs.State.{withPending, withTransfer, withMessage, withStatus, withReceived}
+use Rattle.master.specs.Received.{receivedBy}
 use Rattle.master.specs.Transfers.{openProtected}
 use Rattle.master.specs.Status.{statusAfter}
 use Rattle.master.specs.Message.{messageSent, messageFailed}
@@ -42,4 +43,4 @@ sent t s =
 
 -- the master received it with success
 unfoldable pub received : List ℕ → State → State
-received t s = closed t s true true
+received t s = withReceived (closed t s true true) (receivedBy t (s .transfer .opened) (s .received))

@@ -1,4 +1,4 @@
--- Document 01, refusal 3: "the state doesn't fit the table", clause by clause in the paper's order.
+-- Document 01, refusal 3: "the state doesn't fit the table", clause by clause in the paper's order, and that of document 02, Req 03, behind them.
 use Prim.Native.Nat.{ℕ, suc}
 use mathlib.Core.Bool.{Bool, true, false, cond, not, _&&_, _||_}
 use mathlib.Core.List.{List, [], _∷_}
@@ -18,6 +18,7 @@ use Rattle.master.specs.declared.state.Message.{Message}
 use Rattle.master.specs.declared.state.Message.the-variants as message
 use Rattle.master.specs.declared.state.State.{State}
 use Rattle.master.specs.Transfers.{isOpen, openLength}
+use Rattle.master.specs.Received.{receivedFits}
 
 -- ---- "it names a schedule, entry or frame not there"
 
@@ -89,9 +90,9 @@ messageFits (message.Sending x) = isLength (x .length) && ltb (x .next) (message
 messageFits message.Completed = true
 messageFits message.Failed = true
 
--- the state fits the table
-unfoldable pub stateFits : List ℕ → State → Bool
-stateFits t s =
+-- the clauses of document 01
+abbrev pub baseFits : List ℕ → State → Bool
+baseFits t s =
     entryThere t (s .plan .current)
     && scheduleThere t (s .plan .requested)
     && frameThere t (s .transfer .opened)
@@ -100,6 +101,10 @@ stateFits t s =
     && canOpen t (s .message) (s .plan .current) (s .transfer .opened)
     && countFits t (s .transfer)
     && messageFits (s .message)
+
+-- the state fits the table
+unfoldable pub stateFits : List ℕ → State → Bool
+stateFits t s = baseFits t s && receivedFits t 0 (s .received)
 
 -- "on tick, a lent message of another length than the one being sent"
 abbrev pub lentFits : Message → ℕ → Bool

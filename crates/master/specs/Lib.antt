@@ -1,5 +1,6 @@
 pub mod Fresh
 pub mod State
+pub mod Received
 pub mod Transfers
 pub mod Fits
 pub mod Admit

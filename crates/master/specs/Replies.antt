@@ -12,7 +12,8 @@ use Rattle.wire.specs.Checksum.{checksumByte}
 use Rattle.wire.specs.declared.checksum.Model.the-variants.{Classic}
 use Rattle.cluster.specs.Table.{signalCount, scheduleCount, identifier, frameLength, published, isArray, entryKind, entryTarget}
 use Rattle.cluster.specs.Lists.{members}
-use Rattle.cluster.specs.Values.{signalPublished, valueFits, arrayFits, scalarValue, arrayRead}
+use Rattle.cluster.specs.Values.{signalPublished, valueFits, arrayFits}
+use Rattle.cluster.specs.declared.values.Array.{Array}
 use Rattle.master.specs.declared.state.Opened.{Opened}
 use Rattle.master.specs.declared.state.Opened.the-variants.{Nothing, Frame, Request, Response}
 use Rattle.master.specs.declared.state.Message.{Message}
@@ -41,7 +42,7 @@ use Rattle.master.specs.Calls as call
 use Rattle.master.specs.Calls.{Call, Answer, Reply}
 use Rattle.master.specs.Schedule.{Slot, none, unscheduled, entry, Scheduled, slotDue, planAfter}
 use Rattle.master.specs.History.{Pending, openAfter, checksumOver, gotAfter}
-use Rattle.master.specs.Answering.{messageClosed, messageAfter, dueAfter, bytesAfter, countedAfter, wordOver}
+use Rattle.master.specs.Answering.{messageClosed, messageAfter, dueAfter, bytesAfter, countedAfter, wordOver, readFrom, scalarRead, arrayGiven}
 use Rattle.master.specs.Put.{Value, scalar, array}
 
 -- ---- which refusal a call gets: the number of the first test that fails, and 0 where all hold
@@ -96,15 +97,15 @@ sendNumber x n =
 unfoldable pub writeReply : ℕ → WriteAnswer
 writeReply n = cond (eqb n 0) write.Written (write.Refused (refused n))
 
--- the value of a scalar in the frame bytes
-unfoldable pub readReply : ℕ → List ℕ → List ℕ → ℕ → ReadAnswer
-readReply n t bs s = cond (eqb n 0) (read.Value (scalarValue t bs s)) (read.Refused (refused n))
+-- the value of a scalar
+unfoldable pub readReply : ℕ → ℕ → ReadAnswer
+readReply n v = cond (eqb n 0) (read.Value v) (read.Refused (refused n))
 
 -- the bytes of an array
-unfoldable pub readArrayReply : ℕ → List ℕ → List ℕ → ℕ → ReadArray
-readArrayReply n t bs s =
+unfoldable pub readArrayReply : ℕ → Array → ReadArray
+readArrayReply n a =
     cond (eqb n 0)
-    (record { answer = bytes.Bytes (arrayRead t bs s .count); bytes = arrayRead t bs s .bytes })
+    (record { answer = bytes.Bytes (a .count); bytes = a .bytes })
     (record { answer = bytes.Refused (refused n); bytes = replicate 8 255 })
 
 unfoldable pub selectReply : ℕ → SelectAnswer
@@ -210,8 +211,8 @@ pub record AheadReply (t : List ℕ) (h : Seq Scheduled) (f : ℕ) (a : AheadAns
 -- a is what c answers after h
 abbrev pub Replies : List ℕ → Seq Scheduled → (c : Call) → Answer c → Type 0
 Replies t h (call.write w) a = a ≡ writeReply (putNumber t (w .signal) (w .value))
-Replies t h (call.read s) a = a ≡ readReply (readNumber t s false) t (bytesAfter t h) s
-Replies t h (call.readArray s) a = a ≡ readArrayReply (readNumber t s true) t (bytesAfter t h) s
+Replies t h (call.read s) a = a ≡ readReply (readNumber t s false) (scalarRead t (bytesAfter t h) s (readFrom t h s))
+Replies t h (call.readArray s) a = a ≡ readArrayReply (readNumber t s true) (arrayGiven t (bytesAfter t h) s (readFrom t h s))
 Replies t h (call.select n) a = a ≡ selectReply (selectNumber t n)
 Replies t h (call.tick m) a = TickReply t h m a
 Replies t h (call.byteIn b) a = a ≡ byteReply t (openAfter t h) (dueAfter t h) (gotAfter h) b

@@ -12,12 +12,13 @@ use Rattle.cluster.specs.Check.{takenOf}
 use Rattle.cluster.specs.Answers.{behindTable}
 use Rattle.cluster.specs.Table.{frameCount, signalCount, isArray, memberCount, scheduleCount}
 use Rattle.cluster.specs.Lists.{memberOf, framesAhead}
-use Rattle.cluster.specs.Values.{signalPublished, scalarValue, arrayRead}
+use Rattle.cluster.specs.Values.{signalPublished}
 use Rattle.transport.specs.Cutting.{isLength}
 use Rattle.master.specs.declared.state.State.{State}
 use Rattle.master.specs.Fits.{stateFits, isSending, lentFits}
 use Rattle.master.specs.declared.state.Opened.{Opened}
 use Rattle.master.specs.Transfers.{isOpen, openProtected}
+use Rattle.master.specs.Received.{sourceOf, scalarFrom, arrayFrom}
 use Rattle.master.specs.Plan.{waits}
 use Rattle.master.specs.Write.{isBytes, fitsSignal}
 use Rattle.master.specs.Tick.{tickEffect}
@@ -84,8 +85,8 @@ openedValue t o = cond (isOpen o) (openProtected t o ∷ []) []
 -- the values that an accepted call tells
 unfoldable pub valuesOf : List ℕ → Held → Call → List ℕ
 valuesOf t x (call.write w) = []
-valuesOf t x (call.read s) = scalarValue t (x .bytes) s ∷ []
-valuesOf t x (call.readArray s) = arrayRead t (x .bytes) s .count ∷ []
+valuesOf t x (call.read s) = scalarFrom t (x .bytes) s (sourceOf t (x .state .received) s) ∷ []
+valuesOf t x (call.readArray s) = arrayFrom t (x .bytes) s (sourceOf t (x .state .received) s) .count ∷ []
 valuesOf t x (call.select n) = []
 valuesOf t x (call.tick m) = cond (waits (x .state .plan)) [] (openedValue t (tickEffect t (x .bytes) m (x .state) .state .transfer .opened))
 valuesOf t x (call.byteIn b) = []

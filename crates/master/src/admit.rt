@@ -1,5 +1,6 @@
 // Tests 1, 2 and 3, which stand at the head of the calls.
 use crate::pending::pending_fits;
+use crate::received::received_fits;
 use crate::state::State;
 use cluster::Verdict;
 use cluster::frames;
@@ -9,7 +10,7 @@ ghost use mathlib.Core.Path.{_≡_};
 ghost use Rattle.master.specs.Admit.{bufferSize, admitted};
 ghost use Rattle.refusal.specs.Numbers.{refused as refusedWith};
 ghost use Rattle.cluster.specs.declared.Verdict.the-variants as verdict;
-ghost use Rattle.master.specs.Fits.{stateFits};
+ghost use Rattle.master.specs.Fits.{baseFits, stateFits};
 ghost use Rattle.cluster.specs.Answers.{verdictTold};
 ghost use Rattle.master.specs.Told.{admitTold};
 
@@ -34,6 +35,17 @@ impl State {
     // Whether the state fits the table.
     pub fn fits(self, t: &[u16]) -> bool
         ensures { λ r. ⌜ r ≡ stateFits (now (t .entry)) self ⌝ }
+    {
+        if !self.base_fits(t) {
+            return false;
+        }
+        let received = self.received;
+        received_fits(t, received)
+    }
+
+    // Whether all but the receptions fits.
+    fn base_fits(self, t: &[u16]) -> bool
+        ensures { λ r. ⌜ r ≡ baseFits (now (t .entry)) self ⌝ }
     {
         let plan = self.plan;
         let transfer = self.transfer;

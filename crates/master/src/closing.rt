@@ -49,11 +49,15 @@ impl State {
             .with_pending(cleared)
     }
 
-    // The master received it with success.
+    // The master received it with success: its placements are those received last.
     pub(crate) fn received(self, t: &[u16]) -> State
         requires { ⌜ openIdentifier (now t) (self .transfer .opened) < 64 ⌝ }
         ensures { λ r. ⌜ r ≡ receivedOf (now (t .entry)) self ⌝ }
     {
+        let transfer = self.transfer;
+        let opened = transfer.opened;
+        let received = self.received;
         self.closed(t, true, true)
+            .with_received(opened.received_by(t, received))
     }
 }

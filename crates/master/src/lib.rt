@@ -10,6 +10,7 @@ pub mod message;
 pub mod pending;
 pub mod plan;
 pub mod read;
+pub mod received;
 pub mod row;
 pub mod select;
 pub mod send;

@@ -1,14 +1,16 @@
 // The reads: of a scalar, of an array, and of status.
 use crate::admit::buffer_size;
 use crate::admit::refused;
+use crate::state::Last;
 use crate::state::State;
 use crate::state::Status;
 use cluster::Verdict;
 use cluster::signals;
 use cluster::values;
+use cluster::values::Array;
 use refusal::Refusal;
 ghost use mathlib.Core.Path.{_≡_};
-ghost use Rattle.master.specs.Read.{readVerdict, readScalarOf, readArrayOf};
+ghost use Rattle.master.specs.Read.{readVerdict, readScalarOf, arrayAnswer, readArrayOf};
 ghost use Rattle.master.specs.Status.{statusOf};
 ghost use mathlib.Core.List.{[]};
 ghost use Rattle.master.specs.Answers.{readTold, arrayTold, statusTold};
@@ -55,7 +57,10 @@ impl State {
         if let Verdict::Refused(refusal) = self.judge_read(t, bytes.len(), s, false) {
             return ReadAnswer::Refused(refusal);
         }
-        ReadAnswer::Value(values::get_scalar(t, bytes, s))
+        match self.source(t, s) {
+            Last::Never => ReadAnswer::Value(signals::start(t, s)),
+            Last::Placement(k) => ReadAnswer::Value(values::scalar_at(t, bytes, s, k)),
+        }
     }
 
     // Reads an array.
@@ -69,11 +74,9 @@ impl State {
                 bytes: [255; 8],
             };
         }
-        let array = values::get_array(t, bytes, s);
-        let values = array.bytes;
-        ReadArray {
-            answer: ArrayAnswer::Bytes(array.count),
-            bytes: values,
+        match self.source(t, s) {
+            Last::Never => read_as(values::start_array(t, s)),
+            Last::Placement(k) => read_as(values::array_at(t, bytes, s, k)),
         }
     }
 
@@ -109,5 +112,16 @@ impl State {
             state: self.with_status(Status::none()),
             answer: StatusAnswer::Word(status.word()),
         }
+    }
+}
+
+// The answer with the bytes of an array.
+fn read_as(array: Array) -> ReadArray
+    ensures { λ r. ⌜ r ≡ arrayAnswer array ⌝ }
+{
+    let values = array.bytes;
+    ReadArray {
+        answer: ArrayAnswer::Bytes(array.count),
+        bytes: values,
     }
 }

@@ -3,8 +3,8 @@ use cluster::Limits;
 use cluster::fresh;
 use transport::reassembly::Assembly;
 ghost use mathlib.Core.Path.{_≡_};
-ghost use Rattle.master.specs.Fresh.{fresh as freshState, limits as limitsOf};
-ghost use Rattle.master.specs.State.{withPending, withPlan, withTransfer, withMessage, withStatus};
+ghost use Rattle.master.specs.Fresh.{fresh as freshState, neverReceived, limits as limitsOf};
+ghost use Rattle.master.specs.State.{withPending, withPlan, withTransfer, withMessage, withStatus, withReceived};
 
 // The current place in a schedule: none, or the number of an entry in the table.
 pub enum Current {
@@ -69,6 +69,17 @@ pub struct Status {
     pub last: u8,
 }
 
+// The placement of a signal that was received last, by its number in the table.
+pub enum Last {
+    Never,
+    Placement(u16),
+}
+
+// What is kept of a signal's receptions.
+pub struct Reception {
+    pub last: Last,
+}
+
 // The whole state.
 pub struct State {
     pub pending: [bool; Limits::FRAMES],
@@ -76,10 +87,20 @@ pub struct State {
     pub transfer: Transfer,
     pub message: Message,
     pub status: Status,
+    pub received: [Reception; Limits::SIGNALS],
+}
+
+impl Reception {
+    // Before any reception.
+    pub fn never() -> Reception
+        ensures { λ r. ⌜ r ≡ neverReceived ⌝ }
+    {
+        Reception { last: Last::Never }
+    }
 }
 
 impl State {
-    // Nothing pending, no schedule, no transfer, no message, status 0.
+    // Nothing pending, no schedule, no transfer, no message, status 0, nothing received.
     pub fn fresh() -> State
         ensures { λ r. ⌜ r ≡ freshState ⌝ }
     {
@@ -89,6 +110,7 @@ impl State {
             transfer: Transfer::none(),
             message: Message::None,
             status: Status::none(),
+            received: [Reception::never(); Limits::SIGNALS],
         }
     }
 
@@ -111,12 +133,14 @@ impl State {
         let transfer = self.transfer;
         let message = self.message;
         let status = self.status;
+        let received = self.received;
         State {
             pending,
             plan,
             transfer,
             message,
             status,
+            received,
         }
     }
 
@@ -146,12 +170,14 @@ impl State {
         let plan = self.plan;
         let transfer = self.transfer;
         let status = self.status;
+        let received = self.received;
         State {
             pending,
             plan,
             transfer,
             message,
             status,
+            received,
         }
     }
 
@@ -162,5 +188,24 @@ impl State {
         let mut next = self;
         next.status = status;
         next
+    }
+
+    // The state with other receptions.
+    pub(crate) fn with_received(self, received: [Reception; Limits::SIGNALS]) -> State
+        ensures { λ r. ⌜ r ≡ withReceived self received ⌝ }
+    {
+        let pending = self.pending;
+        let plan = self.plan;
+        let transfer = self.transfer;
+        let message = self.message;
+        let status = self.status;
+        State {
+            pending,
+            plan,
+            transfer,
+            message,
+            status,
+            received,
+        }
     }
 }

@@ -26,7 +26,7 @@ pub(crate) fn all(t: &[u16], bytes: &mut [u8], letters: &[u8]) -> u64 {
     each(ready, t, bytes, letters, &numbers, &values)
 }
 
-// A scalar in one frame of each of the lists 1, 3, 5, 7, 9 and 11 is written, so that each has a pending frame.
+// Six scalars are written, each in two frames, so that ten of the fifteen lists have a pending frame.
 fn written(ready: State, t: &[u16], bytes: &mut [u8]) -> State {
     let mut state = ready;
     let mut s: u16 = 14;
@@ -38,7 +38,7 @@ fn written(ready: State, t: &[u16], bytes: &mut [u8]) -> State {
 }
 
 fn write(state: State, t: &[u16], bytes: &mut [u8], s: u16) -> State {
-    let wrote = state.write(t, bytes, s, 85);
+    let wrote = state.write(t, bytes, s, 42);
     wrote.state
 }
 
@@ -55,10 +55,11 @@ fn each(
     let mut digest: u64 = 0;
     let mut i: usize = 0;
     while i < letters.len() {
-        let done = call(state, t, bytes, letters[i], numbers, values);
+        let letter = letters[i];
+        i += 1;
+        let done = call(state, t, bytes, letter, numbers, values);
         digest = folded(digest, done.code);
         state = done.state;
-        i += 1;
     }
     with_left(digest, state, bytes)
 }

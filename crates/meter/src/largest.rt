@@ -1,4 +1,5 @@
-// The largest table: 60 published frames, 256 signals, 15 lists of four members, and four schedules of 64 entries with delay 1.
+// The largest table: 60 published frames, 256 signals in two frames each, 15 lists of four members, and four schedules of
+// 64 entries with delay 1.
 // In each schedule twelve entries that open a frame or a list are followed by four of all kinds.
 
 // Makes the table.
@@ -12,26 +13,32 @@ pub(crate) fn build(t: &mut [u16]) {
 
 // The word at a position.
 fn word(i: usize) -> u16 {
-    if i < 4 {
+    if i < 5 {
         return count(i);
     }
-    if i < 184 {
-        return frame((i - 4) / 3, (i - 4) % 3);
+    if i < 185 {
+        return frame((i - 5) / 3, (i - 5) % 3);
     }
-    if i < 1464 {
-        return signal((i - 184) / 5, (i - 184) % 5);
+    if i < 953 {
+        return signal((i - 185) / 3, (i - 185) % 3);
     }
-    if i < 1584 {
-        return member((i - 1464) / 2, (i - 1464) % 2);
+    if i < 2489 {
+        return placement((i - 953) / 3, (i - 953) % 3);
     }
-    if i < 2608 {
-        return entry((i - 1584) / 4, (i - 1584) % 4);
+    if i < 2609 {
+        return member((i - 2489) / 2, (i - 2489) % 2);
+    }
+    if i < 3633 {
+        return entry((i - 2609) / 4, (i - 2609) % 4);
     }
     0
 }
 
-// 60 frames, 256 signals, 60 members, 256 entries.
+// 60 frames, 256 signals, 60 members, 256 entries, 512 placements.
 fn count(column: usize) -> u16 {
+    if column == 4 {
+        return 512;
+    }
     if column % 2 == 0 { 60 } else { 256 }
 }
 
@@ -46,21 +53,35 @@ fn frame(f: usize, column: usize) -> u16 {
     (1 + 2 * (f % 2)) as u16
 }
 
-// Scalars of seven bits and arrays of one byte by turns, four or five in each frame.
+// Scalars of six bits and arrays of one byte by turns.
 fn signal(s: usize, column: usize) -> u16 {
     if column == 0 {
-        return (s % 60) as u16;
-    }
-    if column == 1 {
         return (s % 2) as u16;
     }
-    if column == 2 {
-        return (8 * (s / 60 % 8) + 1 - s % 2) as u16;
+    if column == 1 {
+        return (6 + 2 * (s % 2)) as u16;
     }
-    if column == 3 {
-        return (7 + s % 2) as u16;
+    (s / 2 % 64) as u16
+}
+
+// Each signal in two frames, 31 apart; the arrays from the first byte of a frame on, the scalars from its last bits down.
+fn placement(p: usize, column: usize) -> u16 {
+    let s = p / 2;
+    if column == 0 {
+        return (s % 256) as u16;
     }
-    (s / 2 % 128) as u16
+    if column == 1 {
+        return ((s % 256 + 31 * (p % 2)) % 60) as u16;
+    }
+    offset(s % 2, s / 60)
+}
+
+// The offset in a round of 60 signals.
+fn offset(kind: usize, round: usize) -> u16 {
+    if kind == 1 {
+        return (8 * (round % 8)) as u16;
+    }
+    (58 - 6 * (round % 8)) as u16
 }
 
 // Four members a list.

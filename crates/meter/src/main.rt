@@ -10,7 +10,7 @@ use libc::STDOUT_FILENO;
 fn main() {
     let mut letters = io::buffer();
     let n = io::read_full(STDIN_FILENO, &mut letters);
-    let mut t = [0u16; 2608];
+    let mut t = [0u16; 3633];
     largest::build(&mut t);
     let mut bytes = [0u8; 480];
     let digest = calls::all(&t, &mut bytes, &letters[..n]);

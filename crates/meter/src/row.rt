@@ -10,8 +10,8 @@ ghost use Prim.Native.Nat.{_≤_};
 // The values of the row.
 pub(crate) const VALUES: usize = 20;
 
-// Makes the row from the table, so that the compiler does not know it: every twelfth signal, which are scalars of seven bits,
-// four in each of five frames.
+// Makes the row from the table, so that the compiler does not know it: every twelfth signal, which are scalars of six bits,
+// four in each of ten frames.
 pub(crate) fn build(t: &[u16], numbers: &mut [u16; VALUES], values: &mut [u32; VALUES]) {
     let step = frames::count(t) / 5;
     let mut s: u16 = 0;
@@ -24,9 +24,9 @@ pub(crate) fn build(t: &[u16], numbers: &mut [u16; VALUES], values: &mut [u32; V
     }
 }
 
-// The value of seven bits that has none of them in common with a start value.
+// The value of six bits that has none of them in common with a start value.
 fn opposite(start: u16) -> u32 {
-    (127 - start % 128) as u32
+    (63 - start % 64) as u32
 }
 
 // The length of the row, which the compiler does not know either: a third of the frames, and at most what there is.

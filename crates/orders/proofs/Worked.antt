@@ -10,16 +10,18 @@ use Rattle.wire.specs.Bits.{bit}
 use Rattle.wire.specs.Identifier.{p0, p1, protectedByte}
 use Rattle.wire.specs.Checksum.{withCarry, sum, covered, modelOf, inverted, checksumByte}
 use Rattle.signal.specs.Signal.{bitAt, number, bytesOf, inside, replaced, putBits, putScalar, putArray, getScalar}
-use Rattle.cluster.specs.Table.{word, frameCount, signalCount, memberCount, entryCount, size, identifier, frameLength, flags, published, classic}
-use Rattle.cluster.specs.Table.{signalFrame, signalKind, signalOffset, signalWidth, signalStart, isArray, memberList, memberFrame}
+use Rattle.cluster.specs.Table.{word, frameCount, signalCount, memberCount, entryCount, placementCount, size, identifier, frameLength, flags, published, classic}
+use Rattle.cluster.specs.Table.{signalKind, signalWidth, signalStart, isArray, memberList, memberFrame}
+use Rattle.cluster.specs.Table.{placementSignal, placementFrame, placementOffset, placementWidth, placedSignals}
 use Rattle.cluster.specs.Table.{entrySchedule, entryKind, entryTarget, entryDelay, counted, listCount, scheduleCount}
 use Rattle.cluster.specs.Lists.{firstFrom, membersFrom, members, memberOf, framesAhead, firstEntry, nextEntry, isOneOf}
-use Rattle.cluster.specs.Columns.{headerColumns, frameColumns, offsetRight, widthRight, startLimit, signalColumns, follows, memberColumns, targetRight, entryColumns}
-use Rattle.cluster.specs.Places.{signalPlace, occupies}
-use Rattle.cluster.specs.Right.{anyBelow, headerRight, frameRight, occupiedBefore, overlaps, signalRight, memberRight, entryRight, records, wordsRight}
+use Rattle.cluster.specs.Columns.{headerColumns, frameColumns, offsetRight, widthRight, startLimit, signalColumns, placementColumns, follows, memberColumns, targetRight, entryColumns}
+use Rattle.cluster.specs.Places.{anyBelow, placeOf, covers, somePlacement, atEach}
+use Rattle.cluster.specs.Right.{headerRight, frameRight, occupiedBefore, overlaps, signalRight, earlierPlacement, again, mixed, sticksOut, placementRight, allPlaced, memberRight, entryRight, records, frontRight, backRight, wordsRight}
+use Rattle.master.specs.Received.{lastOf, receivedUpTo, receivedBy, lastFits, receivedFits, sourceOf, scalarFrom, arrayFrom}
 use Rattle.cluster.specs.Check.{takenOf, faults, surplus, judged}
-use Rattle.cluster.specs.Fresh.{arrayLength, putStart, filled, freshBytes}
-use Rattle.cluster.specs.Values.{touches, signalPublished, valueFits, scalarValue, withScalar}
+use Rattle.cluster.specs.Fresh.{arrayLength, startAt, putStart, filled, freshBytes}
+use Rattle.cluster.specs.Values.{touches, firstPlacement, signalPublished, valueFits, scalarAt, arrayAt, withScalar, handedOut, startRead}
 use Rattle.master.specs.declared.write.WriteAnswer.the-variants as write
 use Rattle.master.specs.declared.read.ReadAnswer.the-variants as read
 use Rattle.master.specs.declared.select.SelectAnswer.the-variants as select
@@ -55,14 +57,18 @@ use Rattle.orders.specs.Claim.{ordersOf}
 -- frame 1, 8 bits of frame 2, 8 bits at 16 of frame 1. A list of frames 0 and 1, and a schedule with its slot
 abbrev table : List ℕ
 table =
-    3 ∷ 4 ∷ 2 ∷ 1
+    3 ∷ 4 ∷ 2 ∷ 1 ∷ 4
     ∷ 2 ∷ 1 ∷ 1
     ∷ 4 ∷ 3 ∷ 1
     ∷ 5 ∷ 1 ∷ 2
-    ∷ 0 ∷ 0 ∷ 0 ∷ 3 ∷ 5
-    ∷ 1 ∷ 1 ∷ 0 ∷ 16 ∷ 9
-    ∷ 2 ∷ 0 ∷ 0 ∷ 8 ∷ 1
-    ∷ 1 ∷ 0 ∷ 16 ∷ 8 ∷ 100
+    ∷ 0 ∷ 3 ∷ 5
+    ∷ 1 ∷ 16 ∷ 9
+    ∷ 0 ∷ 8 ∷ 1
+    ∷ 0 ∷ 8 ∷ 100
+    ∷ 0 ∷ 0 ∷ 0
+    ∷ 1 ∷ 1 ∷ 0
+    ∷ 2 ∷ 2 ∷ 0
+    ∷ 3 ∷ 1 ∷ 16
     ∷ 0 ∷ 0
     ∷ 0 ∷ 1
     ∷ 0 ∷ 1 ∷ 0 ∷ 1
@@ -143,15 +149,16 @@ pub worked-rows : (orderedOf table (replicate 24 0) orders ≡ answered)
     × (heldBy table (replicate 24 0) orders .bytes ≡ eight (253 ∷ []) ++ (eight (9 ∷ 9 ∷ 200 ∷ []) ++ eight (1 ∷ [])))
     × (heldBy table (replicate 24 0) orders .state .pending ≡ false ∷ true ∷ replicate 58 false)
 unfolding orderedOf heldBy orderAnswer orderLeft readOrders readOrder withWrites firstBad rowVerdict markedBits rewrittenBy withRow markedRow rowOf
-    puts heldAfter leftBy answerOf freshOf freshVerdict fresh bufferSize admitted takenOf judged faults surplus wordsRight records headerRight
+    puts heldAfter leftBy answerOf freshOf freshVerdict fresh bufferSize admitted takenOf judged faults surplus wordsRight frontRight backRight placementRight earlierPlacement again mixed sticksOut allPlaced placedSignals placementCount placementSignal placementFrame placementOffset
+    placementWidth placementColumns somePlacement atEach startAt firstPlacement records headerRight
     frameRight anyBelow signalRight offsetRight widthRight startLimit occupiedBefore overlaps memberRight entryRight targetRight word frameCount
-    signalCount memberCount entryCount size identifier frameLength flags published classic signalFrame signalKind signalOffset signalWidth signalStart
+    signalCount memberCount entryCount size identifier frameLength flags published classic signalKind signalWidth signalStart
     isArray memberList memberFrame entrySchedule entryKind entryTarget entryDelay counted listCount scheduleCount firstFrom membersFrom members
-    memberOf framesAhead firstEntry nextEntry signalPlace arrayLength putStart filled freshBytes touches signalPublished valueFits scalarValue
+    memberOf framesAhead firstEntry nextEntry placeOf arrayLength putStart filled freshBytes touches signalPublished valueFits
     withScalar bitAt number bytesOf inside replaced putBits putScalar putArray getScalar bit p0 p1 xor protectedByte withCarry sum covered modelOf
-    inverted checksumByte stateFits waitFits bitFits pendingFits isOneOf entryOpens canOpen countFits messageFits openProtected openChecksum frameData
+    inverted checksumByte stateFits lastFits receivedFits receivedUpTo receivedBy lastOf sourceOf scalarFrom arrayFrom scalarAt arrayAt handedOut startRead waitFits bitFits pendingFits isOneOf entryOpens canOpen countFits messageFits openProtected openChecksum frameData
     sentData copied opening selectVerdict selectOf writable markedFrom rewritten readVerdict readScalarOf ticks.firstPending ticks.slotOpens
     ticks.abandoned ticks.opensOrSilent ticks.slotAt ticks.slot ticks.tickEffect ticks.tickVerdict ticks.tickOf reading.withCounted pendingCount
     aheadVerdict aheadOf clearedBit pendingSent sent received passed sentByte checksumRight accepted lastByte receivedByte byteEffect byteVerdict
-    byteOf formatOf entryColumns follows frameColumns headerColumns memberColumns occupies signalColumns
+    byteOf formatOf entryColumns follows frameColumns headerColumns memberColumns covers signalColumns
 worked-rows = (refl, refl, refl, refl)

@@ -176,7 +176,7 @@ module _ (t : List ℕ) (tick bit : ℕ) where
   refused-number r j = ⊎-elim (λ e. inl (taken-number t r (taken-refused t r .1 e))) (λ w. inr (w .2)) (refused-exactly r .0 j)
 
   -- and its place is small
-  pub refused-high : (r : Refusal) → judgeOf t tick bit ≡ Refused r → r .place ≤ 2608
+  pub refused-high : (r : Refusal) → judgeOf t tick bit ≡ Refused r → r .place ≤ 3633
   refused-high r j = ⊎-elim (λ e. taken-high t r (taken-refused t r .1 e)) (λ w. omega (arith, w .3)) (refused-exactly r .0 j)
 
   -- the number of a short entry is small

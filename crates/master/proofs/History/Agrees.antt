@@ -18,7 +18,8 @@ use Rattle.master.specs.Schedule.{none, Scheduled, act, slotDue, planWit
 use Rattle.master.specs.History.{closes}
 use Rattle.master.specs.Answering.{messageAfter, countedAfter, anyClosed, twoClosed, lastClosed}
 use Rattle.master.proofs.FitsKept.{fresh-fits}
-use Rattle.master.proofs.History.Quiet.{isQuiet}
+use Rattle.master.proofs.History.Quiet.{isQuiet, quiet-unsuccessful}
+use Rattle.master.proofs.History.ReceivedAre.{ReceivedAre, received-fresh, received-quiet}
 use Rattle.master.proofs.History.StatusOver.{statusOver}
 use Rattle.master.proofs.History.FramesAre.{FramesAre, frames-fresh, frames-quiet}
 use Rattle.master.proofs.History.TransferIs.{TransferIs, transfer-fresh, transfer-quiet}
@@ -32,6 +33,7 @@ pub record Agrees (t : List ℕ) (h : Seq Scheduled) (x : Held) : Type 0 where
   pub plan-is : x .state .plan ≡ planAfter t h
   pub message-is : x .state .message ≡ messageAfter t h
   pub status-is : x .state .status ≡ statusOver (countedAfter t h)
+  pub received-are : ReceivedAre t h (x .state .received)
 
 -- after fresh
 pub agrees-fresh : (t : List ℕ) → RightTable t → Agrees t ∅ (held fresh (freshBytes t))
@@ -43,6 +45,7 @@ agrees-fresh t ok = record {
   plan-is = refl;
   message-is = refl;
   status-is = refl;
+  received-are = received-fresh t;
 }
 
 module _ (t : List ℕ) (h : Seq Scheduled) (x : Held) (is : Agrees t h x) (y : Scheduled) where
@@ -57,16 +60,17 @@ module _ (t : List ℕ) (h : Seq Scheduled) (x : Held) (is : Agrees t h x) (y : 
   open-status c n = rw (n, c)
 
   -- an event that changes neither bits, nor bytes, nor the transfer
-  aside : (s : State) → stateFits t s ≡ true → s .pending ≡ x .state .pending → s .transfer ≡ x .state .transfer → isQuiet (act y) ≡ true → closes y ≡ false
+  aside : (s : State) → stateFits t s ≡ true → s .pending ≡ x .state .pending → s .transfer ≡ x .state .transfer → s .received ≡ x .state .received → isQuiet (act y) ≡ true → closes y ≡ false
       → s .plan ≡ planAfter t (h ▹ y) → s .message ≡ messageAfter t (h ▹ y) → s .status ≡ statusOver (countedAfter t (h ▹ y))
       → Agrees t (h ▹ y) (held s (x .bytes))
-  aside s f p r q c pl ms st = record {
+  aside s f p r v q c pl ms st = record {
     fits = f;
     frames = rw p (frames-quiet t h (x .state .pending) (x .bytes) (is .frames) y q);
     transfer = rw r (transfer-quiet t h (x .state .transfer) (is .transfer) y q c);
     plan-is = pl;
     message-is = ms;
     status-is = st;
+    received-are = rw v (received-quiet t h (x .state .received) (is .received-are) y (quiet-unsuccessful y q));
   }
 
   -- a call that was refused, or only asks
@@ -74,7 +78,7 @@ module _ (t : List ℕ) (h : Seq Scheduled) (x : Held) (is : Agrees t h x) (y : 
   unfolding closes planAfter planBy
   agrees-nothing a =
       let c : closes y ≡ false = rw a in
-      aside (x .state) (is .fits) refl refl (rw a) c
+      aside (x .state) (is .fits) refl refl refl (rw a) c
       (rw a (is .plan-is))
       (is .message-is ∙ sym (open-message c ∙ rw a))
       (rw (open-status c (rw a)) (is .status-is))
@@ -85,7 +89,7 @@ module _ (t : List ℕ) (h : Seq Scheduled) (x : Held) (is : Agrees t h x) (y : 
   unfolding closes planAfter planBy
   agrees-selected n a f =
       let c : closes y ≡ false = rw a in
-      aside (withPlan (x .state) (asking (x .state .plan) n)) f refl refl (rw a) c
+      aside (withPlan (x .state) (asking (x .state .plan) n)) f refl refl refl (rw a) c
       (rw (a, is .plan-is))
       (is .message-is ∙ sym (open-message c ∙ rw a))
       (rw (open-status c (rw a)) (is .status-is))
@@ -97,7 +101,7 @@ module _ (t : List ℕ) (h : Seq Scheduled) (x : Held) (is : Agrees t h x) (y : 
   unfolding closes planAfter planBy planWith
   agrees-waited m b a n d f =
       let c : closes y ≡ false = rw (a, n) in
-      aside (withPlan (x .state) (waited (x .state .plan))) f refl refl (rw a) c
+      aside (withPlan (x .state) (waited (x .state .plan))) f refl refl refl (rw a) c
       (rw (a, d, is .plan-is))
       (is .message-is ∙ sym (open-message c ∙ rw a))
       (rw (open-status c (rw a)) (is .status-is))
@@ -107,7 +111,7 @@ module _ (t : List ℕ) (h : Seq Scheduled) (x : Held) (is : Agrees t h x) (y : 
   unfolding closes planAfter planBy countedAfter statusOver anyClosed twoClosed lastClosed
   agrees-status a f =
       let c : closes y ≡ false = rw a in
-      aside (withStatus (x .state) noStatus) f refl refl (rw a) c
+      aside (withStatus (x .state) noStatus) f refl refl refl (rw a) c
       (rw a (is .plan-is))
       (is .message-is ∙ sym (open-message c ∙ rw a))
       (rw a)
@@ -119,7 +123,7 @@ module _ (t : List ℕ) (h : Seq Scheduled) (x : Held) (is : Agrees t h x) (y : 
   unfolding closes planAfter planBy
   agrees-sending nad n a f =
       let c : closes y ≡ false = rw a in
-      aside (withMessage (x .state) (message.Sending (record { nad = nad; length = n; next = 0 }))) f refl refl (rw a) c
+      aside (withMessage (x .state) (message.Sending (record { nad = nad; length = n; next = 0 }))) f refl refl refl (rw a) c
       (rw a (is .plan-is))
       (sym (open-message c ∙ rw a))
       (rw (open-status c (rw a)) (is .status-is))

@@ -28,6 +28,7 @@ use Rattle.master.proofs.History.Progress.{sent-in-time}
 use Rattle.master.proofs.History.SameBytes.{same-eight}
 use Rattle.master.proofs.History.Sent.{sent-exactly}
 use Rattle.master.proofs.History.Unchanged.{unchanged}
+use Rattle.master.proofs.History.ReceivedAre.{received-each}
 use Rattle.master.proofs.History.Runs.{Good, agrees, goods}
 
 -- a tick that starts a slot with an entry is accepted, and that slot is due
@@ -63,11 +64,13 @@ demand-3 t bs accepted cs =
     λ before x after p. along-at (Good t) before x after (rw p at (goods t bs accepted cs)) in
     record {
       after-each = λ before after p.
-          let is = agrees t bs accepted before .frames in
+          let held = agrees t bs accepted before in
+          let is = held .frames in
           record {
             bits = λ f. rw (is .bits-are f) (pending-iff t (recordOf t bs before) f);
             bytes = λ f b q. same-eight t _ _ (is .size) (is .written-are) f q;
             all-bytes = is .bytes-are;
+            receptions = received-each t (recordOf t bs before) _ (held .received-are);
           };
       history = record {
         slots = λ before after m a e s p k. list-slot t before m a e s (good before _ after p) k;

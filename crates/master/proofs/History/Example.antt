@@ -9,16 +9,18 @@ use Rattle.wire.specs.Bits.{bit}
 use Rattle.wire.specs.Identifier.{p0, p1, protectedByte}
 use Rattle.wire.specs.Checksum.{withCarry, sum, covered, modelOf, inverted, checksumByte}
 use Rattle.signal.specs.Signal.{bitAt, number, bytesOf, inside, replaced, putBits, putScalar}
-use Rattle.cluster.specs.Table.{word, frameCount, signalCount, memberCount, entryCount, size, identifier, frameLength, flags, published, classic}
-use Rattle.cluster.specs.Table.{signalFrame, signalKind, signalOffset, signalWidth, signalStart, isArray, memberList, memberFrame}
+use Rattle.cluster.specs.Table.{word, frameCount, signalCount, memberCount, entryCount, placementCount, size, identifier, frameLength, flags, published, classic}
+use Rattle.cluster.specs.Table.{signalKind, signalWidth, signalStart, isArray, memberList, memberFrame}
+use Rattle.cluster.specs.Table.{placementSignal, placementFrame, placementOffset, placementWidth, placedSignals}
 use Rattle.cluster.specs.Table.{entrySchedule, entryKind, entryTarget, entryDelay, counted, listCount, scheduleCount}
 use Rattle.cluster.specs.Lists.{firstFrom, membersFrom, members, firstEntry, nextEntry}
-use Rattle.cluster.specs.Columns.{headerColumns, frameColumns, offsetRight, widthRight, startLimit, signalColumns, follows, memberColumns, targetRight, entryColumns}
-use Rattle.cluster.specs.Places.{signalPlace, occupies}
-use Rattle.cluster.specs.Right.{anyBelow, headerRight, frameRight, occupiedBefore, overlaps, signalRight, memberRight, entryRight, records, wordsRight}
+use Rattle.cluster.specs.Columns.{headerColumns, frameColumns, offsetRight, widthRight, startLimit, signalColumns, placementColumns, follows, memberColumns, targetRight, entryColumns}
+use Rattle.cluster.specs.Places.{anyBelow, placeOf, covers, somePlacement, atEach}
+use Rattle.cluster.specs.Right.{headerRight, frameRight, occupiedBefore, overlaps, signalRight, earlierPlacement, again, mixed, sticksOut, placementRight, allPlaced, memberRight, entryRight, records, frontRight, backRight, wordsRight}
+use Rattle.master.specs.Received.{lastOf, receivedUpTo, receivedBy, lastFits, receivedFits, sourceOf, scalarFrom, arrayFrom}
 use Rattle.cluster.specs.Check.{takenOf, faults, surplus, judged}
-use Rattle.cluster.specs.Fresh.{putStart, filled, freshBytes}
-use Rattle.cluster.specs.Values.{touches, signalPublished, valueFits, withScalar}
+use Rattle.cluster.specs.Fresh.{startAt, putStart, filled, freshBytes}
+use Rattle.cluster.specs.Values.{touches, firstPlacement, signalPublished, valueFits, scalarAt, arrayAt, withScalar, handedOut, startRead}
 use Rattle.master.specs.declared.start.FreshAnswer.the-variants.{Fresh}
 use Rattle.master.specs.declared.write.WriteAnswer.the-variants.{Written}
 use Rattle.master.specs.declared.select.SelectAnswer.the-variants.{Selected}
@@ -51,11 +53,13 @@ use Rattle.master.specs.Put.{put, scalar}
 -- two frames of one byte with a signal in each, both in list 0, and a schedule of one slot of that list, at every tick
 abbrev table : List ℕ
 table =
-    2 ∷ 2 ∷ 2 ∷ 1
+    2 ∷ 2 ∷ 2 ∷ 1 ∷ 2
     ∷ 2 ∷ 1 ∷ 1
     ∷ 3 ∷ 1 ∷ 1
-    ∷ 0 ∷ 0 ∷ 0 ∷ 8 ∷ 0
-    ∷ 1 ∷ 0 ∷ 0 ∷ 8 ∷ 0
+    ∷ 0 ∷ 8 ∷ 0
+    ∷ 0 ∷ 8 ∷ 0
+    ∷ 0 ∷ 0 ∷ 0
+    ∷ 1 ∷ 1 ∷ 0
     ∷ 0 ∷ 0
     ∷ 0 ∷ 1
     ∷ 0 ∷ 1 ∷ 0 ∷ 1
@@ -82,33 +86,35 @@ sending =
     ▹ event (byteIn 247) (plain Success) none (entry 0)
 
 accepted : freshOf table buffer .given .answer ≡ Fresh
-unfolding freshOf freshVerdict bufferSize takenOf judged faults surplus wordsRight records headerRight frameRight anyBelow
+unfolding freshOf freshVerdict bufferSize takenOf judged faults surplus wordsRight frontRight backRight placementRight earlierPlacement again mixed sticksOut allPlaced placedSignals placementCount placementSignal placementFrame placementOffset
+    placementWidth placementColumns somePlacement atEach startAt firstPlacement records headerRight frameRight anyBelow
     signalRight offsetRight widthRight startLimit occupiedBefore overlaps memberRight entryRight targetRight word frameCount
-    signalCount memberCount entryCount size identifier frameLength flags published signalFrame signalKind signalOffset
+    signalCount memberCount entryCount size identifier frameLength flags published signalKind
     signalWidth signalStart isArray memberList memberFrame entrySchedule entryKind entryTarget entryDelay counted listCount
-    inside bit entryColumns follows frameColumns headerColumns memberColumns occupies signalColumns signalPlace
+    inside bit entryColumns follows frameColumns headerColumns memberColumns covers signalColumns placeOf
 accepted = refl
 
 record-is : recordOf table buffer calls ≡ writing ⋈ sending
 unfolding scheduled schedule slotBegun slotAfter planAfter planBy planWith slotDue slotOf historyOf heldAfter leftBy answerOf
-    freshOf freshVerdict fresh bufferSize admitted takenOf judged faults surplus wordsRight records headerRight frameRight
+    freshOf freshVerdict fresh bufferSize admitted takenOf judged faults surplus wordsRight frontRight backRight placementRight earlierPlacement again mixed sticksOut allPlaced placedSignals placementCount placementSignal placementFrame placementOffset
+    placementWidth placementColumns somePlacement atEach startAt firstPlacement records headerRight frameRight
     anyBelow signalRight offsetRight widthRight startLimit occupiedBefore overlaps memberRight entryRight targetRight word
-    frameCount signalCount memberCount entryCount size identifier frameLength flags published classic signalFrame signalKind
-    signalOffset signalWidth signalStart isArray memberList memberFrame entrySchedule entryKind entryTarget entryDelay
-    counted listCount scheduleCount firstFrom membersFrom members firstEntry nextEntry signalPlace putStart filled freshBytes
+    frameCount signalCount memberCount entryCount size identifier frameLength flags published classic signalKind
+    signalWidth signalStart isArray memberList memberFrame entrySchedule entryKind entryTarget entryDelay
+    counted listCount scheduleCount firstFrom membersFrom members firstEntry nextEntry placeOf putStart filled freshBytes
     touches signalPublished valueFits withScalar bitAt number bytesOf inside replaced putBits putScalar bit p0 p1 xor
-    protectedByte withCarry sum covered modelOf inverted checksumByte stateFits waitFits bitFits pendingFits isOneOf
+    protectedByte withCarry sum covered modelOf inverted checksumByte stateFits lastFits receivedFits receivedUpTo receivedBy lastOf sourceOf scalarFrom arrayFrom scalarAt arrayAt handedOut startRead waitFits bitFits pendingFits isOneOf
     entryOpens canOpen countFits messageFits openProtected openChecksum frameData sentData copied opening selectVerdict
     selectOf writable markedFrom rewritten marked writeOf tick.firstPending tick.slotOpens tick.abandoned tick.opensOrSilent
     tick.slotAt tick.slot tick.tickEffect tick.tickVerdict tick.tickOf status.withCounted clearedBit
     pendingSent sent received passed sentByte byteEffect byteVerdict byteOf formatOf entryColumns follows frameColumns
-    headerColumns memberColumns occupies signalColumns
+    headerColumns memberColumns covers signalColumns
 record-is = refl
 
 -- frame 1 is sent by the second success of its list
 pub sent-second : Succeeded table sending 1
 unfolding openAfter closes opens transferNamed frameNamed firstFrom frameCount word identifier protectedByte p0 p1 xor bit
-    rewrittenAfter wipes pendingAfter writes succeeds touches signalFrame successes slotAfter members membersFrom memberCount
+    rewrittenAfter wipes pendingAfter writes succeeds touches somePlacement anyBelow placementCount placementSignal placementFrame successes slotAfter members membersFrom memberCount
     memberList memberFrame signalCount entryKind entryTarget
 sent-second =
     demand-3 table buffer accepted calls .history .progress writing sending 0 1 1 (0 ∷ []) [] record-is refl refl

@@ -96,7 +96,7 @@ module _ (t : List ℕ) (h : Seq Scheduled) (bits : List Bool) (bs : List ℕ) (
   }
     where
       touched-bit : (f : ℕ) → touches t s f ≡ true → f < length bits
-      touched-bit f w = omega (arith, touched-below t ok s hs f w, frame-count t ok, is .bit-count)
+      touched-bit f w = omega (arith, touched-below t ok s f w, frame-count t ok, is .bit-count)
 
   -- a byte that is answered with success: the bit of the frame that was sent
   module _ (b : ℕ) (c : ByteAnswer) (a : act y ≡ took b c) (good : isSuccess c ≡ true) where

@@ -11,17 +11,19 @@ use lib.ListN.{length, replicate, length-replicate}
 use Rattle.wire.specs.Bits.{Bytes}
 use Rattle.signal.specs.Signal.{bitAt}
 use Rattle.cluster.specs.Check.{RightTable}
-use Rattle.cluster.specs.Table.{frameCount, signalCount, signalFrame, isArray, signalWidth, signalStart}
-use Rattle.cluster.specs.Places.{signalPlace, occupies}
+use Rattle.cluster.specs.Table.{frameCount, signalCount, isArray, signalWidth, signalStart, placementFrame}
+use Rattle.cluster.specs.Places.{placeOf, covers}
 use Rattle.cluster.specs.Fresh.{arrayLength, freshBytes}
-use Rattle.cluster.specs.Values.{signalPublished, arrayFits, scalarValue, arrayValue, arrayRead}
+use Rattle.cluster.specs.Values.{signalPublished, firstPlacement, arrayFits, scalarAt, arrayAt, handedOut, arrayRead}
 use Rattle.cluster.proofs.Accepted.{then-second}
-use Rattle.cluster.proofs.Occupied.{occupied-from}
-use Rattle.cluster.proofs.SignalLaws.{signal-end-high}
+use Rattle.cluster.proofs.Occupied.{covered-from}
+use Rattle.cluster.proofs.PlacementLaws.{placement-end-high, first-there, published-as}
+use Rattle.cluster.proofs.SomePlacement.{Of}
 use Rattle.cluster.proofs.FreshLaws.{array-length, fresh-scalar, fresh-array}
-use Rattle.cluster.proofs.ValueLaws.{scalar-own, array-own, read-scalar, read-array, other-scalar-scalar, other-array-scalar, other-scalar-array, other-array-array}
+use Rattle.cluster.proofs.ValueLaws.{scalar-at-own, array-at-own, read-scalar-at, read-array-at, other-scalar-scalar, other-array-scalar, other-scalar-array, other-array-array}
 use Rattle.transport.proofs.Tests.{whether}
 use Rattle.master.specs.declared.start.FreshAnswer.the-variants.{Fresh}
+use Rattle.master.specs.declared.state.Last.the-variants.{Placement}
 use Rattle.master.specs.Start.{freshOf}
 use Rattle.master.specs.declared.select.SelectAnswer.{SelectAnswer}
 use Rattle.master.specs.declared.select.SelectAnswer.the-variants as select
@@ -44,6 +46,7 @@ use Rattle.master.specs.Acts.{Act, nothing, wrote, selected, ticked, too
 use Rattle.master.specs.Run.{Held, answerOf, heldAfter, historyOf}
 use Rattle.master.specs.Schedule.{Scheduled, act, schedule, scheduled}
 use Rattle.master.specs.History.{writtenBytes}
+use Rattle.master.specs.Answering.{readFrom, scalarRead, arrayGiven}
 use Rattle.master.specs.Replies.{readNumber, readReply, readArrayReply}
 use Rattle.master.specs.Claim.{recordOf}
 use Rattle.master.specs.InWords.{startValue, lastValue, ReadsAs}
@@ -53,58 +56,58 @@ use Rattle.master.proofs.History.Agrees.{Agrees}
 use Rattle.master.proofs.History.Steps.{steps}
 use Rattle.master.proofs.History.Runs.{table-taken, fresh-table, agrees}
 
--- a buffer holds a value in a signal
-abbrev Holds : List ℕ → List ℕ → ℕ → Value → Type 0
-Holds t bs s (scalar v) = (isArray t s ≡ false) × (scalarValue t bs s ≡ v)
-Holds t bs s (array vs) = (isArray t s ≡ true) × (arrayFits t s vs ≡ true) × (Bytes vs → arrayValue t bs s ≡ vs)
+-- a buffer holds a value in a placement of a signal
+abbrev pub Holds : List ℕ → List ℕ → ℕ → ℕ → Value → Type 0
+Holds t bs s k (scalar v) = (isArray t s ≡ false) × (scalarAt t bs s k ≡ v)
+Holds t bs s k (array vs) = (isArray t s ≡ true) × (arrayFits t s vs ≡ true) × (Bytes vs → arrayAt t bs s k ≡ vs)
 
-module _ (t : List ℕ) (ok : RightTable t) (s : ℕ) (hs : s < signalCount t) where
+module _ (t : List ℕ) (ok : RightTable t) (s : ℕ) (hs : s < signalCount t) (k : ℕ) (o : Of t s k) where
   -- a fresh buffer holds the start values
-  holds-start : Holds t (freshBytes t) s (startValue t s)
-  unfolding startValue arrayFits scalarValue arrayValue
+  holds-start : Holds t (freshBytes t) s k (startValue t s)
+  unfolding startValue arrayFits scalarAt arrayAt
   holds-start =
       whether (isArray t s)
       (λ a.
       let n = array-length t ok s hs a in
-      rw a (a, eq-eqb _ _ (length-replicate (signalWidth t s / 8) (signalStart t s) ∙ sym n), λ b. fresh-array t ok s hs a ∙ rw n))
-      (λ a. rw a (a, fresh-scalar t ok s hs a))
+      rw a (a, eq-eqb _ _ (length-replicate (signalWidth t s / 8) (signalStart t s) ∙ sym n), λ b. fresh-array t ok s k o a ∙ rw n))
+      (λ a. rw a (a, fresh-scalar t ok s k o a))
 
   -- a write of the signal
-  holds-own : (bs : List ℕ) → length bs ≡ 8 * frameCount t → (v : Value) → Writable t s (isBytes v) (fitsSignal t s v) → Holds t (withValue t bs s v) s v
-  holds-own bs l (scalar v) w = (w .kind-is, read-scalar t ok s hs (w .kind-is) bs l v (w .value-fits))
-  holds-own bs l (array vs) w = (w .kind-is, w .value-fits, λ b. read-array t ok s hs (w .kind-is) bs l vs b (w .value-fits))
+  holds-own : (bs : List ℕ) → length bs ≡ 8 * frameCount t → (v : Value) → Writable t s (isBytes v) (fitsSignal t s v) → Holds t (withValue t bs s v) s k v
+  holds-own bs l (scalar v) w = (w .kind-is, read-scalar-at t ok s hs (w .kind-is) bs l v (w .value-fits) k o)
+  holds-own bs l (array vs) w = (w .kind-is, w .value-fits, λ b. read-array-at t ok s hs (w .kind-is) bs l vs b (w .value-fits) k o)
 
   -- a write of another one
-  holds-other : (bs : List ℕ) (r : ℕ) → ¬ (s ≡ r) → (w : Value) → Writable t r (isBytes w) (fitsSignal t r w) → (v : Value) → Holds t bs s v → Holds t (withValue t bs r w) s v
-  holds-other bs r n (scalar w) k (scalar v) h = (h .0, other-scalar-scalar t ok s r hs (k .below) n bs w (h .0) (k .kind-is) ∙ h .1)
-  holds-other bs r n (array w) k (scalar v) h = (h .0, other-scalar-array t ok s r hs (k .below) n bs w (h .0) (k .kind-is) (k .value-fits) ∙ h .1)
-  holds-other bs r n (scalar w) k (array vs) h = (h .0, h .1, λ b. other-array-scalar t ok s r hs (k .below) n bs w (h .0) (k .kind-is) ∙ h .2 b)
-  holds-other bs r n (array w) k (array vs) h = (h .0, h .1, λ b. other-array-array t ok s r hs (k .below) n bs w (h .0) (k .kind-is) (k .value-fits) ∙ h .2 b)
+  pub holds-other : (bs : List ℕ) (r : ℕ) → ¬ (s ≡ r) → (w : Value) → Writable t r (isBytes w) (fitsSignal t r w) → (v : Value) → Holds t bs s k v
+      → Holds t (withValue t bs r w) s k v
+  holds-other bs r n (scalar w) a (scalar v) h = (h .0, other-scalar-scalar t ok s r n k o bs w ∙ h .1)
+  holds-other bs r n (array w) a (scalar v) h = (h .0, other-scalar-array t ok s r n k o bs w (a .value-fits) ∙ h .1)
+  holds-other bs r n (scalar w) a (array vs) h = (h .0, h .1, λ b. other-array-scalar t ok s r n k o bs w ∙ h .2 b)
+  holds-other bs r n (array w) a (array vs) h = (h .0, h .1, λ b. other-array-array t ok s r n k o bs w (a .value-fits) ∙ h .2 b)
 
-  -- what a buffer with the same published frames holds in a published signal
-  holds-same : signalPublished t s ≡ true → (bs cs : List ℕ) → SameBytes t bs cs → (v : Value) → Holds t cs s v → Holds t bs s v
-  unfolding signalPublished bitAt signalPlace
-  holds-same p bs cs e v h = by v h
-    where
-      same : (j : ℕ) → occupies t s j ≡ true → bitAt bs j ≡ bitAt cs j
-      same j o =
-          let w = occupied-from t s j o in
-          let k = (j - 64 * signalFrame t s) / 8 in
-          let at : j / 8 ≡ 8 * signalFrame t s + k = omega (arith, signal-end-high t ok s hs) in
-          rw (at, e .same-bytes (signalFrame t s) p k (omega (arith, signal-end-high t ok s hs)))
+  -- what a buffer with the same bits in the placement holds there
+  pub holds-bits : (bs cs : List ℕ) → ((j : ℕ) → covers t k j ≡ true → bitAt bs j ≡ bitAt cs j) → (v : Value) → Holds t cs s k v → Holds t bs s k v
+  holds-bits bs cs same (scalar v) h = (h .0, scalar-at-own t bs cs s k o same ∙ h .1)
+  holds-bits bs cs same (array vs) h = (h .0, h .1, λ b. array-at-own t bs cs s k o same ∙ h .2 b)
 
-      by : (v : Value) → Holds t cs s v → Holds t bs s v
-      by (scalar v) h = (h .0, scalar-own t bs cs s same ∙ h .1)
-      by (array vs) h = (h .0, h .1, λ b. array-own t bs cs s same ∙ h .2 b)
+  -- in a published signal, buffers with the same published frames have them
+  pub published-bits : signalPublished t s ≡ true → (bs cs : List ℕ) → SameBytes t bs cs → (j : ℕ) → covers t k j ≡ true → bitAt bs j ≡ bitAt cs j
+  unfolding bitAt placeOf
+  published-bits p bs cs e j q =
+      let w = covered-from t k j q in
+      let end = placement-end-high t ok k (o .there) in
+      let i = (j - 64 * placementFrame t k) / 8 in
+      let at : j / 8 ≡ 8 * placementFrame t k + i = omega arith in
+      rw (at, e .same-bytes (placementFrame t k) (sym (published-as t ok s k o) ∙ p) i (omega arith))
 
   -- one more event, of which a write is one that the table allows
   holds-event : (h : Seq Scheduled) (x : Scheduled) → length (writtenBytes t h) ≡ 8 * frameCount t
       → ((r : ℕ) (v : Value) → act x ≡ wrote r v → Writable t r (isBytes v) (fitsSignal t r v))
-      → Holds t (writtenBytes t h) s (lastValue t s h) → Holds t (writtenBytes t (h ▹ x)) s (lastValue t s (h ▹ x))
+      → Holds t (writtenBytes t h) s k (lastValue t s h) → Holds t (writtenBytes t (h ▹ x)) s k (lastValue t s (h ▹ x))
   unfolding writtenBytes lastValue
   holds-event h x l allowed is = by (act x) refl
     where
-      by : (a : Act) → act x ≡ a → Holds t (writtenBytes t (h ▹ x)) s (lastValue t s (h ▹ x))
+      by : (a : Act) → act x ≡ a → Holds t (writtenBytes t (h ▹ x)) s k (lastValue t s (h ▹ x))
       by nothing e = rw e is
       by (wrote r v) e = elim (ℕ-discrete r s) [
         | yes p ↦ rw (e, eq-eqb r s p, p) (holds-own (writtenBytes t h) l v (rw p at (allowed r v e)))
@@ -159,7 +162,7 @@ write-allowed t x w r v =
     let u = writable-signal t (w .signal) (isBytes (w .value)) (fitsSignal t (w .signal) (w .value)) (then-second (admitted t (length (x .bytes)) (x .state)) _ a) in
     rw (i, j) at u)
 
-call-allowed : (t : List ℕ) (x : Held) (c : Call) (r : ℕ) (v : Value) → actOf (c ⇒ answerOf t x c) ≡ wrote r v → Writable t r (isBytes v) (fitsSignal t r v)
+pub call-allowed : (t : List ℕ) (x : Held) (c : Call) (r : ℕ) (v : Value) → actOf (c ⇒ answerOf t x c) ≡ wrote r v → Writable t r (isBytes v) (fitsSignal t r v)
 call-allowed t x (call.write w) r v e = write-allowed t x w r v e
 call-allowed t x (call.read s) r v e = let z : _≡_ {A = ℕ} 0 1 = cc in absurd (omega arith)
 call-allowed t x (call.readArray s) r v e = let z : _≡_ {A = ℕ} 0 1 = cc in absurd (omega arith)
@@ -177,40 +180,51 @@ module _ (t bs : List ℕ) (accepted : freshOf t bs .given .answer ≡ Fresh) (s
   ok : RightTable t
   ok = fresh-table t bs accepted
 
-  written-length : (cs : Seq Call) → length (writtenBytes t (recordOf t bs cs)) ≡ 8 * frameCount t
+  pub written-length : (cs : Seq Call) → length (writtenBytes t (recordOf t bs cs)) ≡ 8 * frameCount t
   unfolding bufferSize
   written-length cs = let is = agrees t bs accepted cs .frames in sym (is .written-are .same-length) ∙ is .size
 
-  written-holds : (cs : Seq Call) → Holds t (writtenBytes t (recordOf t bs cs)) s (lastValue t s (recordOf t bs cs))
-  unfolding historyOf scheduled schedule writtenBytes lastValue
-  written-holds ∅ = holds-start t ok s hs
-  written-holds (cs ▹ c) =
-      let x = heldAfter t bs cs in
-      holds-event t ok s hs (recordOf t bs cs) (schedule t (recordOf t bs cs) (c ⇒ answerOf t x c)) (written-length cs) (call-allowed t x c) (written-holds cs)
+  module _ (k : ℕ) (o : Of t s k) where
+    written-holds : (cs : Seq Call) → Holds t (writtenBytes t (recordOf t bs cs)) s k (lastValue t s (recordOf t bs cs))
+    unfolding historyOf scheduled schedule writtenBytes lastValue
+    written-holds ∅ = holds-start t ok s hs k o
+    written-holds (cs ▹ c) =
+        let x = heldAfter t bs cs in
+        holds-event t ok s hs k o (recordOf t bs cs) (schedule t (recordOf t bs cs) (c ⇒ answerOf t x c)) (written-length cs) (call-allowed t x c) (written-holds cs)
 
-  read-number : (array : Bool) → isArray t s ≡ array → readNumber t s array ≡ 0
+    -- a published signal holds in each placement what its last accepted write left
+    pub each-holds : signalPublished t s ≡ true → (cs : Seq Call) → Holds t (heldAfter t bs cs .bytes) s k (lastValue t s (recordOf t bs cs))
+    each-holds p cs =
+        let held = heldAfter t bs cs .bytes in
+        let written = writtenBytes t (recordOf t bs cs) in
+        holds-bits t ok s hs k o held written (published-bits t ok s hs k o p held written (agrees t bs accepted cs .frames .written-are))
+        (lastValue t s (recordOf t bs cs)) (written-holds cs)
+
+  pub read-number : (array : Bool) → isArray t s ≡ array → readNumber t s array ≡ 0
   unfolding readNumber
   read-number true a = rw (lt-ltb s (signalCount t) hs, a)
   read-number false a = rw (lt-ltb s (signalCount t) hs, a)
 
-  reads : (cs : Seq Call) (v : Value) → Holds t (heldAfter t bs cs .bytes) s v → ReadsAs t (heldAfter t bs cs) s v
-  unfolding readReply readArrayReply arrayRead arrayFits
-  reads cs v h = by v h
+  -- a read that takes its value from a placement gives what is held there
+  pub reads : (cs : Seq Call) (k : ℕ) → readFrom t (recordOf t bs cs) s ≡ Placement k → (v : Value) → Holds t (heldAfter t bs cs .bytes) s k v
+      → ReadsAs t (heldAfter t bs cs) s v
+  unfolding readReply readArrayReply scalarRead arrayGiven arrayRead handedOut arrayFits
+  reads cs k from v h = by v h
     where
       is : Agrees t (recordOf t bs cs) (heldAfter t bs cs)
       is = agrees t bs accepted cs
 
-      by : (v : Value) → Holds t (heldAfter t bs cs .bytes) s v → ReadsAs t (heldAfter t bs cs) s v
+      by : (v : Value) → Holds t (heldAfter t bs cs .bytes) s k v → ReadsAs t (heldAfter t bs cs) s v
       by (scalar v) h =
           steps t (table-taken t bs accepted) (recordOf t bs cs) (heldAfter t bs cs) is (call.read s) .replies
-          ∙ rw (read-number false (h .0), ← is .frames .bytes-are, h .1)
+          ∙ rw (read-number false (h .0), from, ← is .frames .bytes-are, h .1)
       by (array vs) h = λ b.
           steps t (table-taken t bs accepted) (recordOf t bs cs) (heldAfter t bs cs) is (call.readArray s) .replies
-          ∙ rw (read-number true (h .0), ← is .frames .bytes-are, h .2 b, ← eqb-true (length vs) (arrayLength t s) (h .1))
+          ∙ rw (read-number true (h .0), from, ← is .frames .bytes-are, h .2 b, ← eqb-true (length vs) (arrayLength t s) (h .1))
 
   -- a published signal reads as its last accepted write left it, or as its start value
   pub last-write : signalPublished t s ≡ true → (cs : Seq Call) → ReadsAs t (heldAfter t bs cs) s (lastValue t s (recordOf t bs cs))
+  unfolding readFrom
   last-write p cs =
-      reads cs (lastValue t s (recordOf t bs cs))
-      (holds-same t ok s hs p (heldAfter t bs cs .bytes) (writtenBytes t (recordOf t bs cs)) (agrees t bs accepted cs .frames .written-are)
-      (lastValue t s (recordOf t bs cs)) (written-holds cs))
+      let k = firstPlacement t s in
+      reads cs k (rw p) (lastValue t s (recordOf t bs cs)) (each-holds k (first-there t ok s hs) p cs)

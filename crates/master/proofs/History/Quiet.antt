@@ -10,7 +10,7 @@ use Rattle.master.specs.declared.byte.ByteAnswer.{ByteAnswer}
 use Rattle.master.specs.Seq.{Seq, _▹_}
 use Rattle.master.specs.Schedule.{Scheduled, act}
 use Rattle.master.specs.Acts.{Act, nothing, wrote, selected, ticked, took, statusRead, sending, onWrite, onByte}
-use Rattle.master.specs.History.{writes, closes, openAfter, writtenBytes, gotBy, gotAfter}
+use Rattle.master.specs.History.{writes, closes, isSuccess, succeeds, openAfter, writtenBytes, gotBy, gotAfter}
 use Rattle.master.specs.Answering.{dueAfter}
 use Rattle.master.proofs.Tests.{never, or-false}
 use Rattle.master.proofs.History.Computed.{hits, rewrittenAfter, rewritten-on}
@@ -43,6 +43,11 @@ quiet-byte f other (ticked m a) q = refl
 quiet-byte f other (took b a) q = never q
 quiet-byte f other statusRead q = refl
 quiet-byte f other (sending nad n) q = refl
+
+-- an event that is quiet is no success
+pub quiet-unsuccessful : (y : Scheduled) → isQuiet (act y) ≡ true → succeeds y ≡ false
+unfolding succeeds
+quiet-unsuccessful y q = quiet-byte (λ b a. isSuccess a) false (act y) q
 
 -- an event that is quiet writes nothing
 module _ (t : List ℕ) (h : Seq Scheduled) (y : Scheduled) (q : isQuiet (act y) ≡ true) where

@@ -47,7 +47,7 @@ pub record Good (t : List ℕ) (h : Seq Scheduled) (x : Scheduled) : Type 0 wher
   pub matched : sends t (openAfter t h) ≡ true → gotAfter h ≡ take (length (gotAfter h)) (dueAfter t h)
 
 module _ (t : List ℕ) (h : Seq Scheduled) (x : Held) (is : Agrees t h x) (c : Call) (st : Stepped t h c (answerOf t x c) (leftBy t x c)) where
-  good-step : Good t h (schedule t h (c ⇒ answerOf t x c))
+  pub good-step : Good t h (schedule t h (c ⇒ answerOf t x c))
   unfolding schedule slotBegun
   good-step = record {
     placed = refl;

@@ -1,6 +1,6 @@
 -- Every call: accepted or refused, the state and the bytes after it are what the history says, and its answer is the one that the history gives.
 use Prim.Native.Nat.{ℕ}
-use mathlib.Core.Path.{_≡_, refl, sym, _∙_}
+use mathlib.Core.Path.{_≡_, refl, sym, _∙_, ap}
 use mathlib.Core.Bool.{Bool, true, false}
 use mathlib.Core.List.{List}
 use native.Mathlib.Omega.{arith}
@@ -9,7 +9,7 @@ use Rattle.refusal.specs.declared.Refusal.{Refusal}
 use Rattle.refusal.specs.Numbers as number
 use Rattle.cluster.specs.declared.Verdict.the-variants as verdict
 use Rattle.cluster.specs.Check.{TakenTable, RightTable}
-use Rattle.cluster.specs.Values.{scalarValue, arrayRead}
+use Rattle.cluster.specs.declared.values.Array.{Array}
 use Rattle.transport.proofs.Tests.{whether}
 use Rattle.master.specs.declared.state.State.{State}
 use Rattle.master.specs.declared.write.WriteAnswer.the-variants as write
@@ -41,7 +41,8 @@ use Rattle.master.specs.Calls.{Call, Answer, _⇒_}
 use Rattle.master.specs.Run.{Held, held, answerOf, leftBy}
 use Rattle.master.specs.Acts.{nothing, actOf}
 use Rattle.master.specs.Schedule.{slotBegun, Scheduled, schedule}
-use Rattle.master.specs.Answering.{messageAfter, countedAfter}
+use Rattle.master.specs.Answering.{messageAfter, countedAfter, bytesAfter, readFrom, scalarRead, arrayGiven}
+use Rattle.master.specs.Received.{sourceOf, scalarFrom, arrayFrom}
 use Rattle.master.specs.Replies.{putNumber, Replies, readNumber, selectNumber, sendNumber, writeReply, readReply, readArrayReply, selectReply, sendReply, byteReply, plain, lentRight}
 use Rattle.master.proofs.Tests.{never}
 use Rattle.master.proofs.Admitted.{admits, fits-clauses, fits-all, unless-test}
@@ -54,6 +55,7 @@ use Rattle.master.proofs.SlotFits.{not-open}
 use Rattle.master.proofs.History.Words.{lent-right, message-told}
 use Rattle.master.proofs.History.Numbers.{byNumber, reply-is, put-verdict, read-verdict, select-verdict, send-verdict}
 use Rattle.master.proofs.History.StatusOver.{word-over}
+use Rattle.master.proofs.History.ReceivedAre.{scalars-same, arrays-same}
 use Rattle.master.proofs.History.Agrees.{Agrees, agrees-nothing, agrees-selected, agrees-status, agrees-sending}
 use Rattle.master.proofs.History.Writing.{agrees-wrote}
 use Rattle.master.proofs.History.Ticking.{tick-goes}
@@ -120,21 +122,34 @@ module _ (t : List ℕ) (is-taken : TakenTable t) (h : Seq Scheduled) (x : Held)
   unfolding readVerdict
   read-inner r kind = sym (read-verdict t r kind) ∙ rw lent-admitted
 
+  -- a read takes its value where the history says
+  source-same : (r : ℕ) → sourceOf t (s .received) r ≡ readFrom t h r
+  unfolding sourceOf readFrom
+  source-same r = rw (is .received-are .each r)
+
+  scalar-same : (r : ℕ) → scalarFrom t (x .bytes) r (sourceOf t (s .received) r) ≡ scalarRead t (bytesAfter t h) r (readFrom t h r)
+  scalar-same r = rw (source-same r, is .frames .bytes-are) (scalars-same t (bytesAfter t h) r (readFrom t h r))
+
+  array-same : (r : ℕ) → arrayFrom t (x .bytes) r (sourceOf t (s .received) r) ≡ arrayGiven t (bytesAfter t h) r (readFrom t h r)
+  array-same r = rw (source-same r, is .frames .bytes-are) (arrays-same t (bytesAfter t h) r (readFrom t h r))
+
   step-read : (r : ℕ) → Stepped t h (call.read r) (answerOf t x (call.read r)) (leftBy t x (call.read r))
   unfolding answerOf leftBy readScalarOf readReply
   step-read r =
+      let v = scalarFrom t (x .bytes) r (sourceOf t (s .received) r) in
       step-nothing (call.read r) (readScalarOf t s (x .bytes) r) refl
-      (reply-is (readNumber t r false) (λ q. read.Refused q) (read.Value (scalarValue t (x .bytes) r)) (readVerdict t (length (x .bytes)) s r false) (read-inner r false)
-      ∙ rw (is .frames .bytes-are))
+      (reply-is (readNumber t r false) (λ q. read.Refused q) (read.Value v) (readVerdict t (length (x .bytes)) s r false) (read-inner r false)
+      ∙ ap (λ (w : ℕ). readReply (readNumber t r false) w) (scalar-same r))
 
   step-read-array : (r : ℕ) → Stepped t h (call.readArray r) (answerOf t x (call.readArray r)) (leftBy t x (call.readArray r))
   unfolding answerOf leftBy readArrayOf readArrayReply
   step-read-array r =
+      let a = arrayFrom t (x .bytes) r (sourceOf t (s .received) r) in
       step-nothing (call.readArray r) (readArrayOf t s (x .bytes) r) refl
       (reply-is (readNumber t r true) (λ q. record { answer = bytes.Refused q; bytes = replicate 8 255 })
-      (record { answer = bytes.Bytes (arrayRead t (x .bytes) r .count); bytes = arrayRead t (x .bytes) r .bytes })
+      (record { answer = bytes.Bytes (a .count); bytes = a .bytes })
       (readVerdict t (length (x .bytes)) s r true) (read-inner r true)
-      ∙ rw (is .frames .bytes-are))
+      ∙ ap (λ (w : Array). readArrayReply (readNumber t r true) w) (array-same r))
 
   step-message : Stepped t h call.messageState (answerOf t x call.messageState) (leftBy t x call.messageState)
   unfolding answerOf leftBy messageOf
@@ -216,7 +231,7 @@ module _ (t : List ℕ) (is-taken : TakenTable t) (h : Seq Scheduled) (x : Held)
       let i : q ≡ number.refused number.noTransfer = cc in
       rw (← is .transfer .opened-is, not-open (s .transfer .opened) l, i))))
       (λ a. byte-goes t ok h x is b (unless-test o number.noTransfer verdict.Accepted (sym inner ∙ a))
-      (fits-all t (byteEffect t s (x .bytes) b .given .state) (taken-fits t s (fits-clauses t s (is .fits)) (x .bytes) b)))
+      (fits-all t (byteEffect t s (x .bytes) b .given .state) (taken-fits t ok s (fits-clauses t s (is .fits)) (x .bytes) b)))
 
   -- every call
   pub steps : (c : Call) → Stepped t h c (answerOf t x c) (leftBy t x c)

@@ -32,7 +32,7 @@ use Rattle.master.specs.Calls.{Reply, _⇒_}
 use Rattle.master.specs.Run.{Held, held}
 use Rattle.master.specs.Acts.{took, byteAct}
 use Rattle.master.specs.Schedule.{slotBegun, Scheduled, act, planBy, planAfter, schedule}
-use Rattle.master.specs.History.{opens, isSuccess, isEnd, closes, openAfter, checksumOver, gotAfter}
+use Rattle.master.specs.History.{opens, isSuccess, isEnd, closes, openAfter, checksumOver, gotAfter, succeeds}
 use Rattle.master.specs.Answering.{messageAfter, dueAfter, storedBy, countedAfter}
 use Rattle.master.specs.Replies.{plain, sentReply, receivedReply, byteReply}
 use Rattle.master.proofs.Tests.{never}
@@ -42,6 +42,7 @@ use Rattle.master.proofs.Lengths.{data-inside}
 use Rattle.master.proofs.ByteLaws.{stored-other}
 use Rattle.master.proofs.History.Words.{message-sent, message-failed}
 use Rattle.master.proofs.History.FramesAre.{FramesAre, frames-byte, frames-sent}
+use Rattle.master.proofs.History.ReceivedAre.{received-quiet, received-sent, received-success}
 use Rattle.master.proofs.History.TransferIs.{TransferIs, due-byte, received-nine, transfer-closed, transfer-more-sent, transfer-more-received}
 use Rattle.master.proofs.History.Closing.{end-closes, end-message, end-status}
 use Rattle.master.proofs.History.Agrees.{Agrees}
@@ -109,7 +110,7 @@ module _ (t : List ℕ) (ok : RightTable t) (h : Seq Scheduled) (x : Held) (is :
   module _ (y : Scheduled) where
     agrees-more : act y ≡ took b byte.More → (nine : List ℕ) → stateFits t (passed s nine) ≡ true → TransferIs t (h ▹ y) (passed s nine .transfer)
         → Agrees t (h ▹ y) (held (passed s nine) (x .bytes))
-    unfolding passed planAfter planBy messageAfter countedAfter closes
+    unfolding passed planAfter planBy messageAfter countedAfter closes succeeds
     agrees-more a nine f r = record {
       fits = f;
       frames = frames-byte t h (s .pending) (x .bytes) (is .frames) y b byte.More a refl;
@@ -117,10 +118,11 @@ module _ (t : List ℕ) (ok : RightTable t) (h : Seq Scheduled) (x : Held) (is :
       plan-is = rw a (is .plan-is);
       message-is = rw a (is .message-is);
       status-is = rw a (is .status-is);
+      received-are = received-quiet t h (s .received) (is .received-are) y (rw a);
     }
 
     agrees-failed : act y ≡ took b byte.Failure → stateFits t (failed t s true) ≡ true → Agrees t (h ▹ y) (held (failed t s true) (x .bytes))
-    unfolding failed planAfter planBy opens
+    unfolding failed planAfter planBy opens succeeds
     agrees-failed a f = record {
       fits = f;
       frames = frames-byte t h (s .pending) (x .bytes) (is .frames) y b byte.Failure a refl;
@@ -128,6 +130,7 @@ module _ (t : List ℕ) (ok : RightTable t) (h : Seq Scheduled) (x : Held) (is :
       plan-is = rw a (is .plan-is);
       message-is = message-failed o (s .message) ∙ sym (end-message t h x is y b byte.Failure a refl);
       status-is = end-status t h x is y b byte.Failure a refl open-now;
+      received-are = received-quiet t h (s .received) (is .received-are) y (rw a);
     }
 
   -- a state that may stand after a success, with the frame bytes handed over
@@ -136,19 +139,20 @@ module _ (t : List ℕ) (ok : RightTable t) (h : Seq Scheduled) (x : Held) (is :
       (y : Scheduled) (c : ByteAnswer) → act y ≡ took b c → isEnd c ≡ true → isSuccess c ≡ true → stateFits t after ≡ true → (bs : List ℕ)
       → FramesAre t (h ▹ y) (pendingSent o (s .transfer .written) (s .pending)) bs → Agrees t (h ▹ y) (held after bs)
 
-  agrees-sent : Ends (sent t s)
-  unfolding sent planAfter planBy opens
-  agrees-sent y c a e g f bs fr = record {
+  agrees-sent : sends t o ≡ true → Ends (sent t s)
+  unfolding sent planAfter planBy opens succeeds
+  agrees-sent ours y c a e g f bs fr = record {
     fits = f;
     frames = fr;
     transfer = transfer-closed t h y (end-closes t h x is y b c a e) (rw a);
     plan-is = rw a (is .plan-is);
     message-is = message-sent o (s .message) ∙ sym (rw g at (end-message t h x is y b c a e));
     status-is = rw g at (end-status t h x is y b c a e open-now);
+    received-are = received-sent t h (s .received) (is .received-are) y (rw a g) (rw (is .transfer .opened-is) at ours);
   }
 
   agrees-received : sends t o ≡ false → Ends (received t s)
-  unfolding received planAfter planBy opens
+  unfolding received planAfter planBy opens succeeds
   agrees-received n y c a e g f bs fr = record {
     fits = f;
     frames = rw (received-keeps t o (s .transfer .written) (s .pending) (fits-clauses t s (is .fits) .pending-fits) n) at fr;
@@ -156,6 +160,7 @@ module _ (t : List ℕ) (ok : RightTable t) (h : Seq Scheduled) (x : Held) (is :
     plan-is = rw a (is .plan-is);
     message-is = sym (received-message t o (s .message) n) ∙ message-sent o (s .message) ∙ sym (rw g at (end-message t h x is y b c a e));
     status-is = rw g at (end-status t h x is y b c a e open-now);
+    received-are = received-success t h (s .received) (is .received-are) y ok o (is .transfer .opened-is) (rw a g) n;
   }
 
   -- ---- its answer, by the tests that the state makes
@@ -280,7 +285,7 @@ module _ (t : List ℕ) (ok : RightTable t) (h : Seq Scheduled) (x : Held) (is :
       (λ e. whether (early t (s .transfer))
       (λ z. rw (e, z) (goes-more (s .transfer .bytes) (rw (e, z) at r)
       (transfer-more-sent t h (s .transfer) (is .transfer) (event (plain byte.More)) b more-act n not-above e)))
-      (λ z. rw (e, z) (goes-succeeded (sent t s) agrees-sent byte.Success (replicate 8 255) (x .bytes) (rw (e, z) at r) success-act refl refl refl
+      (λ z. rw (e, z) (goes-succeeded (sent t s) (agrees-sent ours) byte.Success (replicate 8 255) (x .bytes) (rw (e, z) at r) success-act refl refl refl
       (sym (stored-sent t o (gotAfter h) (x .bytes) ours)) (λ f p k l. refl))))
       (λ e. rw e (goes-failed (rw e at r)))
     where

@@ -34,7 +34,7 @@ use Rattle.master.specs.Replies.{EntryReply, SlotReply, isBeingSent, Tic
 use Rattle.master.proofs.Tests.{never}
 use Rattle.master.proofs.Admitted.{fits-clauses, fits-all}
 use Rattle.master.proofs.Cases.{opened, ticked-by}
-use Rattle.master.proofs.SlotFits.{not-open, abandoned-plan, abandoned-fits, ticked-fits}
+use Rattle.master.proofs.SlotFits.{not-open, abandoned-plan, abandoned-fits, ticked-fits, abandoned-received}
 use Rattle.master.proofs.SlotOpens.{slot-opens, due-there, entry-below}
 use Rattle.master.proofs.PendingLength.{abandoned-pending}
 use Rattle.master.proofs.History.Computed.{pendingAfter}
@@ -44,6 +44,8 @@ use Rattle.master.proofs.History.First.{firstWith, answerFor, first-pen
 use Rattle.master.proofs.History.Words.{slot-due, message-failed, being-sent, lent-right}
 use Rattle.master.proofs.History.Named.{named}
 use Rattle.master.proofs.History.FramesAre.{frames-quiet}
+use Rattle.master.proofs.History.Quiet.{quiet-unsuccessful}
+use Rattle.master.proofs.History.ReceivedAre.{received-quiet}
 use Rattle.master.proofs.History.TransferIs.{TransferIs, transfer-closed}
 use Rattle.master.proofs.History.OpeningIs.{Requests, transfer-opened}
 use Rattle.master.proofs.History.Closing.{abandoned-message, abandoned-transfer, start-is, start-message, start-status}
@@ -127,15 +129,16 @@ module _ (t : List ℕ) (ok : RightTable t) (h : Seq Scheduled) (x : Held) (is :
     y-closes = starts-closes y (start-is t h x is y m a acts-as starting)
 
     agrees-start : (s′ : State) → stateFits t s′ ≡ true → s′ .pending ≡ s .pending → TransferIs t (h ▹ y) (s′ .transfer) → s′ .plan ≡ planWith t (s .plan) due
-        → s′ .message ≡ abandoned t s .message → s′ .status ≡ abandoned t s .status → Agrees t (h ▹ y) (held s′ (x .bytes))
+        → s′ .message ≡ abandoned t s .message → s′ .status ≡ abandoned t s .status → s′ .received ≡ s .received → Agrees t (h ▹ y) (held s′ (x .bytes))
     unfolding planAfter planBy
-    agrees-start s′ f p r pl ms st = record {
+    agrees-start s′ f p r pl ms st v = record {
       fits = f;
       frames = rw p (frames-quiet t h (s .pending) (x .bytes) (is .frames) y (rw acts-as));
       transfer = r;
       plan-is = rw acts-as (pl ∙ rw (is .plan-is));
       message-is = ms ∙ slot-message ∙ sym (start-message t h x is y m a acts-as starting);
       status-is = st ∙ start-status t h x is y m a acts-as starting;
+      received-are = rw v (received-quiet t h (s .received) (is .received-are) y (quiet-unsuccessful y (rw acts-as)));
     }
 
     -- where the slot opens nothing
@@ -191,7 +194,7 @@ module _ (t : List ℕ) (ok : RightTable t) (h : Seq Scheduled) (x : Held) (is :
         let b : isStart due ≡ true = rw d in
         record {
           agrees = agrees-start y tick.Idle refl refl b (abandoned t s) f (abandoned-pending t s) (closed-transfer y tick.Idle refl refl b refl)
-              (rw d (abandoned-plan t s)) refl refl;
+              (rw d (abandoned-plan t s)) refl refl (abandoned-received t s);
           replies = tick-replies tick.Idle (rw d);
           lawful = λ e q p k. let z : unscheduled ≡ entry e = sym d ∙ p in cc;
         }
@@ -205,7 +208,7 @@ module _ (t : List ℕ) (ok : RightTable t) (h : Seq Scheduled) (x : Held) (is :
         let b : isStart due ≡ true = rw d in
         record {
           agrees = agrees-start y tick.Silent refl refl b (withPlan (abandoned t s) (begun t e)) f (abandoned-pending t s)
-              (closed-transfer y tick.Silent refl refl b refl) (rw d) refl refl;
+              (closed-transfer y tick.Silent refl refl b refl) (rw d) refl refl (abandoned-received t s);
           replies = tick-replies tick.Silent (rw d (entry-replies e tick.Silent (answer-silent t (slotBy e) n)));
           lawful = λ e′ q p k.
               let z : entry e ≡ entry e′ = sym d ∙ p in
@@ -229,7 +232,7 @@ module _ (t : List ℕ) (ok : RightTable t) (h : Seq Scheduled) (x : Held) (is :
         let there : frameThere t o ≡ true = rw q (can .frame-there) in
         record {
           agrees = agrees-start y a refl refl b (opened t (x .bytes) m (withPlan (abandoned t s) (begun t e)) o) f (abandoned-pending t s)
-              (opened-transfer y a refl refl b o (named t ok o there p) there (can-request e o (rw q (can .can-open)))) (rw d) refl refl;
+              (opened-transfer y a refl refl b o (named t ok o there p) there (can-request e o (rw q (can .can-open)))) (rw d) refl refl (abandoned-received t s);
           replies = tick-replies a (rw d (entry-replies e a (answer-opened t o p ∙ ap (answerFor t) q)));
           lawful = λ e′ r u k.
               let z : entry e ≡ entry e′ = sym d ∙ u in

@@ -10,16 +10,18 @@ use Rattle.wire.specs.Bits.{bit}
 use Rattle.wire.specs.Identifier.{p0, p1, protectedByte}
 use Rattle.wire.specs.Checksum.{withCarry, sum, covered, modelOf, inverted, checksumByte}
 use Rattle.signal.specs.Signal.{bitAt, number, bytesOf, inside, replaced, putBits, putScalar, putArray, getScalar, getArray}
-use Rattle.cluster.specs.Table.{word, frameCount, signalCount, memberCount, entryCount, size, identifier, frameLength, flags, published, classic}
-use Rattle.cluster.specs.Table.{signalFrame, signalKind, signalOffset, signalWidth, signalStart, isArray, memberList, memberFrame}
+use Rattle.cluster.specs.Table.{word, frameCount, signalCount, memberCount, entryCount, placementCount, size, identifier, frameLength, flags, published, classic}
+use Rattle.cluster.specs.Table.{signalKind, signalWidth, signalStart, isArray, memberList, memberFrame}
+use Rattle.cluster.specs.Table.{placementSignal, placementFrame, placementOffset, placementWidth, placedSignals}
 use Rattle.cluster.specs.Table.{entrySchedule, entryKind, entryTarget, entryDelay, counted, listCount, scheduleCount}
 use Rattle.cluster.specs.Lists.{firstFrom, membersFrom, members, memberOf, framesAhead, firstEntry, nextEntry, isOneOf}
-use Rattle.cluster.specs.Columns.{headerColumns, frameColumns, offsetRight, widthRight, startLimit, signalColumns, follows, memberColumns, targetRight, entryColumns}
-use Rattle.cluster.specs.Places.{signalPlace, occupies}
-use Rattle.cluster.specs.Right.{anyBelow, headerRight, frameRight, occupiedBefore, overlaps, signalRight, memberRight, entryRight, records, wordsRight}
+use Rattle.cluster.specs.Columns.{headerColumns, frameColumns, offsetRight, widthRight, startLimit, signalColumns, placementColumns, follows, memberColumns, targetRight, entryColumns}
+use Rattle.cluster.specs.Places.{anyBelow, placeOf, covers, somePlacement, atEach}
+use Rattle.cluster.specs.Right.{headerRight, frameRight, occupiedBefore, overlaps, signalRight, earlierPlacement, again as twice, mixed, sticksOut, placementRight, allPlaced, memberRight, entryRight, records, frontRight, backRight, wordsRight}
+use Rattle.master.specs.Received.{lastOf, receivedUpTo, receivedBy, lastFits, receivedFits, sourceOf, scalarFrom, arrayFrom}
 use Rattle.cluster.specs.Check.{takenOf, faults, surplus, judged}
-use Rattle.cluster.specs.Fresh.{arrayLength, putStart, filled, freshBytes}
-use Rattle.cluster.specs.Values.{touches, signalPublished, valueFits, arrayFits, scalarValue, arrayValue, withScalar, withArray, arrayRead}
+use Rattle.cluster.specs.Fresh.{arrayLength, startAt, putStart, filled, freshBytes}
+use Rattle.cluster.specs.Values.{touches, firstPlacement, signalPublished, valueFits, arrayFits, scalarAt, arrayAt, withScalar, withArray, handedOut, arrayRead, startRead}
 use Rattle.transport.specs.Cutting as cutting
 use Rattle.transport.specs.Reassembly as lent
 use Rattle.master.specs.declared.write.WriteAnswer.the-variants as write
@@ -59,16 +61,21 @@ use Rattle.master.specs.Put.{put, scalar, array}
 -- frame 3. Schedule 0: list 0 for two ticks, frame 2, request; schedule 1: list 1, response
 abbrev table : List ℕ
 table =
-    4 ∷ 5 ∷ 3 ∷ 5
+    4 ∷ 5 ∷ 3 ∷ 5 ∷ 5
     ∷ 8 ∷ 3 ∷ 1
     ∷ 24 ∷ 4 ∷ 3
     ∷ 1 ∷ 2 ∷ 0
     ∷ 35 ∷ 1 ∷ 1
-    ∷ 0 ∷ 0 ∷ 5 ∷ 7 ∷ 9
-    ∷ 1 ∷ 1 ∷ 8 ∷ 24 ∷ 17
-    ∷ 2 ∷ 0 ∷ 3 ∷ 10 ∷ 341
-    ∷ 0 ∷ 0 ∷ 16 ∷ 8 ∷ 200
-    ∷ 3 ∷ 0 ∷ 0 ∷ 8 ∷ 0
+    ∷ 0 ∷ 7 ∷ 9
+    ∷ 1 ∷ 24 ∷ 17
+    ∷ 0 ∷ 10 ∷ 341
+    ∷ 0 ∷ 8 ∷ 200
+    ∷ 0 ∷ 8 ∷ 0
+    ∷ 0 ∷ 0 ∷ 5
+    ∷ 1 ∷ 1 ∷ 8
+    ∷ 2 ∷ 2 ∷ 3
+    ∷ 3 ∷ 0 ∷ 16
+    ∷ 4 ∷ 3 ∷ 0
     ∷ 0 ∷ 1
     ∷ 0 ∷ 0
     ∷ 1 ∷ 3
@@ -257,17 +264,18 @@ pub worked : (historyOf table (replicate 32 0) calls ≡ history)
     × (heldAfter table (replicate 32 0) ∅ .bytes ≡ atFirst)
     × (heldAfter table (replicate 32 0) calls .bytes ≡ atLast)
     × (heldAfter table (replicate 32 0) calls .state .pending ≡ false ∷ false ∷ false ∷ true ∷ replicate 56 false)
-unfolding historyOf heldAfter leftBy answerOf freshOf freshVerdict fresh bufferSize admitted takenOf judged faults surplus wordsRight records headerRight
+unfolding historyOf heldAfter leftBy answerOf freshOf freshVerdict fresh bufferSize admitted takenOf judged faults surplus wordsRight frontRight backRight placementRight earlierPlacement twice mixed sticksOut allPlaced placedSignals placementCount placementSignal placementFrame placementOffset
+    placementWidth placementColumns somePlacement atEach startAt firstPlacement records headerRight
     frameRight anyBelow signalRight offsetRight widthRight startLimit occupiedBefore overlaps memberRight entryRight targetRight word frameCount
-    signalCount memberCount entryCount size identifier frameLength flags published classic signalFrame signalKind signalOffset signalWidth signalStart
+    signalCount memberCount entryCount size identifier frameLength flags published classic signalKind signalWidth signalStart
     isArray memberList memberFrame entrySchedule entryKind entryTarget entryDelay counted listCount scheduleCount firstFrom membersFrom members memberOf
-    framesAhead firstEntry nextEntry signalPlace arrayLength putStart filled freshBytes touches signalPublished valueFits arrayFits scalarValue
-    arrayValue withScalar withArray arrayRead bitAt number bytesOf inside replaced putBits putScalar putArray getScalar getArray bit p0 p1 xor
-    protectedByte withCarry sum covered modelOf inverted checksumByte stateFits waitFits bitFits pendingFits isOneOf entryOpens canOpen countFits
+    framesAhead firstEntry nextEntry placeOf arrayLength putStart filled freshBytes touches signalPublished valueFits arrayFits
+    withScalar withArray arrayRead bitAt number bytesOf inside replaced putBits putScalar putArray getScalar getArray bit p0 p1 xor
+    protectedByte withCarry sum covered modelOf inverted checksumByte stateFits lastFits receivedFits receivedUpTo receivedBy lastOf sourceOf scalarFrom arrayFrom scalarAt arrayAt handedOut startRead waitFits bitFits pendingFits isOneOf entryOpens canOpen countFits
     messageFits openProtected openChecksum frameData sentData copied opening selectVerdict selectOf writable markedFrom rewritten marked writeOf
     readVerdict readScalarOf readArrayOf ticks.firstPending ticks.slotOpens ticks.abandoned ticks.opensOrSilent ticks.slotAt ticks.slot ticks.tickEffect
     ticks.tickVerdict ticks.tickOf reading.withCounted reading.statusWord reading.statusOf messages.moved messages.sendVerdict
     messages.sendOf messages.messageOf pendingCount aheadVerdict aheadOf clearedBit pendingSent failed sent received passed sentByte checksumRight accepted
-    lastByte receivedByte byteEffect byteVerdict byteOf formatOf entryColumns follows frameColumns headerColumns memberColumns occupies signalColumns
+    lastByte receivedByte byteEffect byteVerdict byteOf formatOf entryColumns follows frameColumns headerColumns memberColumns covers signalColumns
     cutting.messageFrames cutting.dataBytes cutting.singleFrame cutting.firstFrame cutting.nextFrame cutting.messageFrame cutting.cutOf lent.written
 worked = (refl, refl, refl, refl)

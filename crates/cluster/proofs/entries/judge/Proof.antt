@@ -38,7 +38,7 @@ turn : (c : Judged) → Turn (table c) (entry c) (schedules c)
 turn c =
     let known = c .before .before .before .before .before .before .before .before .before .before .pre in
     let below : entry c < entryCount (table c) = omega (arith, c .before .before .before .before .loop-test .taken, c .before .before .before .before .before .before .count .ensures) in
-    (passed c, below, known .0 .0, known .1, omega (arith, c .before .before .before .before .before .before .before .before .lists .ensures))
+    (passed c, below, known .0 .0, known .1 .0, omega (arith, c .before .before .before .before .before .before .before .before .lists .ensures))
 
 here : (c : Judged) → c .before .before .before .before .before .before .before .entry-at .result + entryWords * entry c ≡ entryAt (table c) (entry c)
 here c = omega (arith, c .before .before .before .before .before .before .before .entry-at .ensures)

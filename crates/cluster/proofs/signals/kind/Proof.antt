@@ -9,4 +9,4 @@ unfolding signalKind
 returns c = cc
 
 pub kind-spec : {M : Type 1} → statement M
-kind-spec = tie.close (tie.spec (λ c κs. search needs) (λ c. search needs) (λ c κs. search needs) returns)
+kind-spec = tie.close (tie.spec (λ c κs. search needs) (λ c κs. search needs) returns)

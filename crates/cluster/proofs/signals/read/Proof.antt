@@ -17,24 +17,15 @@ cast-t14 c = omega (arith, c .shared-slice-known3 .given (c .before .before .bef
 cast-t19 : tie.Need-cast-t19
 cast-t19 c = omega (arith, c .shared-slice-known4 .given (c .before .before .before .before .before .args .at + 2))
 
-cast-t24 : tie.Need-cast-t24
-cast-t24 c = omega (arith, c .shared-slice-known5 .given (c .before .before .before .before .before .before .args .at + 3))
-
-cast-t29 : tie.Need-cast-t29
-cast-t29 c = omega (arith, c .shared-slice-known6 .given (c .before .before .before .before .before .before .before .args .at + 4))
-
 returns : tie.Need-returns
 unfolding word
 returns c =
+    let a = c .before .before .before .before .before .args in
     record {
-      frame-is = sym (due-there (c .before .before .before .before .before .before .before .args .t .now) (c .before .before .before .before .before .before .before .args .at) (omega arith));
-      kind-is = sym (due-there (c .before .before .before .before .before .before .before .args .t .now) (c .before .before .before .before .before .before .before .args .at + 1) (omega arith));
-      offset-is = sym (due-there (c .before .before .before .before .before .before .before .args .t .now) (c .before .before .before .before .before .before .before .args .at + 2) (omega arith));
-      width-is = sym (due-there (c .before .before .before .before .before .before .before .args .t .now) (c .before .before .before .before .before .before .before .args .at + 3) (omega arith));
-      start-is = sym (due-there (c .before .before .before .before .before .before .before .args .t .now) (c .before .before .before .before .before .before .before .args .at + 4) (omega arith));
-      frame-high = omega (arith, c .before .before .before .before .shared-slice-known2 .given (c .before .before .before .before .before .before .before .args .at));
-      offset-high = omega (arith, c .before .before .shared-slice-known4 .given (c .before .before .before .before .before .before .before .args .at + 2));
-      width-high = omega (arith, c .before .shared-slice-known5 .given (c .before .before .before .before .before .before .before .args .at + 3));
+      kind-is = sym (due-there (a .t .now) (a .at) (omega arith));
+      width-is = sym (due-there (a .t .now) (a .at + 1) (omega arith));
+      start-is = sym (due-there (a .t .now) (a .at + 2) (omega arith));
+      width-high = omega (arith, c .before .shared-slice-known3 .given (a .at + 1));
     }
 
 pub read-spec : {M : Type 1} → statement M
@@ -42,7 +33,5 @@ read-spec =
     tie.close
     (tie.spec (λ c. search needs) (λ c. search needs) (λ c. search needs) cast-t9 (λ c. search needs)
     (λ c. search needs) (λ c. search needs) cast-t14 (λ c. search needs) (λ c. search needs) (λ c. search needs)
-    cast-t19 (λ c. search needs) (λ c. search needs) (λ c. search needs) cast-t24 (λ c. search needs)
-    (λ c. search needs) (λ c. search needs) cast-t29 returns (λ c κs. search needs) (λ c. search needs)
-    (λ c κs. search needs) (λ c. search needs) (λ c κs. search needs) (λ c. search needs) (λ c κs. search needs)
-    (λ c. search needs) (λ c κs. search needs) (λ c. search needs))
+    cast-t19 returns (λ c κs. search needs) (λ c. search needs)
+    (λ c κs. search needs) (λ c. search needs) (λ c κs. search needs) (λ c. search needs))

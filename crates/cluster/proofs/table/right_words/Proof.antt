@@ -23,15 +23,23 @@ returns-4 c =
     let frames = le-leb _ _ (c .before .before .before .if1 .left) in
     let signals = le-leb _ _ (c .before .before .if2 .left) in
     let members = le-leb _ _ (c .before .if3 .left) in
-    simp (frames, signals, members, le-leb _ _ (c .if4 .taken))
+    simp (frames, signals, members, lt-leb _ _ (c .if4 .taken))
 
 returns-5 : tie.Need-returns-5
 unfolding headerColumns leading
 returns-5 c =
-    let frames = le-leb _ _ (c .before .before .before .if1 .left) in
-    let signals = le-leb _ _ (c .before .before .if2 .left) in
-    let members = le-leb _ _ (c .before .if3 .left) in
-    simp (frames, signals, members, lt-leb _ _ (c .if4 .left))
+    let frames = le-leb _ _ (c .before .before .before .before .if1 .left) in
+    let signals = le-leb _ _ (c .before .before .before .if2 .left) in
+    let members = le-leb _ _ (c .before .before .if3 .left) in
+    simp (frames, signals, members, le-leb _ _ (c .before .if4 .left), le-leb _ _ (c .if5 .taken))
+
+returns-6 : tie.Need-returns-6
+unfolding headerColumns leading
+returns-6 c =
+    let frames = le-leb _ _ (c .before .before .before .before .if1 .left) in
+    let signals = le-leb _ _ (c .before .before .before .if2 .left) in
+    let members = le-leb _ _ (c .before .before .if3 .left) in
+    simp (frames, signals, members, le-leb _ _ (c .before .if4 .left), lt-leb _ _ (c .if5 .left))
 
 pub right-words-spec : {M : Type 1} → statement M
-right-words-spec = tie.close (tie.spec returns returns-2 returns-3 returns-4 returns-5)
+right-words-spec = tie.close (tie.spec returns returns-2 returns-3 returns-4 returns-5 returns-6)

@@ -9,4 +9,4 @@ unfolding signalPublished
 returns c = cc
 
 pub published-spec : {M : Type 1} → statement M
-published-spec = tie.close (tie.spec (λ c κs. search needs) (λ c κs. search needs) returns)
+published-spec = tie.close (tie.spec (λ c κs. search needs) (λ c κs. search needs) (λ c κs. search needs) returns)

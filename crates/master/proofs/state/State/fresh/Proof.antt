@@ -6,7 +6,7 @@ use Rattle.master.proofs.state.State.fresh.Tie as tie
 
 returns : tie.Need-returns
 unfolding fresh
-returns c = rw (c .before .before .none .ensures, c .before .none2 .ensures, c .none3 .ensures)
+returns c = rw (c .before .before .before .none .ensures, c .before .before .none2 .ensures, c .before .none3 .ensures, c .never .ensures)
 
 pub fresh-spec : {M : Type 1} → statement M
-fresh-spec = tie.close (tie.spec (λ c κs. search needs) (λ c κs. search needs) (λ c κs. search needs) returns)
+fresh-spec = tie.close (tie.spec (λ c κs. search needs) (λ c κs. search needs) (λ c κs. search needs) (λ c κs. search needs) returns)
