@@ -14,13 +14,13 @@ use Rattle.wire.specs.Bits.{bit}
 use Rattle.wire.proofs.Tests.{whether}
 use Rattle.signal.specs.Signal.{inside}
 use Rattle.cluster.specs.Check.{fault, faults, placementFaults}
-use Rattle.cluster.specs.Columns.{follows, widthRight, offsetRight, placementOffsetRight, placementColumns}
-use Rattle.cluster.specs.Read.{PlacementRead, due, leading, hits, placementSeen}
+use Rattle.cluster.specs.Columns.{follows, offsetRight, placementOffsetRight, placementColumns}
+use Rattle.cluster.specs.Read.{RecordsBefore, PlacementRead, due, leading, hits, placementSeen}
 use Rattle.cluster.specs.Right.{frameBits, again, mixed, sticksOut, overlaps, placementRight, countsUp, records}
-use Rattle.cluster.specs.Table.{mostFrames, mostSignals, counted, published, frameCount, frameLength, signalCount, signalWidth, isArray}
+use Rattle.cluster.specs.Table.{mostFrames, counted, published, frameCount, frameLength, signalCount, signalWidth, isArray}
 use Rattle.cluster.specs.Table.{placementCount, placementWords, placementAt, placementSignal, placementFrame, placementOffset, placementWidth}
 use Rattle.cluster.specs.declared.Verdict.the-variants.{Accepted}
-use Rattle.cluster.specs.declared.placements.Known.{Known}
+use Rattle.cluster.specs.declared.placements.Before.{Before}
 use Rattle.cluster.specs.declared.placements.Words.{Words}
 use Rattle.cluster.proofs.BitMarks.{BitMarks, none-marked, bits-marked, overlap-is}
 use Rattle.cluster.proofs.Clauses.{signal-says, frame-says, offset-says}
@@ -46,10 +46,7 @@ pub record Passed (t : List ℕ) (k placed : ℕ) (before : Bool) (last occupied
 pub record Turn (t : List ℕ) (k placed : ℕ) (before : Bool) (last occupied : List ℕ) : Type 0 where
   pub passed : Passed t k placed before last occupied
   pub more : k < placementCount t
-  pub frames : frameCount t ≤ mostFrames
-  pub signals : signalCount t ≤ mostSignals
-  pub short : (f : ℕ) → f < frameCount t → frameLength t f ≤ 8
-  pub widths : (s : ℕ) → s < signalCount t → widthRight (isArray t s) (signalWidth t s) ≡ true
+  pub records : RecordsBefore t
 
 pub none-passed : (t : List ℕ) → Passed t 0 0 false (replicate mostFrames 0) (replicate mostFrames 0)
 unfolding publisherBefore
@@ -106,17 +103,13 @@ module _ (t : List ℕ) (k placed : ℕ) (before : Bool) (last occupied : List �
       signalRead frameRead offsetRead
 
   -- what the check computes of the words read is that list
-  pub seen-read : (w : Words) (x : Known) → PlacementRead t (placementAt t k) w → (signals frames : ℕ) → signals ≡ signalCount t → frames ≡ frameCount t
-      → x .placed ≡ placed → x .before ≡ before → x .published ≡ published t (w .frame) → x .last ≡ getD last (w .frame) 0
-      → x .array ≡ isArray t (w .signal) → x .width ≡ signalWidth t (w .signal) → x .bits ≡ 8 * frameLength t (w .frame)
-      → x .occupied ≡ getD occupied (w .frame) 0
-      → placementSeen signals frames w x ≡ placementRead
-  seen-read w x read signals frames es ef ep eb eq el ea ew ei eo =
-      rw (es, ef, ep, eb, eq, el, ea, ew, ei, eo, read .signal-is, read .frame-is, read .offset-is)
+  pub seen-read : (w : Words) → PlacementRead t (placementAt t k) w → placementSeen t occupied last (record { placed = placed; before = before }) w ≡ placementRead
+  seen-read w read = rw (read .signal-is, read .frame-is, read .offset-is)
 
   -- a placement that is right lies in a frame of the table, and its bits are free
   pub record Placed : Type 0 where
     pub signal-there : signalRead < signalCount t
+    pub frame-there : frameRead < frameCount t
     pub below : frameRead < mostFrames
     pub wide : 1 ≤ widthRead
     pub fits : offsetRead + widthRead ≤ 64
@@ -152,8 +145,8 @@ module _ (t : List ℕ) (k placed : ℕ) (before : Bool) (last occupied : List �
         let bits = frameBits t k in
         let o = placementOffset t k in
         let w = placementWidth t k in
-        let short : bits ≤ 64 = omega (arith, turn .short (placementFrame t k) f) in
-        let wide = width-range (isArray t (placementSignal t k)) w (turn .widths (placementSignal t k) s) in
+        let short : bits ≤ 64 = omega (arith, turn .records .short (placementFrame t k) f) in
+        let wide = width-range (isArray t (placementSignal t k)) w (turn .records .widths (placementSignal t k) s) in
         whether (offsetRight array bits o)
         (λ y. rw (out-is t k (offset-below array bits o y) short (wide .1))
         (whether (ltb bits (o + w))
@@ -165,19 +158,19 @@ module _ (t : List ℕ) (k placed : ℕ) (before : Bool) (last occupied : List �
     agrees : Agrees t (placementAt t k) 0 placementRead (placementRight t k)
     unfolding placementColumns placementRight placementSignal placementFrame placementOffset placementWidth
     agrees = (
-      (λ e. omega (arith, signal-says (signalCount t) upRead signalRead e, turn .signals)),
+      (λ e. omega (arith, signal-says (signalCount t) upRead signalRead e, turn .records .signals)),
       (λ s. (
         rw (s, P .counts),
         λ e0. let says = signal-says (signalCount t) upRead signalRead e0 in
             let up : countsUp (placementSignal t) k ≡ true = rw (s, P .counts) at (says .0) in
             let marks = frame-agrees up in (
-              (λ e. omega (arith, frame-says (frameCount t) againRead mixedRead frameRead e, turn .frames)),
+              (λ e. omega (arith, frame-says (frameCount t) againRead mixedRead frameRead e, turn .records .frames)),
               (λ f. (
                 rw (s, f, marks .0, marks .1),
                 λ e1. let frame = frame-says (frameCount t) againRead mixedRead frameRead e1 in (
                   (λ e.
                       let right = offset-says (isArray t signalRead) bitsRead outRead hitRead offsetRead e in
-                      omega (arith, offset-below (isArray t signalRead) bitsRead offsetRead (right .0), turn .short frameRead (frame .0))),
+                      omega (arith, offset-below (isArray t signalRead) bitsRead offsetRead (right .0), turn .records .short frameRead (frame .0))),
                   (λ o. (rw (s, f, o) (offset-agrees (omega arith) (omega arith) (isArray t (placementSignal t k))), λ _. refl)),
                 ),
               )),
@@ -207,13 +200,14 @@ module _ (t : List ℕ) (k placed : ℕ) (before : Bool) (last occupied : List �
 
       pub placed-right : Placed
       placed-right =
-          let width = width-range (isArray t signalRead) widthRead (turn .widths signalRead (signal-right .1)) in
+          let width = width-range (isArray t signalRead) widthRead (turn .records .widths signalRead (signal-right .1)) in
           let inside = ltb-false bitsRead (offsetRead + widthRead) (offset-right .1) in
           record {
             signal-there = signal-right .1;
-            below = omega (arith, frame-right, turn .frames);
+            frame-there = frame-right .0;
+            below = omega (arith, frame-right, turn .records .frames);
             wide = width .0;
-            fits = omega (arith, turn .short frameRead (frame-right .0));
+            fits = omega (arith, turn .records .short frameRead (frame-right .0));
             free = offset-right .2;
           }
 

@@ -11,6 +11,7 @@ use Rattle.wire.proofs.Tests.{whether}
 use Rattle.cluster.specs.Check.{fault, faults, headerFaults, frameFaults, signalFaults, placementFaults, unplaced, memberFaults, entryFaults, then}
 use Rattle.cluster.specs.Check.{surplus, judged}
 use Rattle.cluster.specs.Columns.{headerColumns, frameColumns, signalColumns, placementColumns, memberColumns, widthRight}
+use Rattle.cluster.specs.Read.{RecordsBefore}
 use Rattle.cluster.specs.declared.Verdict.{Verdict}
 use Rattle.cluster.specs.declared.Verdict.the-variants.{Accepted, Refused}
 use Rattle.cluster.specs.Right.{records, headerRight, frameRight, signalRight, placementRight, allPlaced, memberRight, entryRight}
@@ -18,7 +19,7 @@ use Rattle.cluster.specs.Right.{frontRight, backRight, wordsRight}
 use Rattle.cluster.specs.Table.{mostFrames, mostSignals, mostMembers, mostEntries, mostPlacements, headerWords, frameWords, signalWords, memberWords}
 use Rattle.cluster.specs.Table.{frameCount, signalCount, placementCount, memberCount, entryCount, frameLength, isArray, signalWidth}
 use Rattle.cluster.specs.Table.{frameAt, signalAt, placementAt, memberAt, entryAt}
-use Rattle.cluster.proofs.Accepted.{all-records, length-records, faults-true, front-words, placed-words, unplaced-words}
+use Rattle.cluster.proofs.Accepted.{all-records, length-records, faults-true, faults-length, front-words, placed-words, unplaced-words}
 use Rattle.cluster.proofs.HeaderLaws.{header-counts}
 use Rattle.cluster.proofs.Clauses.{within-high}
 
@@ -116,13 +117,39 @@ module _ (t : List ℕ) where
       × (placementCount t ≤ mostPlacements)
   header-passed h = header-counts t (faults-true t 0 (headerRight t) h)
 
-  pub frames-passed : frameFaults t ≡ Accepted → (f : ℕ) → f < frameCount t → frameLength t f ≤ 8
+  frames-passed : frameFaults t ≡ Accepted → (f : ℕ) → f < frameCount t → frameLength t f ≤ 8
   unfolding frameRight frameColumns
   frames-passed h f b =
       within-high 1 8 (frameLength t f)
       (all-records (frameRight t) 0 (frameCount t) (faults-true t (frameAt 0) (records 0 (frameCount t) (frameRight t)) h) f (omega arith) (omega arith) .1 .0)
 
-  pub signals-passed : signalFaults t ≡ Accepted → (s : ℕ) → s < signalCount t → widthRight (isArray t s) (signalWidth t s) ≡ true
+  signals-passed : signalFaults t ≡ Accepted → (s : ℕ) → s < signalCount t → widthRight (isArray t s) (signalWidth t s) ≡ true
   unfolding signalRight signalColumns isArray
   signals-passed h s b =
       all-records (signalRight t) 0 (signalCount t) (faults-true t (signalAt t 0) (records 0 (signalCount t) (signalRight t)) h) s (omega arith) (omega arith) .1 .0
+
+  -- where a section accepts, its words are there
+  words-there : headerFaults t ≡ Accepted → frameFaults t ≡ Accepted → signalFaults t ≡ Accepted → placementAt t 0 ≤ length t
+  unfolding headerRight frameRight signalRight headerColumns frameColumns signalColumns
+  words-there h f s =
+      let header : headerWords ≤ length t = faults-length t 0 (headerRight t) h (omega arith) in
+      let frames : signalAt t 0 ≤ length t =
+      omega (
+        arith,
+        faults-length t (frameAt 0) (records 0 (frameCount t) (frameRight t)) f (omega arith),
+        length-records (frameRight t) frameWords (λ j. refl) 0 (frameCount t),
+      ) in
+      omega (
+        arith,
+        faults-length t (signalAt t 0) (records 0 (signalCount t) (signalRight t)) s frames,
+        length-records (signalRight t) signalWords (λ j. refl) 0 (signalCount t),
+      )
+
+  pub records-passed : headerFaults t ≡ Accepted → frameFaults t ≡ Accepted → signalFaults t ≡ Accepted → RecordsBefore t
+  records-passed h f s = record {
+    all = words-there h f s;
+    frames = header-passed h .0;
+    signals = header-passed h .1;
+    short = frames-passed f;
+    widths = signals-passed s;
+  }

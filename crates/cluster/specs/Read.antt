@@ -1,17 +1,17 @@
 -- What the steps of the check read and compute; only private contracts cite this.
-use Prim.Native.Nat.{ℕ, suc, _+_, _≤_}
+use Prim.Native.Nat.{ℕ, suc, _+_, _*_, _<_, _≤_}
 use mathlib.Core.Path.{_≡_}
-use mathlib.Core.Bool.{Bool, not, cond, _&&_, Bool·beq}
+use mathlib.Core.Bool.{Bool, true, not, cond, _&&_, Bool·beq}
 use mathlib.Core.List.{List, [], _∷_}
 use lib.Dec.{ltb, eqb}
-use lib.ListN.{length}
+use lib.ListN.{length, getD}
 use Rattle.wire.specs.Bits.{bit}
 use Rattle.cluster.specs.declared.entries.Words as entry
-use Rattle.cluster.specs.declared.placements.Known.{Known}
+use Rattle.cluster.specs.declared.placements.Before.{Before}
 use Rattle.cluster.specs.declared.placements.Words as placement
 use Rattle.cluster.specs.declared.signals.Words as signal
-use Rattle.cluster.specs.Table.{word}
-use Rattle.cluster.specs.Columns.{follows, placementColumns}
+use Rattle.cluster.specs.Table.{mostFrames, mostSignals, word, frameCount, frameLength, published, signalCount, signalWidth, isArray, placementAt}
+use Rattle.cluster.specs.Columns.{widthRight, follows, placementColumns}
 use Rattle.cluster.specs.Places.{anyBelow}
 
 -- the word at a position, and 65536, which no column takes, where it is missing
@@ -27,14 +27,23 @@ leading (right ∷ rest) = cond right (suc (leading rest)) 0
 unfoldable pub hits : ℕ → ℕ → ℕ → Bool
 hits bits offset width = anyBelow width (λ k. bit bits (offset + k))
 
--- the columns of a placement's record as it was read, with what is known of the frame and the signal that it names: how many bits the frame has, which
--- of them are occupied, the signal placed in it last (plus one), its publisher; the signals placed so far, and the publisher of the last one's frame
-abbrev pub placementSeen : ℕ → ℕ → placement.Words → Known → List Bool
-placementSeen signals frames w x =
-    placementColumns signals frames (follows (x .placed) (w .signal))
-    (eqb (x .last) (w .signal + 1))
-    (eqb (w .signal + 1) (x .placed) && not (Bool·beq (x .before) (x .published)))
-    (x .array) (x .bits) (ltb (x .bits) (w .offset + x .width)) (hits (x .occupied) (w .offset) (x .width))
+-- the header, the frames and the signals are there and right, as far as the placements go by them
+pub record RecordsBefore (t : List ℕ) : Type 0 where
+  pub all : placementAt t 0 ≤ length t
+  pub frames : frameCount t ≤ mostFrames
+  pub signals : signalCount t ≤ mostSignals
+  pub short : (f : ℕ) → f < frameCount t → frameLength t f ≤ 8
+  pub widths : (s : ℕ) → s < signalCount t → widthRight (isArray t s) (signalWidth t s) ≡ true
+
+-- the columns of a placement's record as it was read, with the marks: which bits of each frame are occupied, and the signal placed in it last (plus
+-- one); and with what is known of the placements before
+abbrev pub placementSeen : List ℕ → List ℕ → List ℕ → Before → placement.Words → List Bool
+placementSeen t occupied last x w =
+    placementColumns (signalCount t) (frameCount t) (follows (x .placed) (w .signal))
+    (eqb (getD last (w .frame) 0) (w .signal + 1))
+    (eqb (w .signal + 1) (x .placed) && not (Bool·beq (x .before) (published t (w .frame))))
+    (isArray t (w .signal)) (8 * frameLength t (w .frame)) (ltb (8 * frameLength t (w .frame)) (w .offset + signalWidth t (w .signal)))
+    (hits (getD occupied (w .frame) 0) (w .offset) (signalWidth t (w .signal)))
     (w .signal) (w .frame) (w .offset)
 
 -- the words of a signal's, a placement's and an entry's record

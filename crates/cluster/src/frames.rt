@@ -9,11 +9,12 @@ use crate::table::frame_at;
 use crate::table::word;
 use wire::checksum::Model;
 ghost use mathlib.Core.Path.{_≡_};
-ghost use Prim.Native.Nat.{_*_, _≤_};
+ghost use Prim.Native.Nat.{_+_, _*_, _<_, _≤_};
+ghost use lib.ListN.{length};
 ghost use Rattle.cluster.specs.Check.{frameFaults};
 ghost use Rattle.cluster.specs.Columns.{frameColumns};
 ghost use Rattle.cluster.specs.Read.{leading};
-ghost use Rattle.cluster.specs.Table.{mostFrames, frameCount, identifier as identifierOf, frameLength, flags as flagsOf};
+ghost use Rattle.cluster.specs.Table.{mostFrames, frameAt, frameCount, identifier as identifierOf, frameLength, flags as flagsOf};
 ghost use Rattle.cluster.specs.Table.{published as publishedOf, classic as classicOf, frameModel};
 
 // How many frames there are.
@@ -77,12 +78,22 @@ pub(crate) fn publishes(t: &[u16], f: usize) -> bool
     word(t, frame_at(f) + 2) % 2 == 1
 }
 
-// The bits of a frame, of which the number may be that of a missing word.
-pub(crate) fn bits(t: &[u16], f: usize) -> usize
-    requires { ⌜ f ≤ 65536 ⌝ }
-    ensures { λ r. ⌜ r ≡ 8 * frameLength (now (t .entry)) f ⌝ }
+// What a frame says of the placements in it: how many bits it has, and whether the master publishes it.
+pub(crate) struct Room {
+    pub(crate) bits: usize,
+    pub(crate) published: bool,
+}
+
+// Reads that of a frame that is there.
+pub(crate) fn room_of(t: &[u16], f: usize) -> Room
+    requires { ⌜ (f ≤ 65536) × (frameAt f + 2 < length (now t)) ⌝ }
+    ensures { λ r. ⌜ (r .bits ≡ 8 * frameLength (now (t .entry)) f) × (r .published ≡ publishedOf (now (t .entry)) f) ⌝ }
 {
-    8 * (word(t, frame_at(f) + 1) as usize)
+    let at = frame_at(f);
+    Room {
+        bits: 8 * (t[at + 1] as usize),
+        published: t[at + 2] % 2 == 1,
+    }
 }
 
 // Checks the frames' records; the identifiers used so far are marked.

@@ -14,20 +14,6 @@ pub(crate) fn is_marked(marks: &[bool], i: usize) -> bool
     if i < marks.len() { marks[i] } else { false }
 }
 
-// The number marked at a place, and 0 where there is none.
-pub(crate) fn number_of(marks: &[usize], i: usize) -> usize
-    ensures { λ r. ⌜ r ≡ getD (now (marks .entry)) i 0 ⌝ }
-{
-    if i < marks.len() { marks[i] } else { 0 }
-}
-
-// The occupied bits of a frame.
-pub(crate) fn bits_of(marks: &[u64], i: usize) -> u64
-    ensures { λ r. ⌜ r ≡ getD (now (marks .entry)) i 0 ⌝ }
-{
-    if i < marks.len() { marks[i] } else { 0 }
-}
-
 // Whether none of the bits from an offset on is occupied.
 pub(crate) fn are_free(bits: u64, offset: usize, width: usize) -> bool
     requires { ⌜ (1 ≤ width) × (offset + width ≤ 64) ⌝ }

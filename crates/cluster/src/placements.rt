@@ -4,24 +4,24 @@ use crate::Verdict;
 use crate::fault;
 use crate::frames;
 use crate::marks::are_free;
-use crate::marks::bits_of;
-use crate::marks::number_of;
 use crate::marks::with_bits;
 use crate::signals;
+use crate::signals::Shape;
 use crate::table::Layout;
 use crate::table::due;
 use crate::table::follows;
 use crate::table::placement_at;
 use crate::table::word;
 ghost use mathlib.Core.Path.{_≡_};
-ghost use mathlib.Core.Bool.{true, not, _&&_, Bool·beq};
-ghost use Prim.Native.Nat.{ℕ, _+_, _<_, _≤_};
+ghost use mathlib.Core.Bool.{not, _&&_, Bool·beq};
+ghost use Prim.Native.Nat.{_+_, _<_, _≤_};
+ghost use lib.ListN.{length};
 ghost use lib.Dec.{ltb, eqb};
 ghost use Rattle.cluster.specs.Check.{placementFaults, unplaced as unplacedOf};
-ghost use Rattle.cluster.specs.Columns.{widthRight, offsetRight, placementOffsetRight};
+ghost use Rattle.cluster.specs.Columns.{offsetRight, placementOffsetRight};
 ghost use Rattle.cluster.specs.Places.{placeOf};
-ghost use Rattle.cluster.specs.Read.{PlacementRead, leading, hits, placementSeen};
-ghost use Rattle.cluster.specs.Table.{mostFrames, mostSignals, mostPlacements, frameCount, frameLength, signalCount, signalWidth, isArray};
+ghost use Rattle.cluster.specs.Read.{RecordsBefore, PlacementRead, leading, hits, placementSeen};
+ghost use Rattle.cluster.specs.Table.{mostFrames, mostPlacements};
 ghost use Rattle.cluster.specs.Table.{placementCount, placementSignal, placementFrame, placementOffset, placedSignals};
 ghost use Rattle.cluster.specs.Values.{firstPlacement};
 
@@ -100,9 +100,7 @@ pub(crate) fn unplaced(t: &[u16]) -> Verdict
 
 // Checks the placements' records; of each frame the bits occupied so far and the signal placed there last are marked.
 pub(crate) fn judge(t: &[u16]) -> Verdict
-    requires { ⌜ (frameCount (now t) ≤ mostFrames) × (signalCount (now t) ≤ mostSignals) × (placementCount (now t) ≤ mostPlacements) ⌝ }
-    requires { ⌜ ((f : ℕ) → f < frameCount (now t) → frameLength (now t) f ≤ 8) ⌝ }
-    requires { ⌜ ((s : ℕ) → s < signalCount (now t) → widthRight (isArray (now t) s) (signalWidth (now t) s) ≡ true) ⌝ }
+    requires { ⌜ (placementCount (now t) ≤ mostPlacements) × RecordsBefore (now t) ⌝ }
     ensures { λ r. ⌜ r ≡ placementFaults (now (t .entry)) ⌝ }
 {
     let mut occupied = [0u64; Limits::FRAMES];
@@ -116,29 +114,16 @@ pub(crate) fn judge(t: &[u16]) -> Verdict
         let at = first + Layout::PLACEMENT * k;
         let words = read(t, at);
         let f = words.frame;
-        let known = Known {
-            placed,
-            before,
-            published: frames::publishes(t, f),
-            last: number_of(&last, f),
-            array: signals::array_of(t, words.signal),
-            width: signals::width_of(t, words.signal),
-            bits: frames::bits(t, f),
-            occupied: bits_of(&occupied, f),
-        };
-        let right = right_words(
-            signals::count(t) as usize,
-            frames::count(t) as usize,
-            words,
-            known,
-        );
+        let right = right_words(t, &occupied, &last, Before { placed, before }, words);
         if right < Layout::PLACEMENT {
             return fault(at + right);
         }
-        occupied[f] = with_bits(known.occupied, words.offset, known.width);
+        let shape = signals::shape_of(t, words.signal);
+        let room = frames::room_of(t, f);
+        occupied[f] = with_bits(occupied[f], words.offset, shape.width);
         last[f] = words.signal + 1;
         placed = words.signal + 1;
-        before = known.published;
+        before = room.published;
         k += 1;
     }
     Verdict::Accepted
@@ -151,19 +136,10 @@ struct Words {
     offset: usize,
 }
 
-// What is known where a placement is judged.
-struct Known {
-    // How many signals have placements before this one, and whether the frame of the last one is published.
+// What is known of the placements before: how many signals they are of, and whether the frame of the last one is published.
+struct Before {
     placed: usize,
     before: bool,
-    // Of its frame: whether it is published, one more than the signal placed there last (0 where there is none), its bits, and those occupied.
-    published: bool,
-    last: usize,
-    bits: usize,
-    occupied: u64,
-    // Of its signal.
-    array: bool,
-    width: usize,
 }
 
 // Reads a placement's record; a missing word reads as 65536. One test is enough where the whole record is there.
@@ -185,34 +161,32 @@ fn read(t: &[u16], at: usize) -> Words
     }
 }
 
-// How many words of a placement's record are right before the first that is not.
-fn right_words(signals: usize, frames: usize, words: Words, known: Known) -> usize
-    requires { ⌜ (words .signal ≤ 65536) × (words .offset ≤ 65536) × (known .width ≤ 65535) ⌝ }
-    requires { ⌜ (words .frame < frames → known .bits ≤ 64) ⌝ }
-    requires { ⌜ (words .signal < signals → 1 ≤ known .width) ⌝ }
-    ensures { λ r. ⌜ r ≡ leading (placementSeen signals frames words known) ⌝ }
+// How many words of a placement's record are right before the first that is not; what its signal and its frame say is read where they are there.
+fn right_words(t: &[u16], occupied: &[u64], last: &[usize], known: Before, words: Words) -> usize
+    requires { ⌜ RecordsBefore (now t) × (length (now occupied) ≡ mostFrames) × (length (now last) ≡ mostFrames) ⌝ }
+    requires { ⌜ (words .signal ≤ 65536) × (words .offset ≤ 65536) ⌝ }
+    ensures { λ r. ⌜ r ≡ leading (placementSeen (now (t .entry)) (now (occupied .entry)) (now (last .entry)) known words) ⌝ }
 {
-    if !follows(known.placed, words.signal) {
+    let s = words.signal;
+    let f = words.frame;
+    if !follows(known.placed, s) {
         return 0;
     }
-    if signals <= words.signal {
+    if signals::count(t) as usize <= s {
         return 0;
     }
-    if frames <= words.frame {
+    if frames::count(t) as usize <= f {
         return 1;
     }
-    if known.last == words.signal + 1 {
+    if last[f] == s + 1 {
         return 1;
     }
-    if mixes(
-        words.signal + 1,
-        known.placed,
-        known.before,
-        known.published,
-    ) {
+    let room = frames::room_of(t, f);
+    if mixes(s + 1, known.placed, known.before, room.published) {
         return 1;
     }
-    if offset_free(known, words.offset) {
+    let shape = signals::shape_of(t, s);
+    if offset_free(shape, room.bits, occupied[f], words.offset) {
         3
     } else {
         2
@@ -230,19 +204,19 @@ fn mixes(signal: usize, placed: usize, before: bool, published: bool) -> bool
 }
 
 // Whether an offset is right, and the signal's bits from there on are inside the frame and free.
-fn offset_free(known: Known, offset: usize) -> bool
-    requires { ⌜ (offset ≤ 65536) × (known .width ≤ 65535) × (1 ≤ known .width) × (known .bits ≤ 64) ⌝ }
+fn offset_free(shape: Shape, bits: usize, occupied: u64, offset: usize) -> bool
+    requires { ⌜ (offset ≤ 65536) × (shape .width ≤ 65535) × (1 ≤ shape .width) × (bits ≤ 64) ⌝ }
     ensures { λ r. ⌜
-        r ≡ placementOffsetRight (known .array) (known .bits) (ltb (known .bits) (offset + known .width)) (hits (known .occupied) offset (known .width)) offset
+        r ≡ placementOffsetRight (shape .array) bits (ltb bits (offset + shape .width)) (hits occupied offset (shape .width)) offset
         ⌝ }
 {
-    if !offset_right(known.array, known.bits, offset) {
+    if !offset_right(shape.array, bits, offset) {
         return false;
     }
-    if known.bits < offset + known.width {
+    if bits < offset + shape.width {
         return false;
     }
-    are_free(known.occupied, offset, known.width)
+    are_free(occupied, offset, shape.width)
 }
 
 // Whether an offset is below the frame's bits, and at a byte border for an array.

@@ -7,12 +7,13 @@ use crate::table::signal_at;
 use crate::table::word;
 ghost use mathlib.Core.Path.{_≡_};
 ghost use mathlib.Core.Bool.{true};
-ghost use Prim.Native.Nat.{_<_, _≤_};
+ghost use Prim.Native.Nat.{_+_, _<_, _≤_};
+ghost use lib.ListN.{length};
 ghost use Rattle.cluster.specs.Check.{signalFaults};
 ghost use Rattle.cluster.specs.Columns.{widthRight, startLimit, signalColumns};
 ghost use Rattle.cluster.specs.Fresh.{arrayLength};
 ghost use Rattle.cluster.specs.Read.{SignalRead, leading};
-ghost use Rattle.cluster.specs.Table.{mostFrames, mostSignals, frameCount, signalCount};
+ghost use Rattle.cluster.specs.Table.{mostFrames, mostSignals, signalAt, frameCount, signalCount};
 ghost use Rattle.cluster.specs.Table.{signalKind, signalWidth, signalStart, isArray};
 
 // How many signals there are.
@@ -59,21 +60,22 @@ pub fn array_length(t: &[u16], s: u16) -> usize
     if bytes < 8 { bytes } else { 8 }
 }
 
-// Whether a signal is a byte array, of which the number may be that of a missing word.
-pub(crate) fn array_of(t: &[u16], s: usize) -> bool
-    requires { ⌜ s ≤ 65536 ⌝ }
-    ensures { λ r. ⌜ r ≡ isArray (now (t .entry)) s ⌝ }
-{
-    word(t, signal_at(t, s)) == 1
+// What a signal says of its placements: whether it is an array, and how many bits it has.
+pub(crate) struct Shape {
+    pub(crate) array: bool,
+    pub(crate) width: usize,
 }
 
-// The bits of a signal, of which the number may be that of a missing word.
-pub(crate) fn width_of(t: &[u16], s: usize) -> usize
-    requires { ⌜ s ≤ 65536 ⌝ }
-    ensures { λ r. ⌜ r ≡ signalWidth (now (t .entry)) s ⌝ }
-    ensures { λ r. ⌜ r ≤ 65535 ⌝ }
+// Reads that of a signal that is there.
+pub(crate) fn shape_of(t: &[u16], s: usize) -> Shape
+    requires { ⌜ (s ≤ 65536) × (signalAt (now t) s + 1 < length (now t)) ⌝ }
+    ensures { λ r. ⌜ (r .array ≡ isArray (now (t .entry)) s) × (r .width ≡ signalWidth (now (t .entry)) s) ⌝ }
 {
-    word(t, signal_at(t, s) + 1) as usize
+    let at = signal_at(t, s);
+    Shape {
+        array: t[at] == 1,
+        width: t[at + 1] as usize,
+    }
 }
 
 // Checks the signals' records.

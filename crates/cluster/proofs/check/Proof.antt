@@ -5,7 +5,7 @@ use mathlib.Core.List.{List}
 use Rattle.cluster.specs.Check.{headerFaults, frameFaults, signalFaults, surplus, judged}
 use Rattle.cluster.specs.declared.Verdict.the-variants.{Accepted}
 use Rattle.cluster.proofs.Sections.{fromFrames, fromSignals, fromPlacements, fromUnplaced, fromMembers, fromEntries, judged-sections}
-use Rattle.cluster.proofs.Sections.{header-passed, frames-passed, signals-passed}
+use Rattle.cluster.proofs.Sections.{header-passed, records-passed}
 use borrow.Author.Needs.{needs}
 use Rattle.cluster.proofs.CheckTold.{check-told}
 use Rattle.cluster.proofs.check.Statement.{statement}
@@ -101,8 +101,8 @@ returns-3 c =
 
 judge-requires-4 : tie.Need-judge-requires-4
 judge-requires-4 c κs =
-    let counts = header-passed (table3 c) (header-right (header3 c)) in
-    ((counts .0, counts .1, counts .4), (frames-passed (table3 c) (frames-right (c .before .before .before)), signals-passed (table3 c) (signals-right c)))
+    let header = header-right (header3 c) in
+    (header-passed (table3 c) header .4, records-passed (table3 c) header (frames-right (c .before .before .before)) (signals-right c))
 
 returns-4 : tie.Need-returns-4
 returns-4 c =

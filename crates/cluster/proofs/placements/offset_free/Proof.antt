@@ -11,18 +11,18 @@ returns c = rw (sym (c .before .offset-right .ensures) ∙ not-true (c .before .
 
 returns-2 : tie.Need-returns-2
 returns-2 c =
-    let d = c .before .before .before in
+    let d = c .before .before in
     let right = sym (d .before .offset-right .ensures) ∙ not-false (d .before .offset-right .result) (d .if1 .left) in
     rw (right, lt-ltb _ _ (c .if2 .taken))
 
 are-free-requires : tie.Need-are-free-requires
 are-free-requires c κs =
-    let pre = c .before .before .before .before .before .pre in
+    let pre = c .before .before .before .before .pre in
     (pre .2, omega (arith, c .if2 .left))
 
 returns-3 : tie.Need-returns-3
 returns-3 c =
-    let d = c .before .before .before .before in
+    let d = c .before .before .before in
     let right = sym (d .before .offset-right .ensures) ∙ not-false (d .before .offset-right .result) (d .if1 .left) in
     rw (right, le-ltb _ _ (c .before .if2 .left), c .are-free .ensures)
 
