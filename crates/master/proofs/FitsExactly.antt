@@ -31,7 +31,6 @@ use Rattle.master.specs.declared.state.Message.the-variants as message
 use Rattle.master.specs.declared.state.Last.{Last}
 use Rattle.master.specs.declared.state.Last.the-variants.{Never, Placement}
 use Rattle.master.specs.declared.state.State.{State}
-use Rattle.master.specs.Fresh.{neverReceived}
 use Rattle.master.specs.Received.{lastOf, lastFits, receivedFits}
 use Rattle.master.specs.Transfers.{isOpen, formatOf}
 use Rattle.master.specs.Fits.{entryThere, scheduleThere, frameThere, waitFits, bitFits, pendingFits, isSending, entryOpens, canOpen, countFits, messageFits, stateFits}
@@ -80,7 +79,7 @@ pub record Clauses (t : List ℕ) (s : State) : Type 0 where
   pub length-high : (x : Sending) → s .message ≡ message.Sending x → x .length ≤ 4095
   pub frame-left : (x : Sending) → s .message ≡ message.Sending x → FrameLeft (x .length) (x .next)
   -- document 02, Req 03: "also a last reception in a published frame or one without the signal"; of the 256 signals that a state keeps
-  pub reception : (i k : ℕ) → getD (s .received) i neverReceived .last ≡ Placement k
+  pub reception : (i k : ℕ) → getD (s .received) i (record { last = Never }) .last ≡ Placement k
       → (i < signalCount t) × (k < placementCount t) × (placementSignal t k ≡ i) × (published t (placementFrame t k) ≡ false)
 
 -- ---- the pending bits

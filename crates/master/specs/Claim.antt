@@ -7,11 +7,11 @@ use mathlib.Core.List.{List, [], _∷_, _++_, List·Memᴰ}
 use lib.ListN.{getD}
 use Rattle.cluster.specs.Table.{frameCount, published, entryKind, entryTarget}
 use Rattle.cluster.specs.Lists.{members}
+use Rattle.master.specs.declared.state.Last.the-variants.{Never}
 use Rattle.master.specs.declared.state.Opened.the-variants.{Nothing, Frame}
 use Rattle.master.specs.declared.tick.TickAnswer.{TickAnswer}
 use Rattle.master.specs.declared.byte.ByteAnswer.the-variants as byte
 use Rattle.master.specs.declared.ahead.AheadAnswer.{AheadAnswer}
-use Rattle.master.specs.Fresh.{neverReceived}
 use Rattle.master.specs.Seq.{Seq, ∅, _▹_, _⋈_, Each}
 use Rattle.master.specs.Calls.{Call, tick, byteIn, numberAhead, Answer, Reply, Event, _⇒_}
 use Rattle.master.specs.Run.{Held, answerOf, heldAfter, historyOf}
@@ -42,7 +42,7 @@ pub record HeldClaim (t : List ℕ) (h : Seq Scheduled) (x : Held) : Type 0 wher
   -- (a) and all frame bytes are as fresh, the accepted writes and the frames received with success left them
   pub all-bytes : x .bytes ≡ bytesAfter t h
   -- (a) and of each signal the placement received last is kept
-  pub receptions : (s : ℕ) → getD (x .state .received) s neverReceived .last ≡ receivedAfter t h s
+  pub receptions : (s : ℕ) → getD (x .state .received) s (record { last = Never }) .last ≡ receivedAfter t h s
 
 -- what demand 3 says of one history under a table, parts (b) to (e)
 pub record HistoryClaim (t : List ℕ) (h : Seq Scheduled) : Type 0 where
