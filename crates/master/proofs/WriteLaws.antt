@@ -21,6 +21,7 @@ pub record Beside (x y : State) : Type 0 where
   pub opened-same : y .transfer .opened ≡ x .transfer .opened
   pub count-same : y .transfer .count ≡ x .transfer .count
   pub copy-same : y .transfer .bytes ≡ x .transfer .bytes
+  pub received-same : y .received ≡ x .received
 
 -- the marks of a write, each by itself
 pub record Marks (t : List ℕ) (s : ℕ) (x y : State) : Type 0 where
@@ -58,13 +59,13 @@ module _ (t : List ℕ) (x : State) (bs : List ℕ) (w : Put) where
   unfolding writeOf
   write-left k = rw (write-accepts k)
 
-  -- a write, refused or not, leaves the plan, the message, the status and the open transfer with its count and its bytes
+  -- a write, refused or not, leaves the plan, the message, the status, the open transfer with its count and its bytes, and the receptions
   pub write-beside : Beside x (writeOf t x bs w .given .state)
   unfolding writeOf marked rewritten
   write-beside =
       by-verdict (λ (z : Step Wrote). Beside x (z .given .state)) (writeVerdict t (length bs) x w) _ _
-      (λ r e. record { plan-same = refl; message-same = refl; status-same = refl; opened-same = refl; count-same = refl; copy-same = refl })
-      (λ a. record { plan-same = refl; message-same = refl; status-same = refl; opened-same = refl; count-same = refl; copy-same = refl })
+      (λ r e. record { plan-same = refl; message-same = refl; status-same = refl; opened-same = refl; count-same = refl; copy-same = refl; received-same = refl })
+      (λ a. record { plan-same = refl; message-same = refl; status-same = refl; opened-same = refl; count-same = refl; copy-same = refl; received-same = refl })
 
   -- "later writes do not touch that copy": neither accepted ones nor refused ones
   pub write-copy : writeOf t x bs w .given .state .transfer .bytes ≡ x .transfer .bytes
