@@ -26,6 +26,7 @@ pub mod PendingFits
 pub mod PendingLaws
 pub mod PendingLength
 pub mod ReadBack
+pub mod ReadExactly
 pub mod ReceivedLaws
 pub mod ReceivedSteps
 pub mod StartLaws
