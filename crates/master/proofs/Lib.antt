@@ -29,6 +29,7 @@ pub mod ReadBack
 pub mod ReadExactly
 pub mod ReceivedLaws
 pub mod ReceivedSteps
+pub mod ReceptionExactly
 pub mod StartLaws
 pub mod RowCalls
 pub mod Rows

@@ -105,7 +105,7 @@ module _ (t : List ℕ) where
         kept n rs s d = set-kept (receivedUpTo t f n rs) (placementSignal t n) n s d
 
   -- a frame that a signal does not touch has no placement of it
-  not-touched : (s f : ℕ) → touches t s f ≡ false → (k : ℕ) → k < placementCount t → placementFrame t k ≡ f → placementSignal t k ≡ s → ⊥
+  pub not-touched : (s f : ℕ) → touches t s f ≡ false → (k : ℕ) → k < placementCount t → placementFrame t k ≡ f → placementSignal t k ≡ s → ⊥
   unfolding touches
   not-touched s f n k b e q =
       eqb-false (placementFrame t k) f (some-none t s (λ j. eqb (placementFrame t j) f) n k (record { there = b; is = q })) e

@@ -258,7 +258,7 @@ effect-fits t x c a =
     by (call.numberAhead f) a ok h fits = h
 
 -- what holds of the old, and of each effect, holds of what a call leaves
-kept : (t : List ℕ) (x : Held) (c : Call) (P : Held → Type 0) → P x → (verdictOf t x c ≡ Accepted → P (effectOf t x c)) → P (leftBy t x c)
+pub kept : (t : List ℕ) (x : Held) (c : Call) (P : Held → Type 0) → P x → (verdictOf t x c ≡ Accepted → P (effectOf t x c)) → P (leftBy t x c)
 kept t x c P old new = rw (left-by-verdict t x c) (by-verdict P (verdictOf t x c) (λ r. x) (effectOf t x c) (λ r e. old) new)
 
 -- the state that a call hands back fits the table, refused or not
