@@ -2,12 +2,12 @@
 use Prim.Native.Nat.{ℕ, zero, suc, _+_, _-_, _*_, _/_, _%_, _^_, _≤_, _<_}
 use mathlib.Core.Path.{_≡_, refl, sym, _∙_, ap}
 use mathlib.Core.Bool.{Bool, true, false, not, _&&_, _||_, and-false}
-use native.Mathlib.Nat.{pow-suc, zero-mul, zero-add, add-zero, div-eq-of-lt, lt-of-lt-of-le}
+use native.Mathlib.Nat.{pow-suc, zero-mul, zero-add, add-zero, div-eq-of-lt, lt-of-lt-of-le, mul-pos}
 use native.Mathlib.Omega.{arith}
 use borrow.Author.Tests.{eq-eqb, ne-eqb}
-use lib.Bits.{bitAnd, and-mask}
+use lib.Bits.{bitAnd, and-high}
 use lib.Dec.{eqb}
-use lib.Pow.{pow-pos, pow-mono, ones-split, ones-lt, high, shl-exact}
+use lib.Pow.{pow-pos, pow-mono, ones-split, ones-lt, high, high-ones, shl-exact}
 use Rattle.wire.specs.Bits.{bit, digit}
 use Rattle.wire.proofs.Tests.{whether}
 use Rattle.signal.specs.Signal.{number, inside}
@@ -84,11 +84,19 @@ number-inside o w r =
 -- ---- what the code does
 
 -- no bit of the field is bits
-pub field-free : (bits o w : ℕ) → eqb (bitAnd (bits / 2 ^ o) (2 ^ w - 1)) 0 ≡ not (hits bits o w)
+pub field-free : (bits o w : ℕ) → o + w ≤ 64 → eqb (bitAnd bits (((2 ^ w - 1) * 2 ^ o) % 2 ^ 64)) 0 ≡ not (hits bits o w)
 unfolding hits
-field-free bits o w =
-    rw (and-mask (bits / 2 ^ o) w, ← (number-mod w (bits / 2 ^ o)), none-set w (bit (bits / 2 ^ o)))
+field-free bits o w fits =
+    let field : bitAnd bits ((2 ^ w - 1) * 2 ^ o) ≡ (bits / 2 ^ o % 2 ^ w) * 2 ^ o = rw (high-ones w o) at (and-high bits w o) in
+    rw (shl-exact w o 64 (ones-lt w) (omega arith), field, shifted-none (bits / 2 ^ o % 2 ^ w), ← (number-mod w (bits / 2 ^ o)), none-set w (bit (bits / 2 ^ o)))
     (ap not (any-ext w (bit (bits / 2 ^ o)) (λ k. bit bits (o + k)) (λ k h. bit-shift bits o k)))
+  where
+    -- a number shifted up is 0 exactly where it is
+    shifted-none : (n : ℕ) → eqb (n * 2 ^ o) 0 ≡ eqb n 0
+    shifted-none zero = rw (zero-mul (2 ^ o))
+    shifted-none (suc n) =
+        ne-eqb (suc n * 2 ^ o) 0 (λ e. omega (arith, mul-pos {m = suc n} {n = 2 ^ o} (omega arith) (pow-pos o)))
+        ∙ sym (ne-eqb (suc n) 0 (λ e. omega arith))
 
 module _ (bits o w : ℕ) (small : bits < 2 ^ 64) (fits : o + w ≤ 64) (free : hits bits o w ≡ false) where
   -- the field's bits are not bits

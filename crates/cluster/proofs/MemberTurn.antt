@@ -8,7 +8,7 @@ use native.Mathlib.Omega.{arith}
 use lib.ListN.{getD, set, replicate}
 use Rattle.cluster.specs.Check.{fault, faults, memberFaults}
 use Rattle.cluster.specs.Columns.{follows, memberColumns}
-use Rattle.cluster.specs.Read.{due, leading}
+use Rattle.cluster.specs.Read.{due, leading, memberSeen}
 use Rattle.cluster.specs.Right.{memberRight, records}
 use Rattle.cluster.specs.Table.{mostFrames, mostMembers, counted, published, frameCount, memberCount, memberWords, memberAt, word, memberList, memberFrame}
 use Rattle.cluster.specs.declared.Verdict.the-variants.{Accepted}
@@ -44,13 +44,11 @@ module _ (t : List ℕ) (m lists : ℕ) (listed : List Bool) where
 
   -- the record's words as they are read, with the frame's mark
   abbrev pub memberRead : List Bool
-  memberRead = memberColumns (frameCount t) (follows lists listRead) (published t frameRead) (getD listed frameRead false) frameRead
+  memberRead = memberSeen t listed (follows lists listRead) frameRead
 
   -- what the check computes of the words read is that list
-  pub seen-read : (list frame frames : ℕ) (up publishes mark : Bool) → list ≡ listRead → frame ≡ frameRead → frames ≡ frameCount t
-      → up ≡ follows lists list → publishes ≡ published t frame → mark ≡ getD listed frame false
-      → memberColumns frames up publishes mark frame ≡ memberRead
-  seen-read list frame frames up publishes mark el ef en eu ep em = rw (en, eu, ep, em, el, ef)
+  pub seen-read : (list frame : ℕ) (up : Bool) → list ≡ listRead → frame ≡ frameRead → up ≡ follows lists list → memberSeen t listed up frame ≡ memberRead
+  seen-read list frame up el ef eu = rw (eu, el, ef)
 
   module _ (turn : Turn t m lists listed) where
     agrees : Agrees t (memberAt t m) 0 memberRead (memberRight t m)

@@ -1,5 +1,5 @@
--- Marks of the placements' check: of each frame the signal placed there last, and whether the frame of the last placement is published. They tell
--- whether a signal stands in a frame twice, and whether its frames have two publishers.
+-- Marks of the placements' check: of each frame the signal placed there last, and the frame of the last placement. They tell whether
+-- a signal stands in a frame twice, and whether its frames have two publishers.
 use Prim.Native.Nat.{ℕ, zero, suc, _+_, _≤_, _<_}
 use mathlib.Core.Path.{_≡_, refl, sym, _∙_}
 use mathlib.Core.Bool.{Bool, true, false, not, cond, _&&_, Bool·beq, and-false}
@@ -25,14 +25,14 @@ unfoldable pub lastIn : List ℕ → ℕ → ℕ → ℕ
 lastIn t zero f = 0
 lastIn t (suc k) f = cond (eqb (placementFrame t k) f) (suc (placementSignal t k)) (lastIn t k f)
 
--- whether the frame of the placement before placement k is published
-unfoldable pub publisherBefore : List ℕ → ℕ → Bool
-publisherBefore t zero = false
-publisherBefore t (suc k) = published t (placementFrame t k)
+-- the frame of the placement before placement k
+unfoldable pub frameBefore : List ℕ → ℕ → ℕ
+frameBefore t zero = 0
+frameBefore t (suc k) = placementFrame t k
 
-pub publisher-next : (t : List ℕ) (k : ℕ) → publisherBefore t (k + 1) ≡ published t (placementFrame t k)
-unfolding publisherBefore
-publisher-next t k = rw (add-one k)
+pub frame-next : (t : List ℕ) (k : ℕ) → frameBefore t (k + 1) ≡ placementFrame t k
+unfolding frameBefore
+frame-next t k = rw (add-one k)
 
 abbrev pub LastMarks : List ℕ → ℕ → List ℕ → Type 0
 LastMarks t k marks = (length marks ≡ mostFrames) × ((f : ℕ) → getD marks f 0 ≡ lastIn t k f)
@@ -107,10 +107,23 @@ module _ (t : List ℕ) (n : ℕ) (up : CountsUp (placementSignal t) n) where
       rw (add-one (placementSignal t k))
       (twice k (placementSignal t k) (placementFrame t k) (omega arith) (λ j b. up-monotone (placementSignal t) n up j k (omega arith) h))
 
+  -- no frame is marked with a signal behind those so far
+  pub last-high : (k f : ℕ) → k ≤ n → lastIn t k f ≤ counted (placementSignal t) k
+  unfolding lastIn counted
+  last-high zero f b = omega arith
+  last-high (suc k) f b =
+      whether (eqb (placementFrame t k) f)
+      (λ y. rw y (omega arith))
+      (λ z. rw z (omega (arith, last-high k f (omega arith), before k b)))
+    where
+      before : (k : ℕ) → k < n → counted (placementSignal t) k ≤ suc (placementSignal t k)
+      before zero h = omega arith
+      before (suc k) h = omega (arith, up-monotone (placementSignal t) n up k (suc k) (omega arith) h)
+
   -- the frames of a signal that had one publisher so far have two exactly where this one differs from the last one
   pub mixed-is : (k : ℕ) → k < n → ((j : ℕ) → j < k → mixed t j ≡ false)
-      → mixed t k ≡ (eqb (placementSignal t k + 1) (counted (placementSignal t) k) && not (Bool·beq (publisherBefore t k) (published t (placementFrame t k))))
-  unfolding mixed earlierPlacement anyBelow counted publisherBefore
+      → mixed t k ≡ (eqb (placementSignal t k + 1) (counted (placementSignal t) k) && not (Bool·beq (published t (frameBefore t k)) (published t (placementFrame t k))))
+  unfolding mixed earlierPlacement anyBelow counted frameBefore
   mixed-is zero h one = rw (ne-eqb (placementSignal t 0 + 1) 0 (λ e. omega arith))
   mixed-is (suc k) h one =
       elim (ℕ-discrete (placementSignal t k) (placementSignal t (suc k))) [

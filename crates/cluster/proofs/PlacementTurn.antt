@@ -15,7 +15,7 @@ use Rattle.wire.proofs.Tests.{whether}
 use Rattle.signal.specs.Signal.{inside}
 use Rattle.cluster.specs.Check.{fault, faults, placementFaults}
 use Rattle.cluster.specs.Columns.{follows, offsetRight, placementOffsetRight, placementColumns}
-use Rattle.cluster.specs.Read.{RecordsBefore, PlacementRead, due, leading, hits, placementSeen}
+use Rattle.cluster.specs.Read.{RecordsBefore, PlacedBefore, PlacementRead, due, leading, hits, mixes, placementSeen}
 use Rattle.cluster.specs.Right.{frameBits, again, mixed, sticksOut, overlaps, placementRight, countsUp, records}
 use Rattle.cluster.specs.Table.{mostFrames, counted, published, frameCount, frameLength, signalCount, signalWidth, isArray}
 use Rattle.cluster.specs.Table.{placementCount, placementWords, placementAt, placementSignal, placementFrame, placementOffset, placementWidth}
@@ -26,46 +26,52 @@ use Rattle.cluster.proofs.BitMarks.{BitMarks, none-marked, bits-marked,
 use Rattle.cluster.proofs.Clauses.{signal-says, frame-says, offset-says}
 use Rattle.cluster.proofs.Counting.{counted-none, counted-next}
 use Rattle.cluster.proofs.CountingUp.{CountsUp}
-use Rattle.cluster.proofs.PlacementMarks.{publisherBefore, LastMarks, no-last, last-marked, again-is, mixed-is, publisher-next}
+use Rattle.cluster.proofs.PlacementMarks.{lastIn, frameBefore, frame-next, LastMarks, no-last, last-marked, again-is, last-high, mixed-is}
 use Rattle.cluster.proofs.Scan.{Agrees, leading-all, all-there, halt-record, next-record, no-record}
 use Rattle.cluster.proofs.StickingOut.{out-is}
 use Rattle.cluster.proofs.Widths.{offset-below, width-range}
 
 -- the placements before placement k are passed: their bits and signals are marked, their signals counted, and each signal has one publisher
-pub record Passed (t : List ℕ) (k placed : ℕ) (before : Bool) (last occupied : List ℕ) : Type 0 where
+pub record Passed (t : List ℕ) (k placed frame : ℕ) (last occupied : List ℕ) : Type 0 where
   pub within : k ≤ placementCount t
   pub bits : BitMarks t k occupied
   pub lasts : LastMarks t k last
   pub counts : placed ≡ counted (placementSignal t) k
-  pub publisher : before ≡ publisherBefore t k
+  pub before : frame ≡ frameBefore t k
+  pub there : PlacedBefore t last (record { placed = placed; frame = frame })
   pub up : CountsUp (placementSignal t) k
   pub one : (j : ℕ) → j < k → mixed t j ≡ false
   pub left : placementFaults t ≡ faults t (placementAt t k) (records k (placementCount t - k) (placementRight t))
 
 -- what is known where placement k is judged
-pub record Turn (t : List ℕ) (k placed : ℕ) (before : Bool) (last occupied : List ℕ) : Type 0 where
-  pub passed : Passed t k placed before last occupied
+pub record Turn (t : List ℕ) (k placed frame : ℕ) (last occupied : List ℕ) : Type 0 where
+  pub passed : Passed t k placed frame last occupied
   pub more : k < placementCount t
   pub records : RecordsBefore t
 
-pub none-passed : (t : List ℕ) → Passed t 0 0 false (replicate mostFrames 0) (replicate mostFrames 0)
-unfolding publisherBefore
+pub none-passed : (t : List ℕ) → Passed t 0 0 0 (replicate mostFrames 0) (replicate mostFrames 0)
+unfolding frameBefore lastIn
 none-passed t = record {
   within = omega arith;
   bits = none-marked t;
   lasts = no-last t;
   counts = sym (counted-none (placementSignal t) 0 refl);
-  publisher = refl;
+  before = refl;
+  there = record {
+    signals = omega arith;
+    frame = λ h. absurd (omega arith);
+    marks = λ f. omega (arith, no-last t .1 f);
+  };
   up = λ j h. absurd (omega arith);
   one = λ j h. absurd (omega arith);
   left = rw sub-zero;
 }
 
-pub all-passed : (t : List ℕ) (k placed : ℕ) (before : Bool) (last occupied : List ℕ) → Passed t k placed before last occupied
+pub all-passed : (t : List ℕ) (k placed frame : ℕ) (last occupied : List ℕ) → Passed t k placed frame last occupied
     → placementCount t ≤ k → Accepted ≡ placementFaults t
-all-passed t k placed before last occupied p h = sym (p .left ∙ no-record t (placementAt t k) (placementRight t) k (placementCount t) h)
+all-passed t k placed frame last occupied p h = sym (p .left ∙ no-record t (placementAt t k) (placementRight t) k (placementCount t) h)
 
-module _ (t : List ℕ) (k placed : ℕ) (before : Bool) (last occupied : List ℕ) where
+module _ (t : List ℕ) (k placed frame : ℕ) (last occupied : List ℕ) where
   abbrev signalRead : ℕ
   signalRead = due t (placementAt t k)
 
@@ -88,7 +94,7 @@ module _ (t : List ℕ) (k placed : ℕ) (before : Bool) (last occupied : List �
   againRead = eqb (getD last frameRead 0) (signalRead + 1)
 
   abbrev mixedRead : Bool
-  mixedRead = eqb (signalRead + 1) placed && not (Bool·beq before (published t frameRead))
+  mixedRead = mixes t (record { placed = placed; frame = frame }) signalRead frameRead
 
   abbrev outRead : Bool
   outRead = ltb bitsRead (offsetRead + widthRead)
@@ -103,7 +109,7 @@ module _ (t : List ℕ) (k placed : ℕ) (before : Bool) (last occupied : List �
       signalRead frameRead offsetRead
 
   -- what the check computes of the words read is that list
-  pub seen-read : (w : Words) → PlacementRead t (placementAt t k) w → placementSeen t occupied last (record { placed = placed; before = before }) w ≡ placementRead
+  pub seen-read : (w : Words) → PlacementRead t (placementAt t k) w → placementSeen t occupied last (record { placed = placed; frame = frame }) w ≡ placementRead
   seen-read w read = rw (read .signal-is, read .frame-is, read .offset-is)
 
   -- a placement that is right lies in a frame of the table, and its bits are free
@@ -115,8 +121,8 @@ module _ (t : List ℕ) (k placed : ℕ) (before : Bool) (last occupied : List �
     pub fits : offsetRead + widthRead ≤ 64
     pub free : hitRead ≡ false
 
-  module _ (turn : Turn t k placed before last occupied) where
-    abbrev P : Passed t k placed before last occupied
+  module _ (turn : Turn t k placed frame last occupied) where
+    abbrev P : Passed t k placed frame last occupied
     P = turn .passed
 
     -- the signals up to this one count up, where this one does
@@ -130,10 +136,10 @@ module _ (t : List ℕ) (k placed : ℕ) (before : Bool) (last occupied : List �
     -- the marks tell what the definition asks
     frame-agrees : countsUp (placementSignal t) k ≡ true
         → (again t k ≡ eqb (getD last (placementFrame t k) 0) (placementSignal t k + 1))
-        × (mixed t k ≡ (eqb (placementSignal t k + 1) placed && not (Bool·beq before (published t (placementFrame t k)))))
+        × (mixed t k ≡ mixes t (record { placed = placed; frame = frame }) (placementSignal t k) (placementFrame t k))
     frame-agrees h = (
       again-is t (k + 1) (up-here h) k (omega arith) ∙ rw (P .lasts .1 (placementFrame t k)),
-      mixed-is t (k + 1) (up-here h) k (omega arith) (P .one) ∙ rw (P .counts, P .publisher),
+      mixed-is t (k + 1) (up-here h) k (omega arith) (P .one) ∙ rw (P .counts, P .before),
     )
 
     offset-agrees : placementSignal t k < signalCount t → placementFrame t k < frameCount t → (array : Bool)
@@ -230,8 +236,14 @@ module _ (t : List ℕ) (k placed : ℕ) (before : Bool) (last occupied : List �
             | no d ↦ P .one j (omega arith)
           ]
 
+      lasts-more : LastMarks t (k + 1) (set last frameRead (signalRead + 1))
+      lasts-more = rw (are .0, are .1) (last-marked t k last (P .lasts) (omega (arith, are, placed-right .below)))
+
+      counts-more : signalRead + 1 ≡ counted (placementSignal t) (k + 1)
+      counts-more = rw (are .0) (sym (counted-next (placementSignal t) k))
+
       more : (r : ℕ) → ((j : ℕ) → bit r j ≡ (bit (getD occupied frameRead 0) j || inside offsetRead widthRead j))
-          → Passed t (k + 1) (signalRead + 1) (published t frameRead) (set last frameRead (signalRead + 1)) (set occupied frameRead r)
+          → Passed t (k + 1) (signalRead + 1) frameRead (set last frameRead (signalRead + 1)) (set occupied frameRead r)
       unfolding placementColumns placementWidth
       more r put = record {
         within = omega (arith, turn .more);
@@ -239,9 +251,14 @@ module _ (t : List ℕ) (k placed : ℕ) (before : Bool) (last occupied : List �
             rw (are .1)
             (bits-marked t k occupied (P .bits) (omega (arith, are, rw (are .0) at (placed-right .fits))) (omega (arith, are, placed-right .below)) r
             (λ j. rw (are .0, are .1, are .2) at (put j)));
-        lasts = rw (are .0, are .1) (last-marked t k last (P .lasts) (omega (arith, are, placed-right .below)));
-        counts = rw (are .0) (sym (counted-next (placementSignal t) k));
-        publisher = rw (are .1) (sym (publisher-next t k));
+        lasts = lasts-more;
+        counts = counts-more;
+        before = are .1 ∙ sym (frame-next t k);
+        there = record {
+          signals = omega (arith, placed-right .signal-there);
+          frame = λ _. placed-right .frame-there;
+          marks = λ f. omega (arith, lasts-more .1 f, last-high t (k + 1) (up-here up-right) (k + 1) f (omega arith), counts-more);
+        };
         up = up-here up-right;
         one = one-more;
         left =
@@ -254,8 +271,8 @@ module _ (t : List ℕ) (k placed : ℕ) (before : Bool) (last occupied : List �
         pub free-read : ((1 ≤ width) × (w .offset + width ≤ 64)) × (hits marks (w .offset) width ≡ false)
         free-read = rw (eo, ew, read .signal-is, read .frame-is, read .offset-is) ((placed-right .wide, placed-right .fits), placed-right .free)
 
-        pub passes : (publishes : Bool) → publishes ≡ published t (w .frame) → (r : ℕ) → ((j : ℕ) → bit r j ≡ (bit marks j || inside (w .offset) width j))
-            → Passed t (k + 1) (w .signal + 1) publishes (set last (w .frame) (w .signal + 1)) (set occupied (w .frame) r)
-        passes publishes ep r put =
-            rw (ep, read .signal-is, read .frame-is)
+        pub passes : (r : ℕ) → ((j : ℕ) → bit r j ≡ (bit marks j || inside (w .offset) width j))
+            → Passed t (k + 1) (w .signal + 1) (w .frame) (set last (w .frame) (w .signal + 1)) (set occupied (w .frame) r)
+        passes r put =
+            rw (read .signal-is, read .frame-is)
             (more r (λ j. rw (eo, ew, read .signal-is, read .frame-is, read .offset-is) at (put j)))

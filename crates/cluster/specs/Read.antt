@@ -1,7 +1,7 @@
 -- What the steps of the check read and compute; only private contracts cite this.
 use Prim.Native.Nat.{ℕ, suc, _+_, _*_, _<_, _≤_}
 use mathlib.Core.Path.{_≡_}
-use mathlib.Core.Bool.{Bool, true, not, cond, _&&_, Bool·beq}
+use mathlib.Core.Bool.{Bool, true, false, not, cond, _&&_, Bool·beq}
 use mathlib.Core.List.{List, [], _∷_}
 use lib.Dec.{ltb, eqb}
 use lib.ListN.{length, getD}
@@ -11,7 +11,7 @@ use Rattle.cluster.specs.declared.placements.Before.{Before}
 use Rattle.cluster.specs.declared.placements.Words as placement
 use Rattle.cluster.specs.declared.signals.Words as signal
 use Rattle.cluster.specs.Table.{mostFrames, mostSignals, word, frameCount, frameLength, published, signalCount, signalWidth, isArray, placementAt}
-use Rattle.cluster.specs.Columns.{widthRight, follows, placementColumns}
+use Rattle.cluster.specs.Columns.{widthRight, follows, placementColumns, memberColumns}
 use Rattle.cluster.specs.Places.{anyBelow}
 
 -- the word at a position, and 65536, which no column takes, where it is missing
@@ -27,7 +27,7 @@ leading (right ∷ rest) = cond right (suc (leading rest)) 0
 unfoldable pub hits : ℕ → ℕ → ℕ → Bool
 hits bits offset width = anyBelow width (λ k. bit bits (offset + k))
 
--- the header, the frames and the signals are there and right, as far as the placements go by them
+-- the header, the frames and the signals are there and right, as far as the records behind them go by them
 pub record RecordsBefore (t : List ℕ) : Type 0 where
   pub all : placementAt t 0 ≤ length t
   pub frames : frameCount t ≤ mostFrames
@@ -35,16 +35,29 @@ pub record RecordsBefore (t : List ℕ) : Type 0 where
   pub short : (f : ℕ) → f < frameCount t → frameLength t f ≤ 8
   pub widths : (s : ℕ) → s < signalCount t → widthRight (isArray t s) (signalWidth t s) ≡ true
 
+-- what is known of the placements before a placement: their signals and the frame of the last one are there, and no frame is marked with a later signal
+pub record PlacedBefore (t last : List ℕ) (x : Before) : Type 0 where
+  pub signals : x .placed ≤ signalCount t
+  pub frame : 0 < x .placed → x .frame < frameCount t
+  pub marks : (f : ℕ) → getD last f 0 ≤ x .placed
+
+-- a placement of signal s in frame f is of the same signal as the one before, which is in a frame of the other publisher
+abbrev pub mixes : List ℕ → Before → ℕ → ℕ → Bool
+mixes t x s f = eqb (s + 1) (x .placed) && not (Bool·beq (published t (x .frame)) (published t f))
+
 -- the columns of a placement's record as it was read, with the marks: which bits of each frame are occupied, and the signal placed in it last (plus
 -- one); and with what is known of the placements before
 abbrev pub placementSeen : List ℕ → List ℕ → List ℕ → Before → placement.Words → List Bool
 placementSeen t occupied last x w =
     placementColumns (signalCount t) (frameCount t) (follows (x .placed) (w .signal))
-    (eqb (getD last (w .frame) 0) (w .signal + 1))
-    (eqb (w .signal + 1) (x .placed) && not (Bool·beq (x .before) (published t (w .frame))))
+    (eqb (getD last (w .frame) 0) (w .signal + 1)) (mixes t x (w .signal) (w .frame))
     (isArray t (w .signal)) (8 * frameLength t (w .frame)) (ltb (8 * frameLength t (w .frame)) (w .offset + signalWidth t (w .signal)))
     (hits (getD occupied (w .frame) 0) (w .offset) (signalWidth t (w .signal)))
     (w .signal) (w .frame) (w .offset)
+
+-- the columns of a member's record as it was read, with the marks of the frames in a list
+abbrev pub memberSeen : List ℕ → List Bool → Bool → ℕ → List Bool
+memberSeen t listed up f = memberColumns (frameCount t) up (published t f) (getD listed f false) f
 
 -- the words of a signal's, a placement's and an entry's record
 pub record SignalRead (t : List ℕ) (at : ℕ) (r : signal.Words) : Type 0 where

@@ -49,7 +49,7 @@ pub fn flags(t: &[u16], f: u16) -> u16
 pub fn published(t: &[u16], f: u16) -> bool
     ensures { λ r. ⌜ r ≡ publishedOf (now (t .entry)) f ⌝ }
 {
-    publishes(t, f as usize)
+    flags(t, f) % 2 == 1
 }
 
 // Whether a frame has the classic checksum.
@@ -70,15 +70,7 @@ pub fn model(t: &[u16], f: u16) -> Model
     }
 }
 
-// Whether the master publishes a frame, of which the number may be that of a missing word.
-pub(crate) fn publishes(t: &[u16], f: usize) -> bool
-    requires { ⌜ f ≤ 65536 ⌝ }
-    ensures { λ r. ⌜ r ≡ publishedOf (now (t .entry)) f ⌝ }
-{
-    word(t, frame_at(f) + 2) % 2 == 1
-}
-
-// What a frame says of the placements in it: how many bits it has, and whether the master publishes it.
+// What a frame says to the records that name it: how many bits it has, and whether the master publishes it.
 pub(crate) struct Room {
     pub(crate) bits: usize,
     pub(crate) published: bool,

@@ -19,7 +19,7 @@ pub(crate) fn are_free(bits: u64, offset: usize, width: usize) -> bool
     requires { ⌜ (1 ≤ width) × (offset + width ≤ 64) ⌝ }
     ensures { λ r. ⌜ r ≡ not (hits bits offset width) ⌝ }
 {
-    (bits >> (offset as u32)) & ones(width) == 0
+    bits & (ones(width) << (offset as u32)) == 0
 }
 
 // The occupied bits with those from an offset on, which are free.

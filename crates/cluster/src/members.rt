@@ -3,7 +3,6 @@ use crate::Limits;
 use crate::Verdict;
 use crate::fault;
 use crate::frames;
-use crate::marks::is_marked;
 use crate::table::Layout;
 use crate::table::due;
 use crate::table::follows;
@@ -11,12 +10,12 @@ use crate::table::member_at;
 use crate::table::word;
 ghost use mathlib.Core.Path.{_≡_};
 ghost use Prim.Native.Nat.{_≤_};
+ghost use lib.ListN.{length};
 ghost use Rattle.cluster.specs.Check.{memberFaults};
-ghost use Rattle.cluster.specs.Columns.{memberColumns};
 ghost use Rattle.cluster.specs.Lists.{members, nextMember, isOneOf, memberOf};
-ghost use Rattle.cluster.specs.Read.{leading};
-ghost use Rattle.cluster.specs.Table.{mostFrames, mostSignals, mostMembers, mostPlacements};
-ghost use Rattle.cluster.specs.Table.{frameCount, signalCount, memberCount, placementCount, memberList, memberFrame, listCount};
+ghost use Rattle.cluster.specs.Read.{RecordsBefore, leading, memberSeen};
+ghost use Rattle.cluster.specs.Table.{mostFrames, mostMembers, mostPlacements, memberCount, placementCount};
+ghost use Rattle.cluster.specs.Table.{memberList, memberFrame, listCount};
 
 // How many members there are, in all lists together.
 pub fn count(t: &[u16]) -> u16
@@ -99,7 +98,7 @@ pub fn of_frame(t: &[u16], f: u16) -> u16
 
 // Checks the members' records; the frames in a list so far are marked.
 pub(crate) fn judge(t: &[u16]) -> Verdict
-    requires { ⌜ (frameCount (now t) ≤ mostFrames) × (signalCount (now t) ≤ mostSignals) × (memberCount (now t) ≤ mostMembers) × (placementCount (now t) ≤ mostPlacements) ⌝ }
+    requires { ⌜ RecordsBefore (now t) × (memberCount (now t) ≤ mostMembers) × (placementCount (now t) ≤ mostPlacements) ⌝ }
     ensures { λ r. ⌜ r ≡ memberFaults (now (t .entry)) ⌝ }
 {
     let mut listed = [false; Limits::FRAMES];
@@ -111,13 +110,7 @@ pub(crate) fn judge(t: &[u16]) -> Verdict
         let at = first + Layout::MEMBER * m;
         let list = due(t, at);
         let f = due(t, at + 1);
-        let right = right_words(
-            frames::count(t) as usize,
-            follows(lists, list),
-            frames::publishes(t, f),
-            is_marked(&listed, f),
-            f,
-        );
+        let right = right_words(t, &listed, follows(lists, list), f);
         if right < Layout::MEMBER {
             return fault(at + right);
         }
@@ -128,18 +121,20 @@ pub(crate) fn judge(t: &[u16]) -> Verdict
     Verdict::Accepted
 }
 
-// How many words of a member's record are right before the first that is not.
-fn right_words(frames: usize, up: bool, published: bool, listed: bool, f: usize) -> usize
-    ensures { λ r. ⌜ r ≡ leading (memberColumns frames up published listed f) ⌝ }
+// How many words of a member's record are right before the first that is not; `up` says that its list number follows.
+fn right_words(t: &[u16], listed: &[bool], up: bool, f: usize) -> usize
+    requires { ⌜ RecordsBefore (now t) × (length (now listed) ≡ mostFrames) ⌝ }
+    ensures { λ r. ⌜ r ≡ leading (memberSeen (now (t .entry)) (now (listed .entry)) up f) ⌝ }
 {
     if !up {
         return 0;
     }
-    if frames <= f {
+    if frames::count(t) as usize <= f {
         return 1;
     }
-    if !published {
+    if listed[f] {
         return 1;
     }
-    if listed { 1 } else { 2 }
+    let room = frames::room_of(t, f);
+    if room.published { 2 } else { 1 }
 }

@@ -3,25 +3,25 @@ use crate::Limits;
 use crate::Verdict;
 use crate::fault;
 use crate::frames;
+use crate::frames::Room;
 use crate::marks::are_free;
 use crate::marks::with_bits;
 use crate::signals;
 use crate::signals::Shape;
 use crate::table::Layout;
 use crate::table::due;
-use crate::table::follows;
 use crate::table::placement_at;
 use crate::table::word;
 ghost use mathlib.Core.Path.{_≡_};
-ghost use mathlib.Core.Bool.{not, _&&_, Bool·beq};
-ghost use Prim.Native.Nat.{_+_, _<_, _≤_};
-ghost use lib.ListN.{length};
+ghost use mathlib.Core.Bool.{true, cond};
+ghost use Prim.Native.Nat.{_+_, _%_, _<_, _≤_};
+ghost use lib.ListN.{length, getD};
 ghost use lib.Dec.{ltb, eqb};
 ghost use Rattle.cluster.specs.Check.{placementFaults, unplaced as unplacedOf};
-ghost use Rattle.cluster.specs.Columns.{offsetRight, placementOffsetRight};
+ghost use Rattle.cluster.specs.Columns.{follows, placementSignalRight, placementFrameRight, placementOffsetRight};
 ghost use Rattle.cluster.specs.Places.{placeOf};
-ghost use Rattle.cluster.specs.Read.{RecordsBefore, PlacementRead, leading, hits, placementSeen};
-ghost use Rattle.cluster.specs.Table.{mostFrames, mostPlacements};
+ghost use Rattle.cluster.specs.Read.{RecordsBefore, PlacedBefore, PlacementRead, leading, hits, mixes, placementSeen};
+ghost use Rattle.cluster.specs.Table.{mostFrames, mostPlacements, frameCount, signalCount};
 ghost use Rattle.cluster.specs.Table.{placementCount, placementSignal, placementFrame, placementOffset, placedSignals};
 ghost use Rattle.cluster.specs.Values.{firstPlacement};
 
@@ -106,25 +106,23 @@ pub(crate) fn judge(t: &[u16]) -> Verdict
     let mut occupied = [0u64; Limits::FRAMES];
     let mut last = [0usize; Limits::FRAMES];
     let first = placement_at(t, 0);
-    let n = count(t) as usize;
+    let end = first + Layout::PLACEMENT * (count(t) as usize);
     let mut placed: usize = 0;
-    let mut before = false;
-    let mut k: usize = 0;
-    while k < n {
-        let at = first + Layout::PLACEMENT * k;
+    let mut frame: usize = 0;
+    let mut at = first;
+    while at < end {
         let words = read(t, at);
         let f = words.frame;
-        let right = right_words(t, &occupied, &last, Before { placed, before }, words);
+        let right = right_words(t, &occupied, &last, Before { placed, frame }, words);
         if right < Layout::PLACEMENT {
             return fault(at + right);
         }
         let shape = signals::shape_of(t, words.signal);
-        let room = frames::room_of(t, f);
         occupied[f] = with_bits(occupied[f], words.offset, shape.width);
         last[f] = words.signal + 1;
         placed = words.signal + 1;
-        before = room.published;
-        k += 1;
+        frame = f;
+        at += Layout::PLACEMENT;
     }
     Verdict::Accepted
 }
@@ -136,10 +134,10 @@ struct Words {
     offset: usize,
 }
 
-// What is known of the placements before: how many signals they are of, and whether the frame of the last one is published.
+// What is known of the placements before: how many signals they are of, and the frame of the last one.
 struct Before {
     placed: usize,
-    before: bool,
+    frame: usize,
 }
 
 // Reads a placement's record; a missing word reads as 65536. One test is enough where the whole record is there.
@@ -163,68 +161,80 @@ fn read(t: &[u16], at: usize) -> Words
 
 // How many words of a placement's record are right before the first that is not; what its signal and its frame say is read where they are there.
 fn right_words(t: &[u16], occupied: &[u64], last: &[usize], known: Before, words: Words) -> usize
-    requires { ⌜ RecordsBefore (now t) × (length (now occupied) ≡ mostFrames) × (length (now last) ≡ mostFrames) ⌝ }
+    requires { ⌜ RecordsBefore (now t) × PlacedBefore (now t) (now last) known ⌝ }
+    requires { ⌜ (length (now occupied) ≡ mostFrames) × (length (now last) ≡ mostFrames) ⌝ }
     requires { ⌜ (words .signal ≤ 65536) × (words .offset ≤ 65536) ⌝ }
     ensures { λ r. ⌜ r ≡ leading (placementSeen (now (t .entry)) (now (occupied .entry)) (now (last .entry)) known words) ⌝ }
 {
     let s = words.signal;
     let f = words.frame;
-    if !follows(known.placed, s) {
+    if !signal_right(t, known.placed, s) {
         return 0;
     }
-    if signals::count(t) as usize <= s {
-        return 0;
-    }
-    if frames::count(t) as usize <= f {
-        return 1;
-    }
-    if last[f] == s + 1 {
-        return 1;
-    }
-    let room = frames::room_of(t, f);
-    if mixes(s + 1, known.placed, known.before, room.published) {
+    if !frame_right(t, last, known, s, f) {
         return 1;
     }
     let shape = signals::shape_of(t, s);
-    if offset_free(shape, room.bits, occupied[f], words.offset) {
+    let room = frames::room_of(t, f);
+    if offset_free(shape, room, occupied[f], words.offset) {
         3
     } else {
         2
     }
 }
 
-// Whether a placement is of the same signal as the one before, in a frame of the other publisher.
-fn mixes(signal: usize, placed: usize, before: bool, published: bool) -> bool
-    ensures { λ r. ⌜ r ≡ (eqb signal placed && not (Bool·beq before published)) ⌝ }
+// Whether a placement may be of a signal: the next one, if it is there, or that of the placement before.
+fn signal_right(t: &[u16], placed: usize, s: usize) -> bool
+    requires { ⌜ (placed ≤ signalCount (now t)) × (s ≤ 65536) ⌝ }
+    ensures { λ r. ⌜ r ≡ placementSignalRight (signalCount (now (t .entry))) (follows placed s) s ⌝ }
 {
-    if signal != placed {
+    if s == placed {
+        return s < signals::count(t) as usize;
+    }
+    s + 1 == placed
+}
+
+// Whether a placement of a signal may be in a frame: it is there and, where the signal has placements, none of them is in it and it has their publisher.
+fn frame_right(t: &[u16], last: &[usize], known: Before, s: usize, f: usize) -> bool
+    requires { ⌜ RecordsBefore (now t) × PlacedBefore (now t) (now last) known × (length (now last) ≡ mostFrames) ⌝ }
+    requires { ⌜ (s ≤ 65536) × (follows (known .placed) s ≡ true) ⌝ }
+    ensures { λ r. ⌜
+        r ≡ placementFrameRight (frameCount (now (t .entry))) (eqb (getD (now (last .entry)) f 0) (s + 1)) (mixes (now (t .entry)) known s f) f
+        ⌝ }
+{
+    if frames::count(t) as usize <= f {
         return false;
     }
-    before != published
+    if s == known.placed {
+        return true;
+    }
+    if last[f] == s + 1 {
+        return false;
+    }
+    let before = frames::room_of(t, known.frame);
+    let room = frames::room_of(t, f);
+    before.published == room.published
 }
 
 // Whether an offset is right, and the signal's bits from there on are inside the frame and free.
-fn offset_free(shape: Shape, bits: usize, occupied: u64, offset: usize) -> bool
-    requires { ⌜ (offset ≤ 65536) × (shape .width ≤ 65535) × (1 ≤ shape .width) × (bits ≤ 64) ⌝ }
+fn offset_free(shape: Shape, room: Room, occupied: u64, offset: usize) -> bool
+    requires { ⌜ (offset ≤ 65536) × (1 ≤ shape .width) × (shape .width ≤ 65535) × (room .bits ≤ 64) ⌝ }
     ensures { λ r. ⌜
-        r ≡ placementOffsetRight (shape .array) bits (ltb bits (offset + shape .width)) (hits occupied offset (shape .width)) offset
+        r ≡ placementOffsetRight (shape .array) (room .bits) (ltb (room .bits) (offset + shape .width)) (hits occupied offset (shape .width)) offset
         ⌝ }
 {
-    if !offset_right(shape.array, bits, offset) {
+    if room.bits < offset + shape.width {
         return false;
     }
-    if bits < offset + shape.width {
+    if !on_border(shape.array, offset) {
         return false;
     }
     are_free(occupied, offset, shape.width)
 }
 
-// Whether an offset is below the frame's bits, and at a byte border for an array.
-fn offset_right(array: bool, bits: usize, offset: usize) -> bool
-    ensures { λ r. ⌜ r ≡ offsetRight array bits offset ⌝ }
+// Whether an offset is at a byte border, where it is that of an array.
+fn on_border(array: bool, offset: usize) -> bool
+    ensures { λ r. ⌜ r ≡ cond array (eqb (offset % 8) 0) true ⌝ }
 {
-    if bits <= offset {
-        return false;
-    }
     if array { offset % 8 == 0 } else { true }
 }

@@ -3,6 +3,7 @@ use Prim.Native.Nat.{ℕ}
 use mathlib.Core.Path.{_≡_, sym, _∙_}
 use mathlib.Core.List.{List}
 use Rattle.cluster.specs.Check.{headerFaults, frameFaults, signalFaults, surplus, judged}
+use Rattle.cluster.specs.Read.{RecordsBefore}
 use Rattle.cluster.specs.declared.Verdict.the-variants.{Accepted}
 use Rattle.cluster.proofs.Sections.{fromFrames, fromSignals, fromPlacements, fromUnplaced, fromMembers, fromEntries, judged-sections}
 use Rattle.cluster.proofs.Sections.{header-passed, records-passed}
@@ -99,10 +100,12 @@ returns-3 c =
     let refused = sym (c .before .before .before .judge3 .ensures) ∙ c .before .refusal3 .given .1 in
     check-told _ _ (rw (signals-left (c .before .before .before .before), refused))
 
+-- the records that those behind the signals name
+records-there : (c : tie.After-enum-told3) → RecordsBefore (table3 c)
+records-there c = records-passed (table3 c) (header-right (header3 c)) (frames-right (c .before .before .before)) (signals-right c)
+
 judge-requires-4 : tie.Need-judge-requires-4
-judge-requires-4 c κs =
-    let header = header-right (header3 c) in
-    (header-passed (table3 c) header .4, records-passed (table3 c) header (frames-right (c .before .before .before)) (signals-right c))
+judge-requires-4 c κs = (header-passed (table3 c) (header-right (header3 c)) .4, records-there c)
 
 returns-4 : tie.Need-returns-4
 returns-4 c =
@@ -117,7 +120,7 @@ returns-5 c =
 judge-requires-5 : tie.Need-judge-requires-5
 judge-requires-5 c κs =
     let counts = header-passed (table5 c) (header-right (header5 c)) in
-    (counts .0, counts .1, counts .2, counts .4)
+    (records-there (c .before .before .before .before .before .before), counts .2, counts .4)
 
 returns-6 : tie.Need-returns-6
 returns-6 c =

@@ -25,45 +25,41 @@ abbrev Judged : Type 0
 Judged = tie.After-right-words Inv-loop μ-loop
 
 abbrev table : Judged → List ℕ
-table c = c .before .before .before .before .before .before .before .before .before .before .before .before .before .args .t .now
+table c = c .before .before .before .before .before .before .before .before .before .before .args .t .now
 
 abbrev member : Judged → ℕ
-member c = c .before .before .before .before .before .before .before .before .before .loop .m
+member c = c .before .before .before .before .before .before .loop .m
 
 abbrev lists : Judged → ℕ
-lists c = c .before .before .before .before .before .before .before .before .before .loop .lists
+lists c = c .before .before .before .before .before .before .loop .lists
 
 abbrev marks : Judged → List Bool
-marks c = c .before .before .before .before .before .before .before .before .before .loop .listed
+marks c = c .before .before .before .before .before .before .loop .listed
 
 passed : (c : Judged) → Passed (table c) (member c) (lists c) (marks c)
-passed c = c .before .before .before .before .before .before .before .before .before .loop .inv
+passed c = c .before .before .before .before .before .before .loop .inv
 
-here : (c : Judged) → c .before .before .before .before .before .before .before .before .before .before .before .member-at .result + memberWords * member c
-    ≡ memberAt (table c) (member c)
-here c = omega (arith, c .before .before .before .before .before .before .before .before .before .before .before .member-at .ensures)
+here : (c : Judged) → c .before .before .before .before .before .before .before .before .member-at .result + memberWords * member c ≡ memberAt (table c) (member c)
+here c = omega (arith, c .before .before .before .before .before .before .before .before .member-at .ensures)
 
-list-is : (c : Judged) → c .before .before .before .before .before .before .before .due .result ≡ due (table c) (memberAt (table c) (member c))
-list-is c = rw (here c) at (c .before .before .before .before .before .before .before .due .ensures .0)
+list-is : (c : Judged) → c .before .before .before .before .due .result ≡ due (table c) (memberAt (table c) (member c))
+list-is c = rw (here c) at (c .before .before .before .before .due .ensures .0)
 
-frame-is : (c : Judged) → c .before .before .before .before .before .before .due2 .result ≡ due (table c) (memberAt (table c) (member c) + 1)
-frame-is c = rw (here c) at (c .before .before .before .before .before .before .due2 .ensures .0)
+frame-is : (c : Judged) → c .before .before .before .due2 .result ≡ due (table c) (memberAt (table c) (member c) + 1)
+frame-is c = rw (here c) at (c .before .before .before .due2 .ensures .0)
 
 turn : (c : Judged) → Turn (table c) (member c) (lists c) (marks c)
 turn c =
-    let known = c .before .before .before .before .before .before .before .before .before .before .before .before .before .pre in
-    let more = c .before .before .before .before .before .before .before .before .loop-test .taken in
-    let count = c .before .before .before .before .before .before .before .before .before .before .count .ensures in
-    (passed c, omega arith, known .0, known .2)
+    let known = c .before .before .before .before .before .before .before .before .before .before .pre in
+    (passed c, omega (arith, c .before .before .before .before .before .loop-test .taken, c .before .before .before .before .before .before .before .count .ensures), known .0 .frames, known .1)
 
 seen : (c : Judged) → c .right-words .result ≡ leading (memberRead (table c) (member c) (lists c) (marks c))
 seen c =
-    let count = c .before .before .before .before .before .count2 .ensures in
-    let up = c .before .before .before .before .follows .ensures in
-    let publishes = c .before .before .before .publishes .ensures in
-    let mark = c .before .is-marked .ensures in
     c .right-words .ensures
-    ∙ ap leading (seen-read (table c) (member c) (lists c) (marks c) _ _ _ _ _ _ (list-is c) (frame-is c) count up publishes mark)
+    ∙ ap leading (seen-read (table c) (member c) (lists c) (marks c) _ _ _ (list-is c) (frame-is c) (c .before .follows .ensures))
+
+right-words-requires : tie.Need-right-words-requires Inv-loop μ-loop
+right-words-requires c κs = (c .before .before .before .before .before .before .before .before .before .pre .0, c .before .before .before .before .before .loop .inv .1 .0)
 
 loop-holds : tie.Need-loop-holds Inv-loop μ-loop
 loop-holds c = none-passed (c .before .before .before .args .t .now)
@@ -96,7 +92,6 @@ pub judge-spec : {M : Type 1} → statement M
 judge-spec =
     tie.close
     (tie.spec Inv-loop μ-loop (λ c κs. search needs) (λ c κs. search needs) (λ c. search needs) loop-holds (λ c. search needs)
-    (λ c. search needs) (λ c κs. search needs) (λ c. search needs) (λ c κs. search needs) (λ c κs. search needs) (λ c. search needs)
-    (λ c κs. search needs) (λ c κs. search needs) (λ c. search needs) (λ c κs. search needs) (λ c κs. search needs)
-    (λ c. search needs) (λ c κs. search needs) returns
+    (λ c. search needs) (λ c κs. search needs) (λ c. search needs) (λ c κs. search needs) (λ c. search needs) (λ c κs. search needs)
+    right-words-requires (λ c. search needs) (λ c κs. search needs) returns
     array-write-listed (λ c. search needs) (λ c. search needs) (λ c. search needs) loop-again returns-2)

@@ -1,8 +1,7 @@
--- `cluster::placements::judge` meets its contract. The invariant: the placements before are passed, with their marks.
+-- `cluster::placements::judge` meets its contract. The invariant: the position is that of some placement, and those before it are passed, with their marks.
 use borrow.Author.Needs.{needs}
 use Prim.Native.Nat.{ℕ, _+_, _-_, _*_, _≤_}
 use mathlib.Core.Path.{_≡_, refl, _∙_, ap}
-use mathlib.Core.Bool.{Bool}
 use mathlib.Core.List.{List}
 use native.Mathlib.Omega.{arith}
 use Rattle.cluster.specs.Columns.{placementColumns}
@@ -13,10 +12,11 @@ use Rattle.cluster.proofs.placements.judge.Statement.{statement}
 use Rattle.cluster.proofs.placements.judge.Tie as tie
 
 abbrev Inv-loop : tie.InvT-loop
-Inv-loop t occupied₀ last₀ first n placed₀ before₀ k₀ occupied last placed before k = Passed t k placed before last occupied
+Inv-loop t occupied₀ last₀ first end placed₀ frame₀ at₀ occupied last placed frame at =
+    (k : ℕ) × (at ≡ placementAt t k) × Passed t k placed frame last occupied
 
 abbrev μ-loop : tie.MeasureT-loop
-μ-loop t occupied₀ last₀ first n placed₀ before₀ k₀ occupied last placed before k = placementCount t - k
+μ-loop t occupied₀ last₀ first end placed₀ frame₀ at₀ occupied last placed frame at = end - at
 
 -- the table, the placement and the marks where a record was read
 
@@ -27,13 +27,13 @@ abbrev table : Seen → List ℕ
 table c = c .before .before .before .before .before .before .args .t .now
 
 abbrev placement : Seen → ℕ
-placement c = c .before .before .loop .k
+placement c = c .before .before .loop .inv .0
 
 abbrev placed : Seen → ℕ
 placed c = c .before .before .loop .placed
 
-abbrev before : Seen → Bool
-before c = c .before .before .loop .before
+abbrev frame : Seen → ℕ
+frame c = c .before .before .loop .frame
 
 abbrev lasts : Seen → List ℕ
 lasts c = c .before .before .loop .last
@@ -41,15 +41,17 @@ lasts c = c .before .before .loop .last
 abbrev bits : Seen → List ℕ
 bits c = c .before .before .loop .occupied
 
-turn : (c : Seen) → Turn (table c) (placement c) (placed c) (before c) (lasts c) (bits c)
-turn c = record {
-  passed = c .before .before .loop .inv;
-  more = omega (arith, c .before .loop-test .taken, c .before .before .before .count .ensures);
-  records = c .before .before .before .before .before .before .pre .1;
-}
+here : (c : Seen) → c .before .before .loop .at ≡ placementAt (table c) (placement c)
+here c = c .before .before .loop .inv .1
 
-here : (c : Seen) → c .before .before .before .before .placement-at .result + placementWords * placement c ≡ placementAt (table c) (placement c)
-here c = omega (arith, c .before .before .before .before .placement-at .ensures)
+turn : (c : Seen) → Turn (table c) (placement c) (placed c) (frame c) (lasts c) (bits c)
+turn c =
+    let start = c .before .before .before in
+    record {
+      passed = c .before .before .loop .inv .2;
+      more = omega (arith, here c, c .before .loop-test .taken, start .count .ensures, start .before .placement-at .ensures);
+      records = start .before .before .before .pre .1;
+    }
 
 read-at : (c : Seen) → PlacementRead (table c) (placementAt (table c) (placement c)) (c .read .result)
 read-at c = rw (here c) at (c .read .ensures)
@@ -63,25 +65,30 @@ abbrev read : Judged → Seen
 read c = c .before .before .before
 
 found : (c : Judged)
-    → c .right-words .result ≡ leading (placementRead (table (read c)) (placement (read c)) (placed (read c)) (before (read c)) (lasts (read c)) (bits (read c)))
+    → c .right-words .result ≡ leading (placementRead (table (read c)) (placement (read c)) (placed (read c)) (frame (read c)) (lasts (read c)) (bits (read c)))
 found c =
     c .right-words .ensures
-    ∙ ap leading (seen-read (table (read c)) (placement (read c)) (placed (read c)) (before (read c)) (lasts (read c)) (bits (read c)) _ (read-at (read c)))
+    ∙ ap leading (seen-read (table (read c)) (placement (read c)) (placed (read c)) (frame (read c)) (lasts (read c)) (bits (read c)) _ (read-at (read c)))
 
 place : (c : Judged) → placementWords ≤ c .right-words .result
-    → Placed (table (read c)) (placement (read c)) (placed (read c)) (before (read c)) (lasts (read c)) (bits (read c))
+    → Placed (table (read c)) (placement (read c)) (placed (read c)) (frame (read c)) (lasts (read c)) (bits (read c))
 place c right =
-    placed-right (table (read c)) (placement (read c)) (placed (read c)) (before (read c)) (lasts (read c)) (bits (read c)) (turn (read c))
+    placed-right (table (read c)) (placement (read c)) (placed (read c)) (frame (read c)) (lasts (read c)) (bits (read c)) (turn (read c))
     (omega (arith, found c))
 
 loop-holds : tie.Need-loop-holds Inv-loop μ-loop
-loop-holds c = none-passed (c .before .before .before .args .t .now)
+loop-holds c = (0, omega (arith, c .before .placement-at .ensures), none-passed (c .before .before .before .args .t .now))
+
+read-requires : tie.Need-read-requires Inv-loop μ-loop
+read-requires c κs =
+    let start = c .before .before in
+    omega (arith, c .loop-test .taken, start .count .ensures, start .before .placement-at .ensures, start .before .before .before .pre)
 
 right-words-requires : tie.Need-right-words-requires Inv-loop μ-loop
 right-words-requires c κs =
     let d : Seen = c .before .before in (
-      (turn d .records, turn d .passed .bits .0, turn d .passed .lasts .0),
-      (d .read .ensures .signal-high, d .read .ensures .offset-high),
+      (turn d .records, turn d .passed .there),
+      ((turn d .passed .bits .0, turn d .passed .lasts .0), (d .read .ensures .signal-high, d .read .ensures .offset-high)),
     )
 
 returns : tie.Need-returns Inv-loop μ-loop
@@ -90,7 +97,7 @@ returns c =
     let d : Judged = c .before .before in
     let e = read d in
     let right = found d in
-    c .fault .ensures ∙ stops (table e) (placement e) (placed e) (before e) (lasts e) (bits e) (turn e) (omega arith) _ (omega (arith, here e))
+    c .fault .ensures ∙ stops (table e) (placement e) (placed e) (frame e) (lasts e) (bits e) (turn e) (omega arith) _ (omega (arith, here e))
 
 shape-of-requires : tie.Need-shape-of-requires Inv-loop μ-loop
 shape-of-requires c κs =
@@ -98,68 +105,68 @@ shape-of-requires c κs =
     let e = read d in
     (e .read .ensures .signal-high, omega (arith, read-at e .signal-is, place d (omega arith) .signal-there, turn e .records .all))
 
-room-of-requires : tie.Need-room-of-requires Inv-loop μ-loop
-room-of-requires c κs =
-    let d : Judged = c .before .before in
-    let e = read d in
-    (e .read .ensures .frame-high, omega (arith, read-at e .frame-is, place d (omega arith) .frame-there, turn e .records .all))
-
 array-read-with-bits : tie.Need-array-read-with-bits Inv-loop μ-loop
 array-read-with-bits c =
-    let d : Judged = c .before .before .before in
+    let d : Judged = c .before .before in
     omega (arith, read-at (read d) .frame-is, place d (omega arith) .below, turn (read d) .passed .bits .0)
 
 mul-with-bits : tie.Need-mul-with-bits Inv-loop μ-loop
 mul-with-bits c =
-    let d : Judged = c .before .before .before in
+    let d : Judged = c .before .before in
     omega (arith, read-at (read d) .frame-is, place d (omega arith) .below)
 
 with-bits-requires : tie.Need-with-bits-requires Inv-loop μ-loop
 with-bits-requires c κs =
-    let d : Judged = c .before .before .before in
+    let d : Judged = c .before .before in
     let e = read d in
     let right = found d in
-    free-read (table e) (placement e) (placed e) (before e) (lasts e) (bits e) (turn e) (omega arith) _ (read-at e) _ _
-    (c .before .shape-of .ensures .1) refl
+    free-read (table e) (placement e) (placed e) (frame e) (lasts e) (bits e) (turn e) (omega arith) _ (read-at e) _ _
+    (c .shape-of .ensures .1) refl
 
 mul-occupied : tie.Need-mul-occupied Inv-loop μ-loop
 mul-occupied c =
-    let d : Judged = c .before .before .before .before in
+    let d : Judged = c .before .before .before in
     omega (arith, read-at (read d) .frame-is, place d (omega arith) .below)
 
 array-write-occupied : tie.Need-array-write-occupied Inv-loop μ-loop
 array-write-occupied c =
-    let d : Judged = c .before .before .before .before in
+    let d : Judged = c .before .before .before in
     omega (arith, read-at (read d) .frame-is, place d (omega arith) .below, turn (read d) .passed .bits .0)
 
 mul-last : tie.Need-mul-last Inv-loop μ-loop
 mul-last c =
-    let d : Judged = c .before .before .before .before .before in
+    let d : Judged = c .before .before .before .before in
     omega (arith, read-at (read d) .frame-is, place d (omega arith) .below)
 
 array-write-last : tie.Need-array-write-last Inv-loop μ-loop
 array-write-last c =
-    let d : Judged = c .before .before .before .before .before in
+    let d : Judged = c .before .before .before .before in
     omega (arith, read-at (read d) .frame-is, place d (omega arith) .below, turn (read d) .passed .lasts .0)
 
 loop-again : tie.Need-loop-again Inv-loop μ-loop
 unfolding placementColumns
 loop-again c =
     let w = c .before .before in
-    let d : Judged = w .before .before .before .before in
+    let d : Judged = w .before .before .before in
     let e = read d in
-    let right = found d in
-    passes (table e) (placement e) (placed e) (before e) (lasts e) (bits e) (turn e) (omega arith) _ (read-at e) _ _
-    (w .before .before .shape-of .ensures .1) refl _ (w .before .room-of .ensures .1) _ (w .with-bits .ensures)
+    let right = found d in (
+      placement e + 1,
+      omega (arith, here e),
+      passes (table e) (placement e) (placed e) (frame e) (lasts e) (bits e) (turn e) (omega arith) _ (read-at e) _ _
+          (w .before .shape-of .ensures .1) refl _ (w .with-bits .ensures),
+    )
 
 returns-2 : tie.Need-returns-2 Inv-loop μ-loop
-returns-2 c = all-passed _ _ _ _ _ _ (c .before .loop .inv) (omega arith)
+returns-2 c =
+    let inv = c .before .loop .inv in
+    let start = c .before .before in
+    all-passed _ (inv .0) _ _ _ _ (inv .2) (omega (arith, inv .1, start .count .ensures, start .before .placement-at .ensures))
 
 pub judge-spec : {M : Type 1} → statement M
 judge-spec =
     tie.close
-    (tie.spec Inv-loop μ-loop (λ c κs. search needs) (λ c κs. search needs) (λ c. search needs) loop-holds (λ c. search needs)
-    (λ c. search needs) (λ c κs. search needs) (λ c. search needs) (λ c. search needs) right-words-requires (λ c. search needs)
-    (λ c κs. search needs) returns shape-of-requires room-of-requires mul-with-bits array-read-with-bits with-bits-requires
+    (tie.spec Inv-loop μ-loop (λ c κs. search needs) (λ c κs. search needs) (λ c. search needs) (λ c. search needs) (λ c. search needs)
+    loop-holds read-requires (λ c. search needs) (λ c. search needs) right-words-requires (λ c. search needs)
+    (λ c κs. search needs) returns shape-of-requires mul-with-bits array-read-with-bits with-bits-requires
     mul-occupied array-write-occupied (λ c. search needs) mul-last array-write-last (λ c. search needs) (λ c. search needs)
     (λ c. search needs) loop-again returns-2)
