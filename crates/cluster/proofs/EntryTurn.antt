@@ -7,6 +7,7 @@ use native.Mathlib.Nat.{sub-zero}
 use native.Mathlib.Omega.{arith}
 use borrow.Author.Tests.{ltb-true, leb-true, eqb-true}
 use lib.Dec.{eqb}
+use lib.ListN.{length}
 use Rattle.cluster.specs.Check.{fault, faults, entryFaults}
 use Rattle.cluster.specs.Columns.{follows, targetRight, entryColumns}
 use Rattle.cluster.specs.Read.{EntryRead, due, leading}
@@ -17,7 +18,7 @@ use Rattle.cluster.specs.declared.Verdict.the-variants.{Accepted}
 use Rattle.cluster.specs.declared.entries.Words.{Words}
 use Rattle.cluster.proofs.Clauses.{within-high}
 use Rattle.cluster.proofs.Counting.{counted-none, counted-next, follows-high}
-use Rattle.cluster.proofs.Scan.{Agrees, leading-all, all-there, halt-record, next-record, no-record}
+use Rattle.cluster.proofs.Scan.{Agrees, cut-short, leading-all, all-there, halt-record, next-record, no-record}
 
 -- a target is below what its kind allows
 target-below : (frames lists kind target : ℕ) → frames ≤ 60 → lists ≤ 65536 → targetRight frames lists kind target ≡ true → target < 65536
@@ -69,9 +70,9 @@ module _ (t : List ℕ) (e schedules : ℕ) where
   entryRead = entryColumns (frameCount t) (listCount t) (follows schedules scheduleRead) kindRead targetRead delayRead
 
   -- what the check computes of the words read is that list
-  pub seen-read : (w : Words) → EntryRead t (entryAt t e) w → (frames lists : ℕ) (up : Bool) → frames ≡ frameCount t → lists ≡ listCount t
-      → up ≡ follows schedules (w .schedule) → entryColumns frames lists up (w .kind) (w .target) (w .delay) ≡ entryRead
-  seen-read w read frames lists up ef el eu = rw (ef, el, eu, read .schedule-is, read .kind-is, read .target-is, read .delay-is)
+  pub seen-read : (w : Words) → EntryRead t (entryAt t e) w → (frames lists : ℕ) → frames ≡ frameCount t → lists ≡ listCount t
+      → entryColumns frames lists (follows schedules (w .schedule)) (w .kind) (w .target) (w .delay) ≡ entryRead
+  seen-read w read frames lists ef el = rw (ef, el, read .schedule-is, read .kind-is, read .target-is, read .delay-is)
 
   module _ (turn : Turn t e schedules) where
     agrees : Agrees t (entryAt t e) 0 entryRead (entryRight t e)
@@ -92,6 +93,11 @@ module _ (t : List ℕ) (e schedules : ℕ) where
         ),
       )),
     )
+
+    -- a record that is cut off
+    pub cut-off : length t < entryAt t e + entryWords → leading entryRead < entryWords
+    unfolding entryColumns
+    cut-off = cut-short t (entryAt t e) entryRead (entryRight t e) agrees (omega arith)
 
     -- a word is not right
     pub stops : leading entryRead < entryWords → (place : ℕ) → entryAt t e + leading entryRead ≡ place → fault place ≡ entryFaults t

@@ -7,6 +7,7 @@ use native.Mathlib.Nat.{sub-zero}
 use native.Mathlib.Omega.{arith}
 use borrow.Author.Tests.{ltb-true, leb-true}
 use lib.Dec.{eqb}
+use lib.ListN.{length}
 use Rattle.cluster.specs.Check.{fault, faults, signalFaults}
 use Rattle.cluster.specs.Columns.{startLimit, signalColumns}
 use Rattle.cluster.specs.Read.{SignalRead, due, leading}
@@ -14,7 +15,7 @@ use Rattle.cluster.specs.Right.{signalRight, records}
 use Rattle.cluster.specs.Table.{signalCount, signalWords, signalAt, signalKind, signalWidth, signalStart}
 use Rattle.cluster.specs.declared.Verdict.the-variants.{Accepted}
 use Rattle.cluster.specs.declared.signals.Words.{Words}
-use Rattle.cluster.proofs.Scan.{Agrees, halt-record, next-record, no-record}
+use Rattle.cluster.proofs.Scan.{Agrees, cut-short, halt-record, next-record, no-record}
 use Rattle.cluster.proofs.Widths.{width-range, start-limit-high}
 
 -- the signals before signal s are passed
@@ -63,6 +64,11 @@ module _ (t : List ℕ) (s : ℕ) where
       ),
     )),
   )
+
+  -- a record that is cut off
+  pub cut-off : length t < signalAt t s + signalWords → leading signalRead < signalWords
+  unfolding signalColumns
+  cut-off = cut-short t (signalAt t s) signalRead (signalRight t s) agrees (omega arith)
 
   module _ (p : Passed t s) (h : s < signalCount t) where
     -- a word is not right

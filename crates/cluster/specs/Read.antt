@@ -18,6 +18,12 @@ use Rattle.cluster.specs.Places.{anyBelow}
 unfoldable pub due : List ℕ → ℕ → ℕ
 due t i = cond (ltb i (length t)) (word t i) 65536
 
+-- r of n records of some words each, from a position on, are there in whole, and the next one is not
+pub record WholeRecords (t : List ℕ) (first words n r : ℕ) : Type 0 where
+  pub within : r ≤ n
+  pub there : (k : ℕ) → k < r → first + words * k + words ≤ length t
+  pub cut : r < n → length t < first + words * r + words
+
 -- how many words are right before the first that is not
 unfoldable pub leading : List Bool → ℕ
 leading [] = 0

@@ -7,11 +7,13 @@ use crate::table::Layout;
 use crate::table::due;
 use crate::table::entry_at;
 use crate::table::follows;
+use crate::table::whole_records;
 use crate::table::word;
 ghost use mathlib.Core.Path.{_≡_};
-ghost use Prim.Native.Nat.{_<_, _≤_};
+ghost use Prim.Native.Nat.{_+_, _<_, _≤_};
+ghost use lib.ListN.{length};
 ghost use Rattle.cluster.specs.Check.{entryFaults};
-ghost use Rattle.cluster.specs.Columns.{targetRight, entryColumns};
+ghost use Rattle.cluster.specs.Columns.{follows as followsOf, targetRight, entryColumns};
 ghost use Rattle.cluster.specs.Lists.{firstEntry, nextEntry};
 ghost use Rattle.cluster.specs.Read.{EntryRead, leading};
 ghost use Rattle.cluster.specs.Table.{mostFrames, mostSignals, mostMembers, mostEntries, mostPlacements};
@@ -96,7 +98,7 @@ pub fn next(t: &[u16], e: u16) -> u16
     first(t, n)
 }
 
-// Checks the entries' records.
+// Checks the entries' records: those that are there in whole, and then one that is cut off.
 pub(crate) fn judge(t: &[u16]) -> Verdict
     requires { ⌜ (frameCount (now t) ≤ mostFrames) × (signalCount (now t) ≤ mostSignals) × (memberCount (now t) ≤ mostMembers) ⌝ }
     requires { ⌜ (entryCount (now t) ≤ mostEntries) × (placementCount (now t) ≤ mostPlacements) ⌝ }
@@ -105,22 +107,23 @@ pub(crate) fn judge(t: &[u16]) -> Verdict
     let lists = members::lists(t);
     let first = entry_at(t, 0);
     let n = count(t) as usize;
+    let whole = whole_records(t, first, Layout::ENTRY, n);
     let mut schedules: usize = 0;
     let mut e: usize = 0;
-    while e < n {
+    while e < whole {
         let at = first + Layout::ENTRY * e;
         let words = read(t, at);
-        let right = right_words(
-            frames::count(t) as usize,
-            lists,
-            follows(schedules, words.schedule),
-            words,
-        );
+        let right = right_words(frames::count(t) as usize, lists, schedules, words);
         if right < Layout::ENTRY {
             return fault(at + right);
         }
         schedules = words.schedule + 1;
         e += 1;
+    }
+    if e < n {
+        let at = first + Layout::ENTRY * e;
+        let right = right_words(frames::count(t) as usize, lists, schedules, read_due(t, at));
+        return fault(at + right);
     }
     Verdict::Accepted
 }
@@ -133,19 +136,24 @@ struct Words {
     delay: usize,
 }
 
-// Reads an entry's record; a missing word reads as 65536. One test is enough where the whole record is there.
+// Reads an entry's record that is there in whole.
 fn read(t: &[u16], at: usize) -> Words
+    requires { ⌜ at + 4 ≤ length (now t) ⌝ }
+    ensures { λ r. ⌜ EntryRead (now (t .entry)) at r ⌝ }
+{
+    Words {
+        schedule: t[at] as usize,
+        kind: t[at + 1] as usize,
+        target: t[at + 2] as usize,
+        delay: t[at + 3] as usize,
+    }
+}
+
+// Reads an entry's record; a missing word reads as 65536.
+fn read_due(t: &[u16], at: usize) -> Words
     requires { ⌜ at < 100000 ⌝ }
     ensures { λ r. ⌜ EntryRead (now (t .entry)) at r ⌝ }
 {
-    if at + 3 < t.len() {
-        return Words {
-            schedule: t[at] as usize,
-            kind: t[at + 1] as usize,
-            target: t[at + 2] as usize,
-            delay: t[at + 3] as usize,
-        };
-    }
     Words {
         schedule: due(t, at),
         kind: due(t, at + 1),
@@ -154,11 +162,12 @@ fn read(t: &[u16], at: usize) -> Words
     }
 }
 
-// How many words of an entry's record are right before the first that is not; `up` says that its schedule number follows.
-fn right_words(frames: usize, lists: usize, up: bool, words: Words) -> usize
-    ensures { λ r. ⌜ r ≡ leading (entryColumns frames lists up (words .kind) (words .target) (words .delay)) ⌝ }
+// How many words of an entry's record are right before the first that is not, behind entries of so many schedules.
+fn right_words(frames: usize, lists: usize, schedules: usize, words: Words) -> usize
+    requires { ⌜ words .schedule ≤ 65536 ⌝ }
+    ensures { λ r. ⌜ r ≡ leading (entryColumns frames lists (followsOf schedules (words .schedule)) (words .kind) (words .target) (words .delay)) ⌝ }
 {
-    if !up {
+    if !follows(schedules, words.schedule) {
         return 0;
     }
     if 3 < words.kind {

@@ -4,6 +4,7 @@ use crate::fault;
 use crate::table::Layout;
 use crate::table::due;
 use crate::table::signal_at;
+use crate::table::whole_records;
 use crate::table::word;
 ghost use mathlib.Core.Path.{_≡_};
 ghost use mathlib.Core.Bool.{true};
@@ -78,21 +79,26 @@ pub(crate) fn shape_of(t: &[u16], s: usize) -> Shape
     }
 }
 
-// Checks the signals' records.
+// Checks the signals' records: those that are there in whole, and then one that is cut off.
 pub(crate) fn judge(t: &[u16]) -> Verdict
     requires { ⌜ (frameCount (now t) ≤ mostFrames) × (signalCount (now t) ≤ mostSignals) ⌝ }
     ensures { λ r. ⌜ r ≡ signalFaults (now (t .entry)) ⌝ }
 {
     let first = signal_at(t, 0);
     let n = count(t) as usize;
+    let whole = whole_records(t, first, Layout::SIGNAL, n);
     let mut s: usize = 0;
-    while s < n {
+    while s < whole {
         let at = first + Layout::SIGNAL * s;
         let right = right_words(read(t, at));
         if right < Layout::SIGNAL {
             return fault(at + right);
         }
         s += 1;
+    }
+    if s < n {
+        let at = first + Layout::SIGNAL * s;
+        return fault(at + right_words(read_due(t, at)));
     }
     Verdict::Accepted
 }
@@ -104,18 +110,23 @@ struct Words {
     start: usize,
 }
 
-// Reads a signal's record; a missing word reads as 65536. One test is enough where the whole record is there.
+// Reads a signal's record that is there in whole.
 fn read(t: &[u16], at: usize) -> Words
+    requires { ⌜ at + 3 ≤ length (now t) ⌝ }
+    ensures { λ r. ⌜ SignalRead (now (t .entry)) at r ⌝ }
+{
+    Words {
+        kind: t[at] as usize,
+        width: t[at + 1] as usize,
+        start: t[at + 2] as usize,
+    }
+}
+
+// Reads a signal's record; a missing word reads as 65536.
+fn read_due(t: &[u16], at: usize) -> Words
     requires { ⌜ at < 100000 ⌝ }
     ensures { λ r. ⌜ SignalRead (now (t .entry)) at r ⌝ }
 {
-    if at + 2 < t.len() {
-        return Words {
-            kind: t[at] as usize,
-            width: t[at + 1] as usize,
-            start: t[at + 2] as usize,
-        };
-    }
     Words {
         kind: due(t, at),
         width: due(t, at + 1),

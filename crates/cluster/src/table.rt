@@ -6,7 +6,7 @@ ghost use mathlib.Core.Path.{_≡_};
 ghost use Prim.Native.Nat.{_≤_, _<_};
 ghost use Rattle.cluster.specs.Check.{headerFaults, surplus as surplusOf};
 ghost use Rattle.cluster.specs.Columns.{follows as followsOf, headerColumns};
-ghost use Rattle.cluster.specs.Read.{due as dueOf, leading};
+ghost use Rattle.cluster.specs.Read.{WholeRecords, due as dueOf, leading};
 ghost use Rattle.cluster.specs.Table.{word as wordOf, frameAt, signalAt, placementAt, memberAt, entryAt};
 
 // The word at a position, and 0 where there is none.
@@ -22,6 +22,20 @@ pub(crate) fn due(t: &[u16], i: usize) -> usize
     ensures { λ r. ⌜ r ≤ 65536 ⌝ }
 {
     if i < t.len() { t[i] as usize } else { 65536 }
+}
+
+// How many of n records from a position on are there in whole.
+pub(crate) fn whole_records(t: &[u16], first: usize, words: usize, n: usize) -> usize
+    requires { ⌜ (1 ≤ words) × (words ≤ 4) × (first < 100000) × (n ≤ 65536) ⌝ }
+    ensures { λ r. ⌜ WholeRecords (now (t .entry)) first words n r ⌝ }
+{
+    if first + words * n <= t.len() {
+        return n;
+    }
+    if t.len() <= first {
+        return 0;
+    }
+    (t.len() - first) / words
 }
 
 // The words of the header and of each record.

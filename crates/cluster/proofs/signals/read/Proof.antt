@@ -8,30 +8,28 @@ use borrow.Author.Needs.{needs}
 use Rattle.cluster.proofs.signals.read.Statement.{statement}
 use Rattle.cluster.proofs.signals.read.Tie as tie
 
-cast-t9 : tie.Need-cast-t9
-cast-t9 c = omega (arith, c .shared-slice-known2 .given (c .before .before .before .args .at))
+cast-t6 : tie.Need-cast-t6
+cast-t6 c = omega (arith, c .shared-slice-known .given (c .before .args .at))
 
-cast-t14 : tie.Need-cast-t14
-cast-t14 c = omega (arith, c .shared-slice-known3 .given (c .before .before .before .before .args .at + 1))
+cast-t11 : tie.Need-cast-t11
+cast-t11 c = omega (arith, c .shared-slice-known2 .given (c .before .before .args .at + 1))
 
-cast-t19 : tie.Need-cast-t19
-cast-t19 c = omega (arith, c .shared-slice-known4 .given (c .before .before .before .before .before .args .at + 2))
+cast-t16 : tie.Need-cast-t16
+cast-t16 c = omega (arith, c .shared-slice-known3 .given (c .before .before .before .args .at + 2))
 
 returns : tie.Need-returns
 unfolding word
 returns c =
-    let a = c .before .before .before .before .before .args in
+    let a = c .before .before .before .args in
     record {
       kind-is = sym (due-there (a .t .now) (a .at) (omega arith));
       width-is = sym (due-there (a .t .now) (a .at + 1) (omega arith));
       start-is = sym (due-there (a .t .now) (a .at + 2) (omega arith));
-      width-high = omega (arith, c .before .shared-slice-known3 .given (a .at + 1));
+      width-high = omega (arith, c .before .shared-slice-known2 .given (a .at + 1));
     }
 
 pub read-spec : {M : Type 1} → statement M
 read-spec =
     tie.close
-    (tie.spec (λ c. search needs) (λ c. search needs) (λ c. search needs) cast-t9 (λ c. search needs)
-    (λ c. search needs) (λ c. search needs) cast-t14 (λ c. search needs) (λ c. search needs) (λ c. search needs)
-    cast-t19 returns (λ c κs. search needs) (λ c. search needs)
-    (λ c κs. search needs) (λ c. search needs) (λ c κs. search needs) (λ c. search needs))
+    (tie.spec (λ c. search needs) (λ c. search needs) cast-t6 (λ c. search needs) (λ c. search needs) (λ c. search needs) cast-t11
+    (λ c. search needs) (λ c. search needs) (λ c. search needs) cast-t16 returns)
