@@ -104,7 +104,7 @@ pub(crate) fn judge(t: &[u16]) -> Verdict
     ensures { λ r. ⌜ r ≡ placementFaults (now (t .entry)) ⌝ }
 {
     let mut occupied = [0u64; Limits::FRAMES];
-    let mut last = [0usize; Limits::FRAMES];
+    let mut last = [0u16; Limits::FRAMES];
     let first = placement_at(t, 0);
     let end = first + Layout::PLACEMENT * (count(t) as usize);
     let mut placed: usize = 0;
@@ -119,7 +119,7 @@ pub(crate) fn judge(t: &[u16]) -> Verdict
         }
         let shape = signals::shape_of(t, words.signal);
         occupied[f] = with_bits(occupied[f], words.offset, shape.width);
-        last[f] = words.signal + 1;
+        last[f] = (words.signal + 1) as u16;
         placed = words.signal + 1;
         frame = f;
         at += Layout::PLACEMENT;
@@ -160,7 +160,7 @@ fn read(t: &[u16], at: usize) -> Words
 }
 
 // How many words of a placement's record are right before the first that is not; what its signal and its frame say is read where they are there.
-fn right_words(t: &[u16], occupied: &[u64], last: &[usize], known: Before, words: Words) -> usize
+fn right_words(t: &[u16], occupied: &[u64], last: &[u16], known: Before, words: Words) -> usize
     requires { ⌜ RecordsBefore (now t) × PlacedBefore (now t) (now last) known ⌝ }
     requires { ⌜ (length (now occupied) ≡ mostFrames) × (length (now last) ≡ mostFrames) ⌝ }
     requires { ⌜ (words .signal ≤ 65536) × (words .offset ≤ 65536) ⌝ }
@@ -195,7 +195,7 @@ fn signal_right(t: &[u16], placed: usize, s: usize) -> bool
 }
 
 // Whether a placement of a signal may be in a frame: it is there and, where the signal has placements, none of them is in it and it has their publisher.
-fn frame_right(t: &[u16], last: &[usize], known: Before, s: usize, f: usize) -> bool
+fn frame_right(t: &[u16], last: &[u16], known: Before, s: usize, f: usize) -> bool
     requires { ⌜ RecordsBefore (now t) × PlacedBefore (now t) (now last) known × (length (now last) ≡ mostFrames) ⌝ }
     requires { ⌜ (s ≤ 65536) × (follows (known .placed) s ≡ true) ⌝ }
     ensures { λ r. ⌜
@@ -208,7 +208,7 @@ fn frame_right(t: &[u16], last: &[usize], known: Before, s: usize, f: usize) -> 
     if s == known.placed {
         return true;
     }
-    if last[f] == s + 1 {
+    if last[f] as usize == s + 1 {
         return false;
     }
     let before = frames::room_of(t, known.frame);

@@ -36,6 +36,9 @@ returns-2 c =
     let marks = start e .pre .0 .1 .marks (a .f) in
     rw (lt-ltb _ _ (frame-there e), ne-eqb (getD (a .last .now) (a .f) 0) (a .s + 1) (λ q. omega arith), ne-eqb (a .s + 1) (a .known .placed) (λ q. omega arith))
 
+cast-if3 : tie.Need-cast-if3
+cast-if3 c = omega (arith, c .shared-slice-known3 .given (start (c .before .before .before) .args .f))
+
 returns-3 : tie.Need-returns-3
 returns-3 c = rw (lt-ltb _ _ (frame-there (c .before .before .before .before)), eq-eqb _ _ (c .if3 .taken))
 
@@ -68,5 +71,5 @@ returns-4 c =
 pub frame-right-spec : {M : Type 1} → statement M
 frame-right-spec =
     tie.close
-    (tie.spec (λ c κs. search needs) (λ c. search needs) returns returns-2 (λ c. search needs) (λ c. search needs) (λ c. search needs)
+    (tie.spec (λ c κs. search needs) (λ c. search needs) returns returns-2 (λ c. search needs) (λ c. search needs) cast-if3 (λ c. search needs)
     returns-3 room-of-requires room-of-requires-2 returns-4)

@@ -133,6 +133,11 @@ array-write-occupied c =
     let d : Judged = c .before .before .before in
     omega (arith, read-at (read d) .frame-is, place d (omega arith) .below, turn (read d) .passed .bits .0)
 
+cast-last : tie.Need-cast-last Inv-loop μ-loop
+cast-last c =
+    let d : Judged = c .before .before .before .before in
+    omega (arith, read-at (read d) .signal-is, place d (omega arith) .signal-there, turn (read d) .records .signals)
+
 mul-last : tie.Need-mul-last Inv-loop μ-loop
 mul-last c =
     let d : Judged = c .before .before .before .before in
@@ -168,5 +173,5 @@ judge-spec =
     (tie.spec Inv-loop μ-loop (λ c κs. search needs) (λ c κs. search needs) (λ c. search needs) (λ c. search needs) (λ c. search needs)
     loop-holds read-requires (λ c. search needs) (λ c. search needs) right-words-requires (λ c. search needs)
     (λ c κs. search needs) returns shape-of-requires mul-with-bits array-read-with-bits with-bits-requires
-    mul-occupied array-write-occupied (λ c. search needs) mul-last array-write-last (λ c. search needs) (λ c. search needs)
+    mul-occupied array-write-occupied (λ c. search needs) cast-last mul-last array-write-last (λ c. search needs) (λ c. search needs)
     (λ c. search needs) loop-again returns-2)
