@@ -2,7 +2,7 @@
 -- whether a signal's frames have one publisher.
 use Prim.Native.Nat.{ℕ, _+_, _-_, _*_, _≤_, _<_}
 use mathlib.Core.Path.{_≡_, refl, sym, _∙_}
-use mathlib.Core.Bool.{Bool, true, false, not, _&&_, _||_, Bool·beq, and-false}
+use mathlib.Core.Bool.{Bool, true, false, _||_, and-false}
 use mathlib.Core.List.{List}
 use native.Mathlib.Decide.{ℕ-discrete}
 use native.Mathlib.Nat.{sub-zero}
@@ -17,7 +17,7 @@ use Rattle.cluster.specs.Check.{fault, faults, placementFaults}
 use Rattle.cluster.specs.Columns.{follows, offsetRight, placementOffsetRight, placementColumns}
 use Rattle.cluster.specs.Read.{RecordsBefore, PlacedBefore, PlacementRead, due, leading, hits, mixes, placementSeen}
 use Rattle.cluster.specs.Right.{frameBits, again, mixed, sticksOut, overlaps, placementRight, countsUp, records}
-use Rattle.cluster.specs.Table.{mostFrames, counted, published, frameCount, frameLength, signalCount, signalWidth, isArray}
+use Rattle.cluster.specs.Table.{mostFrames, counted, frameCount, frameLength, signalCount, signalWidth, isArray}
 use Rattle.cluster.specs.Table.{placementCount, placementWords, placementAt, placementSignal, placementFrame, placementOffset, placementWidth}
 use Rattle.cluster.specs.declared.Verdict.the-variants.{Accepted}
 use Rattle.cluster.specs.declared.placements.Before.{Before}

@@ -1,6 +1,6 @@
 -- How many records of a section are there in whole.
 use Prim.Native.Nat.{ℕ, _+_, _-_, _*_, _/_, _≤_, _<_}
-use mathlib.Core.Path.{_≡_, _∙_}
+use mathlib.Core.Path.{_≡_}
 use mathlib.Core.List.{List}
 use native.Mathlib.Nat.{mul-comm, mul-suc, mul-le-mul-left, le-div-iff-mul-le, div-lt-iff-lt-mul, lt-mul-div-succ}
 use native.Mathlib.Numerals.{add-one}

@@ -6,7 +6,7 @@ use mathlib.Core.List.{List}
 use native.Mathlib.Omega.{arith}
 use Rattle.cluster.specs.Columns.{entryColumns}
 use Rattle.cluster.specs.Read.{EntryRead, leading}
-use Rattle.cluster.specs.Table.{entryCount, entryWords, entryAt}
+use Rattle.cluster.specs.Table.{entryWords, entryAt}
 use Rattle.cluster.proofs.EntryTurn.{Passed, Turn, none-passed, all-passed, entryRead, seen-read, cut-off, stops, passes}
 use Rattle.cluster.proofs.entries.judge.Statement.{statement}
 use Rattle.cluster.proofs.entries.judge.Tie as tie

@@ -1,6 +1,6 @@
 -- `cluster::members::right_words` meets its contract: each way out has the tests that led there.
 use Prim.Native.Nat.{_<_}
-use mathlib.Core.Bool.{Bool, true, and-false}
+use mathlib.Core.Bool.{true, and-false}
 use mathlib.Core.Path.{_≡_, sym, _∙_}
 use native.Mathlib.Omega.{arith}
 use borrow.Author.Needs.{needs}

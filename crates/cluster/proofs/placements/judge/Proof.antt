@@ -1,12 +1,12 @@
 -- `cluster::placements::judge` meets its contract. The invariant: the position is that of some placement, and those before it are passed, with their marks.
 use borrow.Author.Needs.{needs}
-use Prim.Native.Nat.{ℕ, _+_, _-_, _*_, _≤_}
+use Prim.Native.Nat.{ℕ, _+_, _-_, _≤_}
 use mathlib.Core.Path.{_≡_, refl, _∙_, ap}
 use mathlib.Core.List.{List}
 use native.Mathlib.Omega.{arith}
 use Rattle.cluster.specs.Columns.{placementColumns}
 use Rattle.cluster.specs.Read.{PlacementRead, leading}
-use Rattle.cluster.specs.Table.{placementCount, placementWords, placementAt}
+use Rattle.cluster.specs.Table.{placementWords, placementAt}
 use Rattle.cluster.proofs.PlacementTurn.{Passed, Turn, none-passed, all-passed, placementRead, seen-read, stops, Placed, placed-right, free-read, passes}
 use Rattle.cluster.proofs.placements.judge.Statement.{statement}
 use Rattle.cluster.proofs.placements.judge.Tie as tie
