@@ -1,6 +1,5 @@
 -- `placed::touches` meets its contract. The invariant: none of the placements before is one of the signal in the frame.
 use Prim.Native.Nat.{_-_}
-use mathlib.Core.Path.{sym, _∙_}
 use native.Mathlib.Omega.{arith}
 use borrow.Author.Needs.{needs}
 use Rattle.cluster.specs.Table.{placementCount}
@@ -23,7 +22,7 @@ returns : tie.Need-returns Inv-loop μ-loop
 returns c =
     let d = c .before .before in
     let start = d .before .before .before .before .before in
-    touch-found _ (start .pre) _ _ _ (stands-yes _ _ _ (d .before .stands .ensures) (d .if1 .taken)) (sym (c .before .frame .ensures) ∙ c .if2 .taken)
+    touch-found _ (start .pre) _ (start .args .f) _ (stands-yes _ _ _ (d .before .stands .ensures) (d .if1 .taken)) (omega arith)
 
 add-k : tie.Need-add-k Inv-loop μ-loop
 add-k c =
@@ -41,8 +40,8 @@ loop-again c =
     let d = c .before .before in
     let at = d .before .before .loop in
     let start = d .before .before .before .before .before in
-    touch-on _ (start .pre) _ _ (at .k) (at .inv) (stands-yes _ _ _ (d .before .stands .ensures) (d .if1 .taken))
-    (λ e. c .if2 .left (c .before .frame .ensures ∙ e))
+    touch-on _ (start .pre) _ (start .args .f) (at .k) (at .inv) (stands-yes _ _ _ (d .before .stands .ensures) (d .if1 .taken))
+    (λ e. omega arith)
 
 returns-2 : tie.Need-returns-2 Inv-loop μ-loop
 returns-2 c =
