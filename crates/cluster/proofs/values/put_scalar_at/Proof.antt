@@ -4,7 +4,7 @@ use Rattle.cluster.proofs.values.put_scalar_at.Statement.{statement}
 use Rattle.cluster.proofs.values.put_scalar_at.Tie as tie
 
 returns : tie.Need-returns
-returns c = cc
+returns c = rw (c .before .before .put .ensures, c .before .before .before .place .ensures, c .before .before .before .before .before .width .ensures)
 
 pub put-scalar-at-spec : {M : Type 1} → statement M
 put-scalar-at-spec =
