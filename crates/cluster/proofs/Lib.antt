@@ -45,6 +45,7 @@ pub mod SomePlacement
 pub mod Starts
 pub mod StickingOut
 pub mod TakenLaws
+pub mod Together
 pub mod UsedMarks
 pub mod ValueLaws
 pub mod ValueSteps

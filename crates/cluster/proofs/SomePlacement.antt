@@ -41,6 +41,14 @@ module _ (t : List ℕ) (s : ℕ) where
     unfolding somePlacement
     some-none h k o = rw (placed k o) at (none-below (placementCount t) (λ i. places t s i && test i) h k (o .there))
 
+  -- where the first placement is there, it is one of the signal
+  pub first-is : firstPlacement t s < placementCount t → Of t s (firstPlacement t s)
+  unfolding firstPlacement
+  first-is below = record {
+    there = below;
+    is = eqb-true (placementSignal t (firstFrom (places t s) 0 (placementCount t))) s (first-holds (places t s) 0 (placementCount t) (omega arith));
+  }
+
   -- where the signal has a placement, the first one is one of its placements, and none of them stands before it
   module _ (k : ℕ) (o : Of t s k) where
     pub first-low : firstPlacement t s ≤ k
@@ -48,8 +56,4 @@ module _ (t : List ℕ) (s : ℕ) where
     first-low = first-least (places t s) 0 (placementCount t) k (omega arith) (placed k o)
 
     pub first-of : Of t s (firstPlacement t s)
-    unfolding firstPlacement
-    first-of =
-        let first = firstFrom (places t s) 0 (placementCount t) in
-        let below : first < placementCount t = omega (arith, first-low, o .there) in
-        record { there = below; is = eqb-true (placementSignal t first) s (first-holds (places t s) 0 (placementCount t) (omega arith)) }
+    first-of = first-is (omega (arith, first-low, o .there))

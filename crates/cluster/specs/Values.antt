@@ -40,13 +40,21 @@ scalarAt t bs s k = getScalar bs (placeOf t k) (signalWidth t s)
 unfoldable pub arrayAt : List ℕ → List ℕ → ℕ → ℕ → List ℕ
 arrayAt t bs s k = getArray bs (placeOf t k) (arrayLength t s)
 
+-- the buffer with a scalar put into one of its placements
+abbrev pub withScalarAt : List ℕ → List ℕ → ℕ → ℕ → ℕ → List ℕ
+withScalarAt t bs s k v = putScalar bs (placeOf t k) (signalWidth t s) v
+
+-- the buffer with an array put into one of its placements
+abbrev pub withArrayAt : List ℕ → List ℕ → ℕ → List ℕ → List ℕ
+withArrayAt t bs k vs = putArray bs (placeOf t k) vs
+
 -- the buffer after a write of a scalar: it "sets every placement"
 unfoldable pub withScalar : List ℕ → List ℕ → ℕ → ℕ → List ℕ
-withScalar t bs s v = atEach t s (λ k cs. putScalar cs (placeOf t k) (signalWidth t s) v) 0 (placementCount t) bs
+withScalar t bs s v = atEach t s (λ k cs. withScalarAt t cs s k v) 0 (placementCount t) bs
 
 -- the buffer after a write of an array
 unfoldable pub withArray : List ℕ → List ℕ → ℕ → List ℕ → List ℕ
-withArray t bs s vs = atEach t s (λ k cs. putArray cs (placeOf t k) vs) 0 (placementCount t) bs
+withArray t bs s vs = atEach t s (λ k cs. withArrayAt t cs k vs) 0 (placementCount t) bs
 
 -- an array as it is handed out: eight bytes, the unused ones 255, and how many are used
 unfoldable pub handedOut : List ℕ → ℕ → List ℕ → Array

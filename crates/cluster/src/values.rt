@@ -1,52 +1,14 @@
-// The values of the signals in the frame buffer: what a signal reads as, what a write of it leaves, and the frames it touches.
-use crate::frames;
+// The values of the signals in the frame buffer: what fits a signal, what a placement of it reads as, and what a put leaves there.
 use crate::fresh::set_bytes;
 use crate::placements;
 use crate::signals;
 ghost use mathlib.Core.Path.{_≡_};
-ghost use mathlib.Core.Bool.{_&&_};
-ghost use lib.Dec.{eqb};
-ghost use Rattle.cluster.specs.Places.{places};
-ghost use Rattle.cluster.specs.Table.{placementFrame};
-ghost use Rattle.cluster.specs.Values.{touches as touchesOf, signalPublished, valueFits, arrayFits};
-ghost use Rattle.cluster.specs.Values.{scalarAt, withScalar, withArray, arrayRead, startRead};
+ghost use Rattle.cluster.specs.Values.{valueFits, arrayFits, scalarAt, withScalarAt, withArrayAt, arrayRead, startRead};
 
 // A byte array as it is handed out: eight bytes, the unused ones 255, and how many are used.
 pub struct Array {
     pub bytes: [u8; 8],
     pub count: usize,
-}
-
-// Whether a signal stands in a frame.
-pub fn touches(t: &[u16], s: u16, f: u16) -> bool
-    ensures { λ r. ⌜ r ≡ touchesOf (now (t .entry)) s f ⌝ }
-{
-    let n = placements::count(t);
-    let mut k: u16 = 0;
-    while k < n {
-        if placed_in(t, k, s, f) {
-            return true;
-        }
-        k += 1;
-    }
-    false
-}
-
-// Whether a placement is one of a signal in a frame.
-fn placed_in(t: &[u16], k: u16, s: u16, f: u16) -> bool
-    ensures { λ r. ⌜ r ≡ (places (now (t .entry)) s k && eqb (placementFrame (now (t .entry)) k) f) ⌝ }
-{
-    if placements::signal(t, k) != s {
-        return false;
-    }
-    placements::frame(t, k) == f
-}
-
-// Whether the master publishes a signal.
-pub fn published(t: &[u16], s: u16) -> bool
-    ensures { λ r. ⌜ r ≡ signalPublished (now (t .entry)) s ⌝ }
-{
-    frames::published(t, placements::frame(t, placements::first(t, s)))
 }
 
 // Whether a scalar can have a value: it is below 2^width.
@@ -78,19 +40,12 @@ pub fn scalar_at(t: &[u16], bytes: &[u8], s: u16, k: u16) -> u16
     )
 }
 
-// Writes a scalar into each of its placements.
-pub fn put_scalar(t: &[u16], bytes: &mut [u8], s: u16, v: u16)
-    ensures { λ _. ⌜ now (bytes .exit) ≡ withScalar (now (t .entry)) (now (bytes .entry)) s v ⌝ }
+// Puts a scalar into one of its placements.
+pub fn put_scalar_at(t: &[u16], bytes: &mut [u8], s: u16, k: u16, v: u16)
+    ensures { λ _. ⌜ now (bytes .exit) ≡ withScalarAt (now (t .entry)) (now (bytes .entry)) s k v ⌝ }
 {
-    let n = placements::count(t);
     let width = signals::width(t, s) as usize;
-    let mut k: u16 = 0;
-    while k < n {
-        if placements::signal(t, k) == s {
-            signal::put(bytes, placements::place(t, k), width, v);
-        }
-        k += 1;
-    }
+    signal::put(bytes, placements::place(t, k), width, v);
 }
 
 // The bytes of an array in one of its placements.
@@ -121,16 +76,9 @@ pub fn start_array(t: &[u16], s: u16) -> Array
     }
 }
 
-// Writes an array into each of its placements.
-pub fn put_array(t: &[u16], bytes: &mut [u8], s: u16, values: &[u8])
-    ensures { λ _. ⌜ now (bytes .exit) ≡ withArray (now (t .entry)) (now (bytes .entry)) s (now (values .entry)) ⌝ }
+// Puts an array into one of its placements.
+pub fn put_array_at(t: &[u16], bytes: &mut [u8], k: u16, values: &[u8])
+    ensures { λ _. ⌜ now (bytes .exit) ≡ withArrayAt (now (t .entry)) (now (bytes .entry)) k (now (values .entry)) ⌝ }
 {
-    let n = placements::count(t);
-    let mut k: u16 = 0;
-    while k < n {
-        if placements::signal(t, k) == s {
-            signal::put_array(bytes, placements::place(t, k), values);
-        }
-        k += 1;
-    }
+    signal::put_array(bytes, placements::place(t, k), values);
 }

@@ -22,6 +22,7 @@ pub mod MessageFits
 pub mod Nine
 pub mod OpenLaws
 pub mod Parts
+pub mod PlacedTurns
 pub mod PendingFits
 pub mod PendingLaws
 pub mod PendingLength

@@ -6,17 +6,13 @@ use mathlib.Core.Logic.{_↔_, _⊎_, inl, inr, ⊎-elim}
 use mathlib.Core.Bool.{Bool, true, false}
 use mathlib.Core.List.{List}
 use native.Mathlib.Omega.{arith}
-use borrow.Author.Tests.{ltb-true}
-use lib.Dec.{ltb}
 use lib.ListN.{length, getD, replicate}
 use Rattle.refusal.specs.declared.Refusal.{Refusal}
-use Rattle.refusal.specs.Numbers as number
 use Rattle.cluster.specs.declared.Verdict.the-variants.{Accepted}
 use Rattle.cluster.specs.declared.values.Array.{Array}
 use Rattle.cluster.specs.Check.{RightTable}
 use Rattle.cluster.specs.Table.{signalCount, signalStart, published, placementCount, placementSignal, placementFrame}
 use Rattle.cluster.specs.Values.{firstPlacement, signalPublished, scalarAt, arrayRead, startRead}
-use Rattle.cluster.proofs.Accepted.{then-first, then-second}
 use Rattle.cluster.proofs.PlacementLaws.{has-placement, first-there, published-as}
 use Rattle.cluster.proofs.SomePlacement.{first-low}
 use Rattle.transport.proofs.Tests.{whether, order}
@@ -27,11 +23,11 @@ use Rattle.master.specs.declared.state.State.{State}
 use Rattle.master.specs.declared.read.ReadAnswer.the-variants as scalar
 use Rattle.master.specs.declared.read.ArrayAnswer.the-variants as array
 use Rattle.master.specs.declared.read.ReadArray.{ReadArray}
-use Rattle.master.specs.Admit.{admitted, answered}
+use Rattle.master.specs.Admit.{answered}
 use Rattle.master.specs.Read.{readVerdict, readScalarOf, arrayAnswer, readArrayOf}
 use Rattle.master.specs.Received.{lastOf, sourceOf, scalarFrom, arrayFrom}
-use Rattle.master.proofs.Admitted.{unless-test, admitted-table}
 use Rattle.master.proofs.Answered.{by-verdict}
+use Rattle.master.proofs.Verdicts.{read-table, read-signal}
 
 -- ---- the paper's sentences
 
@@ -106,16 +102,6 @@ module _ {A : Type 0} (t : List ℕ) (rs : List Reception) (s : ℕ) (from : Las
 -- ---- every read
 
 module _ (t : List ℕ) (x : State) (bs : List ℕ) (s : ℕ) where
-  -- an accepted read is one of a signal of a right table
-  module _ (kind : Bool) (h : readVerdict t (length bs) x s kind ≡ Accepted) where
-    read-table : RightTable t
-    unfolding readVerdict
-    read-table = admitted-table t (length bs) x (then-first (admitted t (length bs) x) _ h)
-
-    read-signal : s < signalCount t
-    unfolding readVerdict
-    read-signal = ltb-true s (signalCount t) (unless-test (ltb s (signalCount t)) number.unknown _ (then-second (admitted t (length bs) x) _ h))
-
   -- a read of either kind, with how it answers a refusal and a value
   module _ {A B : Type 0} (kind : Bool) (refuse : Refusal → B) (value : A → B) (from : Last → A) where
     abbrev Exactly : B → A → Type 0
@@ -125,7 +111,7 @@ module _ (t : List ℕ) (x : State) (bs : List ℕ) (s : ℕ) where
         → Exactly (answered (readVerdict t (length bs) x s kind) refuse (value (from (sourceOf t (x .received) s)))) v
     answers apart one v = by-verdict (λ b. Exactly b v) (readVerdict t (length bs) x s kind) refuse _
         (λ r e. (λ k. absurd (apart r v k), λ w. let z = w .0 in let q : _≡_ {A = ℕ} 0 1 = cc in absurd (omega arith)))
-        (λ a. let ok = read-table kind a in let below = read-signal kind a in (
+        (λ a. let ok = read-table t (length bs) x s kind a in let below = read-signal t (length bs) x s kind a in (
           (λ k. (a, to-gives t (x .received) s from v ok below (sym (one _ v k)))),
           (λ w. ap value (sym (from-gives t (x .received) s from v ok below (w .1)))),
         ))

@@ -10,7 +10,7 @@ use Rattle.refusal.specs.Numbers as number
 use Rattle.transport.proofs.Tests.{and-right}
 use Rattle.transport.specs.Cutting.{isLength}
 use Rattle.cluster.specs.declared.Verdict.the-variants.{Accepted}
-use Rattle.cluster.specs.Table.{memberCount}
+use Rattle.cluster.specs.Table.{signalCount, memberCount}
 use Rattle.cluster.specs.Values.{valueFits}
 use Rattle.cluster.specs.Check.{TakenTable, RightTable, then}
 use Rattle.cluster.proofs.Accepted.{then-first, then-second}
@@ -20,6 +20,7 @@ use Rattle.master.specs.Transfers.{isOpen, openLength, openIdentifier}
 use Rattle.master.specs.Fits.{lentFits, stateFits}
 use Rattle.master.specs.Admit.{unless, bufferSize, admitted}
 use Rattle.master.specs.Write.{writable}
+use Rattle.master.specs.Read.{readVerdict}
 use Rattle.master.specs.Message.{sendVerdict}
 use Rattle.master.specs.Tick.{tickVerdict}
 use Rattle.master.specs.Byte.{byteVerdict}
@@ -44,6 +45,17 @@ write-value-below t n x s v h =
     let fits = valueFits t s v in
     let w = write-signal t n x s false fits h in
     value-limit t (write-table t n x s false fits h) s (w .below) (w .kind-is) v (w .value-fits)
+
+-- ---- read
+
+module _ (t : List ℕ) (n : ℕ) (x : State) (s : ℕ) (array : Bool) (h : readVerdict t n x s array ≡ Accepted) where
+  pub read-table : RightTable t
+  unfolding readVerdict
+  read-table = admitted-table t n x (then-first (admitted t n x) _ h)
+
+  pub read-signal : s < signalCount t
+  unfolding readVerdict
+  read-signal = ltb-true s (signalCount t) (unless-test (ltb s (signalCount t)) number.unknown _ (then-second (admitted t n x) _ h))
 
 -- ---- send
 

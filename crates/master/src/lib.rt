@@ -8,6 +8,7 @@ pub mod byte;
 pub mod closing;
 pub mod message;
 pub mod pending;
+mod placed;
 pub mod plan;
 pub mod read;
 pub mod received;

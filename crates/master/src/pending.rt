@@ -1,9 +1,8 @@
-// The pending bits: whether they fit, what a write sets and a success clears, and the pending members of a list.
+// The pending bits: whether they fit, what a success clears, and the pending members of a list.
 use crate::state::Opened;
 use cluster::Limits;
 use cluster::frames;
 use cluster::members;
-use cluster::placements;
 ghost use mathlib.Core.Bool.{true, cond, false, _&&_};
 ghost use mathlib.Core.Path.{_≡_};
 ghost use Prim.Native.Nat.{_<_, _≤_};
@@ -11,9 +10,8 @@ ghost use Rattle.cluster.specs.Check.{RightTable};
 ghost use Rattle.master.specs.Fits.{frameThere, bitFits, pendingFits};
 ghost use Rattle.master.specs.Closing.{clearedBit, pendingSent};
 ghost use Rattle.cluster.specs.Table.{mostFrames, memberCount, memberList, memberFrame};
-ghost use Rattle.master.specs.Write.{markedFrom};
 ghost use lib.Dec.{eqb};
-ghost use lib.ListN.{getD, set as setTo};
+ghost use lib.ListN.{getD};
 ghost use Rattle.cluster.specs.Lists.{membersFrom, members as membersOf};
 ghost use Rattle.master.specs.Ahead.{pendingCount};
 ghost use Rattle.master.specs.Tick.{firstPending};
@@ -44,29 +42,6 @@ fn bit_fits(t: &[u16], f: u16, bit: bool) -> bool
         return false;
     }
     frames::published(t, f)
-}
-
-// Marks the frames that a signal touches as pending.
-pub(crate) fn mark(t: &[u16], s: u16, pending: &mut [bool])
-    ensures { λ _. ⌜ now (pending .exit) ≡ markedFrom (now (t .entry)) s 0 (now (pending .entry)) ⌝ }
-{
-    let n = placements::count(t);
-    let mut k: u16 = 0;
-    while k < n {
-        if placements::signal(t, k) == s {
-            set(pending, placements::frame(t, k) as usize);
-        }
-        k += 1;
-    }
-}
-
-// Sets the bit of a frame, where it has one.
-fn set(pending: &mut [bool], f: usize)
-    ensures { λ _. ⌜ now (pending .exit) ≡ setTo (now (pending .entry)) f true ⌝ }
-{
-    if f < pending.len() {
-        pending[f] = true;
-    }
 }
 
 impl Opened {

@@ -1,4 +1,5 @@
 // The receptions: whether they fit, what a successful one sets, and where a read takes its value.
+use crate::placed;
 use crate::state::Last;
 use crate::state::Opened;
 use crate::state::Reception;
@@ -7,10 +8,10 @@ use cluster::Limits;
 use cluster::frames;
 use cluster::placements;
 use cluster::signals;
-use cluster::values;
 ghost use mathlib.Core.Path.{_≡_};
 ghost use mathlib.Core.Bool.{cond};
 ghost use lib.Dec.{eqb};
+ghost use Rattle.cluster.specs.Check.{RightTable};
 ghost use Rattle.cluster.specs.Table.{mostSignals, placementCount, placementSignal, placementFrame};
 ghost use Rattle.master.specs.declared.state.Last.the-variants.{Placement};
 ghost use Rattle.master.specs.Received.{lastOf, receivedUpTo, receivedBy, lastFits, receivedFits, sourceOf};
@@ -114,10 +115,11 @@ fn receiver(t: &[u16], f: u16, k: u16) -> usize
 impl State {
     // Where a read of a signal takes its value: of a published one the first placement, of a received one that received last.
     pub(crate) fn source(self, t: &[u16], s: u16) -> Last
+        requires { ⌜ RightTable (now t) ⌝ }
         ensures { λ r. ⌜ r ≡ sourceOf (now (t .entry)) (self .received) s ⌝ }
     {
-        if values::published(t, s) {
-            return Last::Placement(placements::first(t, s));
+        if placed::published(t, s) {
+            return Last::Placement(placed::first(t, s));
         }
         let received = self.received;
         last_of(received, s)

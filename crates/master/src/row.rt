@@ -1,6 +1,6 @@
 // A row of values: they are written as one by one in row order, or none of them.
 use crate::admit::refused;
-use crate::pending::mark;
+use crate::placed;
 use crate::state::State;
 use crate::state::Transfer;
 use crate::write::WriteAnswer;
@@ -53,6 +53,7 @@ impl State {
 
     // The frames of a row's signals are pending, and an open transfer of one of them was written since.
     fn marked_row(self, t: &[u16], signals: &[u16]) -> State
+        requires { ⌜ RightTable (now t) ⌝ }
         ensures { λ r. ⌜ r ≡ markedRowOf (now (t .entry)) (now (signals .entry)) self ⌝ }
     {
         let transfer = self.transfer;
@@ -66,6 +67,7 @@ impl State {
 impl Transfer {
     // Written since its opening, where a signal of a row touches its frame.
     fn rewritten_by(self, t: &[u16], signals: &[u16]) -> Transfer
+        requires { ⌜ RightTable (now t) ⌝ }
         ensures { λ r. ⌜ r ≡ rewrittenBy (now (t .entry)) (now (signals .entry)) self ⌝ }
     {
         let mut next = self;
@@ -80,7 +82,7 @@ impl Transfer {
 
 // Refusals 4 to 7 of a row: that of the first bad pair, with its place.
 fn first_bad(t: &[u16], signals: &[u16], values: &[u32]) -> Verdict
-    requires { ⌜ length (now signals) ≡ length (now values) ⌝ }
+    requires { ⌜ RightTable (now t) × (length (now signals) ≡ length (now values)) ⌝ }
     ensures { λ r. ⌜ r ≡ firstBad (now (t .entry)) 0 (puts (now (signals .entry)) (now (values .entry))) ⌝ }
 {
     let mut i: usize = 0;
@@ -106,18 +108,19 @@ fn put_row(t: &[u16], bytes: &mut [u8], signals: &[u16], values: &[u32])
 {
     let mut i: usize = 0;
     while i < signals.len() {
-        values_of::put_scalar(t, bytes, signals[i], values[i] as u16);
+        placed::put_scalar(t, bytes, signals[i], values[i] as u16);
         i += 1;
     }
 }
 
 // Marks the frames that a row's signals touch.
 fn mark_row(t: &[u16], signals: &[u16], pending: &mut [bool])
+    requires { ⌜ RightTable (now t) ⌝ }
     ensures { λ _. ⌜ now (pending .exit) ≡ markedBits (now (t .entry)) (now (signals .entry)) (now (pending .entry)) ⌝ }
 {
     let mut i: usize = 0;
     while i < signals.len() {
-        mark(t, signals[i], pending);
+        placed::mark(t, signals[i], pending);
         i += 1;
     }
 }

@@ -1,11 +1,11 @@
 // The transfer: what it is of, the nine bytes at its opening, each byte that passes, and which entries can open it.
+use crate::placed;
 use crate::state::Message;
 use crate::state::Opened;
 use crate::state::Transfer;
 use cluster::entries;
 use cluster::frames;
 use cluster::members;
-use cluster::values;
 use transport::cutting;
 use wire::Answer;
 use wire::checksum;
@@ -148,11 +148,12 @@ impl Opened {
 
     // Whether a signal touches the frame of the transfer.
     fn touched(self, t: &[u16], s: u16) -> bool
+        requires { ⌜ RightTable (now t) ⌝ }
         ensures { λ r. ⌜ r ≡ touchesOpen (now (t .entry)) s self ⌝ }
     {
         match self {
             Opened::Nothing => false,
-            Opened::Frame(f) => values::touches(t, s, f),
+            Opened::Frame(f) => placed::touches(t, s, f),
             Opened::Request => false,
             Opened::Response => false,
         }
@@ -230,10 +231,14 @@ impl Transfer {
 
     // Written since its opening, where a signal touches its frame.
     pub(crate) fn rewritten(self, t: &[u16], s: u16) -> Transfer
+        requires { ⌜ RightTable (now t) ⌝ }
         ensures { λ r. ⌜ r ≡ rewrittenOf (now (t .entry)) s self ⌝ }
     {
         let opened = self.opened;
         let mut next = self;
+        if self.written {
+            return next;
+        }
         if opened.touched(t, s) {
             next.written = true;
         }

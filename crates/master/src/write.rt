@@ -1,6 +1,6 @@
 // The two writes.
 use crate::admit::refused;
-use crate::pending::mark;
+use crate::placed;
 use crate::state::State;
 use cluster::Verdict;
 use cluster::signals;
@@ -8,6 +8,7 @@ use cluster::values;
 use refusal::Refusal;
 ghost use mathlib.Core.Bool.{true, false};
 ghost use mathlib.Core.Path.{_≡_};
+ghost use Rattle.cluster.specs.Check.{RightTable};
 ghost use Rattle.master.specs.Admit.{Leaves};
 ghost use Rattle.master.specs.Write.{writable as writableOf, marked as markedOf, refusedWrite, writeVerdict, writeOf};
 ghost use Rattle.master.specs.Put.{scalar, array, put};
@@ -37,7 +38,7 @@ impl State {
         if let Verdict::Refused(refusal) = self.judge_scalar(t, bytes.len(), s, v) {
             return self.not_written(refusal);
         }
-        values::put_scalar(t, bytes, s, v as u16);
+        placed::put_scalar(t, bytes, s, v as u16);
         Wrote {
             state: self.marked(t, s),
             answer: WriteAnswer::Written,
@@ -54,7 +55,7 @@ impl State {
         if let Verdict::Refused(refusal) = self.judge_array(t, bytes.len(), s, values) {
             return self.not_written(refusal);
         }
-        values::put_array(t, bytes, s, values);
+        placed::put_array(t, bytes, s, values);
         Wrote {
             state: self.marked(t, s),
             answer: WriteAnswer::Written,
@@ -94,11 +95,12 @@ impl State {
 
     // The frames of a signal are pending, and an open transfer of one of them was written since.
     fn marked(self, t: &[u16], s: u16) -> State
+        requires { ⌜ RightTable (now t) ⌝ }
         ensures { λ r. ⌜ r ≡ markedOf (now (t .entry)) s self ⌝ }
     {
         let transfer = self.transfer;
         let mut pending = self.pending;
-        mark(t, s, &mut pending);
+        placed::mark(t, s, &mut pending);
         self.with_pending(pending)
             .with_transfer(transfer.rewritten(t, s))
     }
@@ -106,12 +108,13 @@ impl State {
 
 // Refusals 4 to 7 of a write.
 pub(crate) fn writable(t: &[u16], s: u16, array: bool, fits: bool) -> Verdict
+    requires { ⌜ RightTable (now t) ⌝ }
     ensures { λ r. ⌜ r ≡ writableOf (now (t .entry)) s array fits ⌝ }
 {
     if signals::count(t) <= s {
         return refused(Refusal::UNKNOWN);
     }
-    if !values::published(t, s) {
+    if !placed::published(t, s) {
         return refused(Refusal::NOT_PUBLISHED);
     }
     if signals::is_array(t, s) != array {

@@ -20,7 +20,7 @@ loop-holds : tie.Need-loop-holds Inv-loop μ-loop
 loop-holds c = (omega arith, refl)
 
 shared-slice-read-scalar-fits : tie.Need-shared-slice-read-scalar-fits Inv-loop μ-loop
-shared-slice-read-scalar-fits c = omega (arith, c .before .before .before .before .before .before .before .pre, c .before .before .loop-test .taken)
+shared-slice-read-scalar-fits c = omega (arith, c .before .before .before .before .before .before .before .pre .1, c .before .before .loop-test .taken)
 
 returns : tie.Need-returns Inv-loop μ-loop
 returns c =
@@ -30,7 +30,7 @@ returns c =
     let below = c .before .before .before .before .before .before .before .before .loop-test .taken in
     sym
     (at .inv .1
-    ∙ first-turn (a .t .now) (a .signals .now) (a .values .now) (start .pre) (at .i) below
+    ∙ first-turn (a .t .now) (a .signals .now) (a .values .now) (start .pre .1) (at .i) below
     ∙ rw (← c .before .before .before .before .before .scalar-fits .ensures, ← c .before .before .before .before .writable .ensures, c .before .before .refusal .given .1, c .at .ensures))
 
 loop-again : tie.Need-loop-again Inv-loop μ-loop
@@ -40,7 +40,7 @@ loop-again c =
     let at = c .before .before .before .before .before .before .before .loop in
     let below = c .before .before .before .before .before .before .loop-test .taken in (
       omega (arith, below),
-      at .inv .1 ∙ first-turn (a .t .now) (a .signals .now) (a .values .now) (start .pre) (at .i) below
+      at .inv .1 ∙ first-turn (a .t .now) (a .signals .now) (a .values .now) (start .pre .1) (at .i) below
           ∙ rw (← c .before .before .before .scalar-fits .ensures, ← c .before .before .writable .ensures, c .enum-told .given .1),
     )
 
@@ -48,7 +48,7 @@ returns-2 : tie.Need-returns-2 Inv-loop μ-loop
 returns-2 c =
     let a = c .before .before .before .before .before .args in
     let at = c .before .loop in
-    sym (at .inv .1 ∙ first-end (a .t .now) (a .signals .now) (a .values .now) (c .before .before .before .before .before .pre) (at .i) (c .loop-test .left) (at .inv .0))
+    sym (at .inv .1 ∙ first-end (a .t .now) (a .signals .now) (a .values .now) (c .before .before .before .before .before .pre .1) (at .i) (c .loop-test .left) (at .inv .0))
 
 pub first-bad-spec : {M : Type 1} → statement M
 first-bad-spec =

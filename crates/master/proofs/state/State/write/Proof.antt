@@ -4,7 +4,7 @@ use borrow.Author.Needs.{needs}
 use lib.ListN.{length}
 use mathlib.Core.Path.{_∙_, sym}
 use native.Mathlib.Omega.{arith}
-use Rattle.master.proofs.Verdicts.{write-value-below}
+use Rattle.master.proofs.Verdicts.{write-table, write-value-below}
 use Rattle.master.specs.Write.{writeOf}
 use Rattle.master.proofs.ToldLaws.{write-told}
 use Rattle.master.proofs.state.State.write.Statement.{statement}
@@ -27,6 +27,14 @@ cast-put-scalar c =
       );
     }
 
+put-scalar-requires : tie.Need-put-scalar-requires
+put-scalar-requires c κs = write-table _ _ _ _ _ _ (sym (c .before .before .before .judge-scalar .ensures) ∙ c .before .enum-told .given .1)
+
+marked-requires : tie.Need-marked-requires
+marked-requires c κs =
+    let d = c .before .before .before in
+    write-table _ _ _ _ _ _ (sym (d .before .before .before .judge-scalar .ensures) ∙ d .before .enum-told .given .1)
+
 returns-2 : tie.Need-returns-2
 unfolding writeOf
 returns-2 c =
@@ -39,4 +47,4 @@ pub write-spec : {M : Type 1} → statement M
 write-spec =
     tie.close
     (tie.spec (λ c κs. search needs) (λ c. search needs) (λ c κs. search needs) returns (λ c. search needs)
-    cast-put-scalar (λ c κs. search needs) (λ c κs. search needs) (λ c. search needs) returns-2)
+    cast-put-scalar put-scalar-requires marked-requires (λ c. search needs) returns-2)

@@ -20,6 +20,11 @@ put-row-requires c κs =
     let knows = row-knows (a .t .now) (length (a .bytes .now)) (a .self) (a .signals .now) (a .values .now) (sym (c .before .before .before .judge-row .ensures) ∙ c .before .enum-told .given .1) in
     (row-table _ _ _ _ _ knows, knows .equal, knows .good)
 
+marked-row-requires : tie.Need-marked-row-requires
+marked-row-requires c κs =
+    let d = c .before .before .before in
+    row-table _ _ _ _ _ (row-knows _ _ _ _ _ (sym (d .before .before .before .judge-row .ensures) ∙ d .before .enum-told .given .1))
+
 returns-2 : tie.Need-returns-2
 unfolding rowOf
 returns-2 c =
@@ -29,5 +34,5 @@ returns-2 c =
 pub write-row-spec : {M : Type 1} → statement M
 write-row-spec =
     tie.close
-    (tie.spec (λ c κs. search needs) (λ c. search needs) (λ c κs. search needs) returns (λ c. search needs) put-row-requires (λ c κs. search needs)
+    (tie.spec (λ c κs. search needs) (λ c. search needs) (λ c κs. search needs) returns (λ c. search needs) put-row-requires marked-row-requires
     (λ c. search needs) returns-2)

@@ -7,11 +7,15 @@ use Rattle.master.proofs.state.Transfer.rewritten.Tie as tie
 
 returns : tie.Need-returns
 unfolding rewritten
-returns c = rw (← c .before .touched .ensures, c .if1 .taken, or-true (c .before .before .before .args .self .written))
+returns c = rw (c .if1 .taken)
 
 returns-2 : tie.Need-returns-2
 unfolding rewritten
-returns-2 c = rw (← c .before .touched .ensures, c .if1 .left, or-false (c .before .before .before .args .self .written))
+returns-2 c = rw (← c .before .touched .ensures, c .if2 .taken, or-true (c .before .before .before .before .args .self .written))
+
+returns-3 : tie.Need-returns-3
+unfolding rewritten
+returns-3 c = rw (← c .before .touched .ensures, c .if2 .left, or-false (c .before .before .before .before .args .self .written))
 
 pub rewritten-spec : {M : Type 1} → statement M
-rewritten-spec = tie.close (tie.spec (λ c κs. search needs) returns returns-2)
+rewritten-spec = tie.close (tie.spec returns (λ c κs. search needs) returns-2 returns-3)

@@ -1,9 +1,9 @@
--- `pending::set` meets its contract: where the frame has a bit it is set.
+-- `placed::set` meets its contract: where the frame has a bit it is set.
 use mathlib.Core.Path.{refl, sym}
 use borrow.Author.Needs.{needs}
 use Rattle.master.proofs.Marking.{set-none}
-use Rattle.master.proofs.pending.set.Statement.{statement}
-use Rattle.master.proofs.pending.set.Tie as tie
+use Rattle.master.proofs.placed.set.Statement.{statement}
+use Rattle.master.proofs.placed.set.Tie as tie
 
 returns : tie.Need-returns
 returns c = refl
