@@ -6,6 +6,7 @@ use mathlib.Core.List.{List}
 use native.Mathlib.Omega.{arith}
 use borrow.Author.Tests.{eq-eqb, eqb-true}
 use Rattle.wire.proofs.Tests.{and-left, and-right}
+use Rattle.signal.proofs.Inside.{order}
 use Rattle.cluster.specs.Lists.{firstFrom}
 use Rattle.cluster.specs.Places.{places, somePlacement}
 use Rattle.cluster.specs.Table.{placementCount, placementSignal}
@@ -57,3 +58,10 @@ module _ (t : List ℕ) (s : ℕ) where
 
     pub first-of : Of t s (firstPlacement t s)
     first-of = first-is (omega (arith, first-low, o .there))
+
+    -- so one that has none before it is the first
+    pub first-only : ((j : ℕ) → j < k → placementSignal t j ≡ s → ⊥) → firstPlacement t s ≡ k
+    first-only none =
+        order (firstPlacement t s) k
+        (λ b. absurd (none (firstPlacement t s) b (first-of .is)))
+        (λ b. omega (arith, first-low))

@@ -12,7 +12,6 @@ use Rattle.wire.specs.Bits.{bit, Bytes}
 use Rattle.wire.proofs.Tests.{whether}
 use Rattle.signal.specs.Signal.{bitAt, scalarWidth, getScalar, getArray}
 use Rattle.signal.proofs.BytesOf.{bytes-length, bytes-at, byte-is}
-use Rattle.signal.proofs.Inside.{order}
 use Rattle.signal.proofs.Laws.{get-below}
 use Rattle.signal.proofs.Numbers.{bit-number, number-ext}
 use Rattle.cluster.specs.Check.{RightTable}
@@ -27,7 +26,7 @@ use Rattle.cluster.proofs.InWords.{F, S, P, signalWord, frameWord, kind
 use Rattle.cluster.proofs.Occupied.{covered-from}
 use Rattle.cluster.proofs.PlacementLaws.{placement-signal-below, placement-end-high, array-offset, in-frame}
 use Rattle.cluster.proofs.SignalLaws.{scalar-width-high, array-width-whole}
-use Rattle.cluster.proofs.SomePlacement.{Of, some-found, first-of, first-low}
+use Rattle.cluster.proofs.SomePlacement.{Of, some-found, first-only}
 use Rattle.cluster.proofs.Starts.{fresh-bytes}
 use Rattle.cluster.proofs.ValueLaws.{scalar-write, array-write, outside, written-bytes, scalar-put-bit, array-put-bit}
 
@@ -115,11 +114,7 @@ module _ (t : List ℕ) (ok : RightTable t) (s k : ℕ) (there : k < P t) (its :
   module _ (first : (j : ℕ) → j < k → signalWord t j ≢ s) where
     pub first-exactly : firstPlacement t s ≡ k
     unfolding placementCount placementSignal signalCount frameCount word
-    first-exactly =
-        let o = first-of t s k of in
-        order (firstPlacement t s) k
-        (λ b. absurd (first (firstPlacement t s) b (o .is)))
-        (λ b. omega (arith, first-low t s k of))
+    first-exactly = first-only t s k of first
 
   -- and a placement of a signal in a frame is the one that stands there
   pub placement-in-exactly : placementIn t s (frameWord t k) ≡ k

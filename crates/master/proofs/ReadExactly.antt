@@ -14,8 +14,8 @@ use Rattle.cluster.specs.Check.{RightTable}
 use Rattle.cluster.specs.Table.{signalCount, signalStart, published, placementCount, placementSignal, placementFrame}
 use Rattle.cluster.specs.Values.{firstPlacement, signalPublished, scalarAt, arrayRead, startRead}
 use Rattle.cluster.proofs.PlacementLaws.{has-placement, first-there, published-as}
-use Rattle.cluster.proofs.SomePlacement.{first-low}
-use Rattle.transport.proofs.Tests.{whether, order}
+use Rattle.cluster.proofs.SomePlacement.{first-low, first-only}
+use Rattle.transport.proofs.Tests.{whether}
 use Rattle.master.specs.declared.state.Last.{Last}
 use Rattle.master.specs.declared.state.Last.the-variants.{Never, Placement}
 use Rattle.master.specs.declared.state.Reception.{Reception}
@@ -68,14 +68,6 @@ module _ {A : Type 0} (t : List ℕ) (rs : List Reception) (s : ℕ) (from : Las
   published-by : (b : Bool) → Each b → signalPublished t s ≡ b
   published-by b p = let w = has-placement t ok s below in published-as t ok s (w .0) (w .1) ∙ p (w .0) (w .1 .there) (w .1 .is)
 
-  first-exactly : (k : ℕ) → First t s k → firstPlacement t s ≡ k
-  first-exactly k w =
-      let l = first-low t s k (record { there = w .0; is = w .1 }) in
-      let o = first-there t ok s below in
-      order k (firstPlacement t s)
-      (λ b. omega arith)
-      (λ b. absurd (w .2 (firstPlacement t s) b (o .is)))
-
   to-gives : v ≡ from (sourceOf t rs s) → Gives t rs s (from Never) (λ k. from (Placement k)) v
   unfolding sourceOf lastOf
   to-gives e =
@@ -97,7 +89,7 @@ module _ {A : Type 0} (t : List ℕ) (rs : List Reception) (s : ℕ) (from : Las
       (λ w. rw (published-by false (w .0), w .1 .1) (w .1 .2))
       (⊎-elim
       (λ w. rw (published-by false (w .0), w .1) (w .2))
-      (λ w. rw (published-by true (w .0), first-exactly (w .1 .0) (w .1 .1)) (w .1 .2)))
+      (λ w. rw (published-by true (w .0), first-only t s (w .1 .0) (record { there = w .1 .1 .0; is = w .1 .1 .1 }) (w .1 .1 .2)) (w .1 .2)))
 
 -- ---- every read
 
