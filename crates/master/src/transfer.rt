@@ -229,16 +229,16 @@ impl Transfer {
         nine
     }
 
-    // Written since its opening, where a signal touches its frame.
+    // Written since its opening, where a signal touches its frame; where it was written before, that is not asked.
     pub(crate) fn rewritten(self, t: &[u16], s: u16) -> Transfer
         requires { ⌜ RightTable (now t) ⌝ }
         ensures { λ r. ⌜ r ≡ rewrittenOf (now (t .entry)) s self ⌝ }
     {
+        if self.written {
+            return self;
+        }
         let opened = self.opened;
         let mut next = self;
-        if self.written {
-            return next;
-        }
         if opened.touched(t, s) {
             next.written = true;
         }
