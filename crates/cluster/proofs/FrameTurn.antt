@@ -6,15 +6,16 @@ use mathlib.Core.List.{List}
 use native.Mathlib.Nat.{sub-zero}
 use native.Mathlib.Omega.{arith}
 use borrow.Author.Tests.{leb-true}
-use lib.ListN.{getD, set, replicate}
+use lib.ListN.{length, getD, set, replicate}
 use Rattle.cluster.specs.Check.{fault, faults, frameFaults}
 use Rattle.cluster.specs.Columns.{frameColumns}
-use Rattle.cluster.specs.Read.{due, leading}
+use Rattle.cluster.specs.Read.{FrameRead, due, leading, frameSeen}
 use Rattle.cluster.specs.Right.{frameRight, records}
 use Rattle.cluster.specs.Table.{identifiers, frameCount, frameWords, frameAt, word, identifier, frameLength, flags}
 use Rattle.cluster.specs.declared.Verdict.the-variants.{Accepted}
+use Rattle.cluster.specs.declared.frames.Words.{Words}
 use Rattle.cluster.proofs.Clauses.{within-high, identifier-says}
-use Rattle.cluster.proofs.Scan.{Agrees, leading-all, all-there, halt-record, next-record, no-record}
+use Rattle.cluster.proofs.Scan.{Agrees, cut-short, leading-all, all-there, halt-record, next-record, no-record}
 use Rattle.cluster.proofs.UsedMarks.{Marks, unmarked, marked}
 
 -- the frames before frame f are passed, and their identifiers marked
@@ -32,12 +33,11 @@ all-passed t f used p h = sym (p .2 ∙ no-record t (frameAt f) (frameRight t) f
 module _ (t : List ℕ) (f : ℕ) (used : List Bool) where
   -- the record's words as they are read, with the identifier's mark
   abbrev pub frameRead : List Bool
-  frameRead = frameColumns (getD used (due t (frameAt f)) false) (due t (frameAt f)) (due t (frameAt f + 1)) (due t (frameAt f + 2))
+  frameRead = frameSeen used (record { identifier = due t (frameAt f); bytes = due t (frameAt f + 1); flags = due t (frameAt f + 2) })
 
   -- what the check computes of the words read is that list
-  pub seen-read : (at id bytes flags : ℕ) (mark : Bool) → at ≡ frameAt f → mark ≡ getD used id false → id ≡ due t at → bytes ≡ due t (at + 1)
-      → flags ≡ due t (at + 2) → frameColumns mark id bytes flags ≡ frameRead
-  seen-read at id bytes flags mark ea em ei eb ef = rw (em, ei, eb, ef, ea)
+  pub seen-read : (w : Words) → FrameRead t (frameAt f) w → frameSeen used w ≡ frameRead
+  seen-read w read = rw (read .identifier-is, read .bytes-is, read .flags-is)
 
   module _ (p : Passed t f used) (h : f < frameCount t) where
     agrees : Agrees t (frameAt f) 0 frameRead (frameRight t f)
@@ -52,6 +52,11 @@ module _ (t : List ℕ) (f : ℕ) (used : List Bool) where
         ),
       )),
     )
+
+    -- a record that is cut off
+    pub cut-off : length t < frameAt f + frameWords → leading frameRead < frameWords
+    unfolding frameColumns
+    cut-off = cut-short t (frameAt f) frameRead (frameRight t f) agrees (omega arith)
 
     -- a word is not right
     pub stops : leading frameRead < frameWords → (place : ℕ) → frameAt f + leading frameRead ≡ place → fault place ≡ frameFaults t

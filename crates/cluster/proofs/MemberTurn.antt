@@ -5,16 +5,17 @@ use mathlib.Core.Bool.{Bool, true, false}
 use mathlib.Core.List.{List}
 use native.Mathlib.Nat.{sub-zero}
 use native.Mathlib.Omega.{arith}
-use lib.ListN.{getD, set, replicate}
+use lib.ListN.{length, getD, set, replicate}
 use Rattle.cluster.specs.Check.{fault, faults, memberFaults}
 use Rattle.cluster.specs.Columns.{follows, memberColumns}
-use Rattle.cluster.specs.Read.{due, leading, memberSeen}
+use Rattle.cluster.specs.Read.{MemberRead, due, leading, memberSeen}
 use Rattle.cluster.specs.Right.{memberRight, records}
 use Rattle.cluster.specs.Table.{mostFrames, mostMembers, counted, published, frameCount, memberCount, memberWords, memberAt, word, memberList, memberFrame}
 use Rattle.cluster.specs.declared.Verdict.the-variants.{Accepted}
+use Rattle.cluster.specs.declared.members.Words.{Words}
 use Rattle.cluster.proofs.Clauses.{member-says}
 use Rattle.cluster.proofs.Counting.{counted-none, counted-next, follows-high}
-use Rattle.cluster.proofs.Scan.{Agrees, leading-all, all-there, halt-record, next-record, no-record}
+use Rattle.cluster.proofs.Scan.{Agrees, cut-short, leading-all, all-there, halt-record, next-record, no-record}
 use Rattle.cluster.proofs.UsedMarks.{Marks, unmarked, marked}
 
 -- the members before member m are passed, their frames marked and their lists counted
@@ -44,11 +45,11 @@ module _ (t : List ℕ) (m lists : ℕ) (listed : List Bool) where
 
   -- the record's words as they are read, with the frame's mark
   abbrev pub memberRead : List Bool
-  memberRead = memberSeen t listed (follows lists listRead) frameRead
+  memberRead = memberSeen t listed lists (record { list = listRead; frame = frameRead })
 
   -- what the check computes of the words read is that list
-  pub seen-read : (list frame : ℕ) (up : Bool) → list ≡ listRead → frame ≡ frameRead → up ≡ follows lists list → memberSeen t listed up frame ≡ memberRead
-  seen-read list frame up el ef eu = rw (eu, el, ef)
+  pub seen-read : (w : Words) → MemberRead t (memberAt t m) w → memberSeen t listed lists w ≡ memberRead
+  seen-read w read = rw (read .list-is, read .frame-is)
 
   module _ (turn : Turn t m lists listed) where
     agrees : Agrees t (memberAt t m) 0 memberRead (memberRight t m)
@@ -63,6 +64,11 @@ module _ (t : List ℕ) (m lists : ℕ) (listed : List Bool) where
         ),
       )),
     )
+
+    -- a record that is cut off
+    pub cut-off : length t < memberAt t m + memberWords → leading memberRead < memberWords
+    unfolding memberColumns
+    cut-off = cut-short t (memberAt t m) memberRead (memberRight t m) agrees (omega arith)
 
     -- a word is not right
     pub stops : leading memberRead < memberWords → (place : ℕ) → memberAt t m + leading memberRead ≡ place → fault place ≡ memberFaults t
@@ -87,12 +93,12 @@ module _ (t : List ℕ) (m lists : ℕ) (listed : List Bool) where
       unfolding memberColumns
       list-high = follows-high lists listRead (leading-all memberRead right .0)
 
-      pub passes : (list frame : ℕ) → list ≡ listRead → frame ≡ frameRead → Passed t (m + 1) (list + 1) (set listed frame true)
+      pub passes : (w : Words) → MemberRead t (memberAt t m) w → Passed t (m + 1) (w .list + 1) (set listed (w .frame) true)
       unfolding memberColumns
-      passes list frame el ef = (
+      passes w read = (
         omega arith,
-        rw (ef, are .1) (marked mostFrames (memberFrame t) m listed (turn .0 .1) (omega (arith, are, frame-below))),
-        rw (el, are .0) (sym (counted-next (memberList t) m)),
-        omega (arith, list-high),
+        rw (read .frame-is, are .1) (marked mostFrames (memberFrame t) m listed (turn .0 .1) (omega (arith, are, frame-below))),
+        rw (read .list-is, are .0) (sym (counted-next (memberList t) m)),
+        omega (arith, read .list-is, list-high),
         turn .0 .4 ∙ next-record t (memberRight t) m (memberCount t) (memberAt t m) memberRead (memberAt t (m + 1)) (turn .1) agrees right (omega arith),
       )

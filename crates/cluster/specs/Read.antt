@@ -7,11 +7,13 @@ use lib.Dec.{ltb, eqb}
 use lib.ListN.{length, getD}
 use Rattle.wire.specs.Bits.{bit}
 use Rattle.cluster.specs.declared.entries.Words as entry
+use Rattle.cluster.specs.declared.frames.Words as frame
+use Rattle.cluster.specs.declared.members.Words as member
 use Rattle.cluster.specs.declared.placements.Before.{Before}
 use Rattle.cluster.specs.declared.placements.Words as placement
 use Rattle.cluster.specs.declared.signals.Words as signal
 use Rattle.cluster.specs.Table.{mostFrames, mostSignals, word, frameCount, frameLength, published, signalCount, signalWidth, isArray, placementAt}
-use Rattle.cluster.specs.Columns.{widthRight, follows, placementColumns, memberColumns}
+use Rattle.cluster.specs.Columns.{widthRight, follows, frameColumns, placementColumns, memberColumns}
 use Rattle.cluster.specs.Places.{anyBelow}
 
 -- the word at a position, and 65536, which no column takes, where it is missing
@@ -61,11 +63,21 @@ placementSeen t occupied last x w =
     (hits (getD occupied (w .frame) 0) (w .offset) (signalWidth t (w .signal)))
     (w .signal) (w .frame) (w .offset)
 
--- the columns of a member's record as it was read, with the marks of the frames in a list
-abbrev pub memberSeen : List ℕ → List Bool → Bool → ℕ → List Bool
-memberSeen t listed up f = memberColumns (frameCount t) up (published t f) (getD listed f false) f
+-- the columns of a frame's record as it was read, with the marks of the identifiers used
+abbrev pub frameSeen : List Bool → frame.Words → List Bool
+frameSeen used w = frameColumns (getD used (w .identifier) false) (w .identifier) (w .bytes) (w .flags)
 
--- the words of a signal's, a placement's and an entry's record
+-- the columns of a member's record as it was read, with the marks of the frames in a list, behind members of so many lists
+abbrev pub memberSeen : List ℕ → List Bool → ℕ → member.Words → List Bool
+memberSeen t listed lists w =
+    memberColumns (frameCount t) (follows lists (w .list)) (published t (w .frame)) (getD listed (w .frame) false) (w .frame)
+
+-- the words of a frame's, a signal's, a placement's, a member's and an entry's record
+pub record FrameRead (t : List ℕ) (at : ℕ) (r : frame.Words) : Type 0 where
+  pub identifier-is : r .identifier ≡ due t at
+  pub bytes-is : r .bytes ≡ due t (at + 1)
+  pub flags-is : r .flags ≡ due t (at + 2)
+
 pub record SignalRead (t : List ℕ) (at : ℕ) (r : signal.Words) : Type 0 where
   pub kind-is : r .kind ≡ due t at
   pub width-is : r .width ≡ due t (at + 1)
@@ -79,6 +91,11 @@ pub record PlacementRead (t : List ℕ) (at : ℕ) (r : placement.Words) : Type 
   pub signal-high : r .signal ≤ 65536
   pub frame-high : r .frame ≤ 65536
   pub offset-high : r .offset ≤ 65536
+
+pub record MemberRead (t : List ℕ) (at : ℕ) (r : member.Words) : Type 0 where
+  pub list-is : r .list ≡ due t at
+  pub frame-is : r .frame ≡ due t (at + 1)
+  pub list-high : r .list ≤ 65536
 
 pub record EntryRead (t : List ℕ) (at : ℕ) (r : entry.Words) : Type 0 where
   pub schedule-is : r .schedule ≡ due t at

@@ -2,19 +2,18 @@
 use crate::Limits;
 use crate::Verdict;
 use crate::fault;
-use crate::marks::is_marked;
 use crate::table::Layout;
 use crate::table::due;
 use crate::table::frame_at;
+use crate::table::whole_records;
 use crate::table::word;
 use wire::checksum::Model;
 ghost use mathlib.Core.Path.{_≡_};
 ghost use Prim.Native.Nat.{_+_, _*_, _<_, _≤_};
 ghost use lib.ListN.{length};
 ghost use Rattle.cluster.specs.Check.{frameFaults};
-ghost use Rattle.cluster.specs.Columns.{frameColumns};
-ghost use Rattle.cluster.specs.Read.{leading};
-ghost use Rattle.cluster.specs.Table.{mostFrames, frameAt, frameCount, identifier as identifierOf, frameLength, flags as flagsOf};
+ghost use Rattle.cluster.specs.Read.{FrameRead, leading, frameSeen};
+ghost use Rattle.cluster.specs.Table.{mostFrames, identifiers, frameAt, frameCount, identifier as identifierOf, frameLength, flags as flagsOf};
 ghost use Rattle.cluster.specs.Table.{published as publishedOf, classic as classicOf, frameModel};
 
 // How many frames there are.
@@ -88,42 +87,81 @@ pub(crate) fn room_of(t: &[u16], f: usize) -> Room
     }
 }
 
-// Checks the frames' records; the identifiers used so far are marked.
+// Checks the frames' records, those that are there in whole, and then one that is cut off; the identifiers used so far are marked.
 pub(crate) fn judge(t: &[u16]) -> Verdict
     requires { ⌜ frameCount (now t) ≤ mostFrames ⌝ }
     ensures { λ r. ⌜ r ≡ frameFaults (now (t .entry)) ⌝ }
 {
     let mut used = [false; Limits::IDENTIFIERS];
     let n = count(t) as usize;
+    let whole = whole_records(t, Layout::HEADER, Layout::FRAME, n);
     let mut f: usize = 0;
-    while f < n {
+    while f < whole {
         let at = frame_at(f);
-        let id = due(t, at);
-        let right = right_words(is_marked(&used, id), id, due(t, at + 1), due(t, at + 2));
+        let words = read(t, at);
+        let id = words.identifier;
+        let right = right_words(&used, words);
         if right < Layout::FRAME {
             return fault(at + right);
         }
         used[id] = true;
         f += 1;
     }
+    if f < n {
+        let at = frame_at(f);
+        return fault(at + right_words(&used, read_due(t, at)));
+    }
     Verdict::Accepted
 }
 
-// How many words of a frame's record are right before the first that is not.
-fn right_words(used: bool, id: usize, bytes: usize, flags: usize) -> usize
-    ensures { λ r. ⌜ r ≡ leading (frameColumns used id bytes flags) ⌝ }
+// A frame's record as it was read.
+struct Words {
+    identifier: usize,
+    bytes: usize,
+    flags: usize,
+}
+
+// Reads a frame's record that is there in whole.
+fn read(t: &[u16], at: usize) -> Words
+    requires { ⌜ at + 3 ≤ length (now t) ⌝ }
+    ensures { λ r. ⌜ FrameRead (now (t .entry)) at r ⌝ }
 {
+    Words {
+        identifier: t[at] as usize,
+        bytes: t[at + 1] as usize,
+        flags: t[at + 2] as usize,
+    }
+}
+
+// Reads a frame's record; a missing word reads as 65536.
+fn read_due(t: &[u16], at: usize) -> Words
+    requires { ⌜ at < 100000 ⌝ }
+    ensures { λ r. ⌜ FrameRead (now (t .entry)) at r ⌝ }
+{
+    Words {
+        identifier: due(t, at),
+        bytes: due(t, at + 1),
+        flags: due(t, at + 2),
+    }
+}
+
+// How many words of a frame's record are right before the first that is not.
+fn right_words(used: &[bool], words: Words) -> usize
+    requires { ⌜ length (now used) ≡ identifiers ⌝ }
+    ensures { λ r. ⌜ r ≡ leading (frameSeen (now (used .entry)) words) ⌝ }
+{
+    let id = words.identifier;
     if Limits::IDENTIFIERS <= id {
         return 0;
     }
-    if used {
+    if used[id] {
         return 0;
     }
-    if bytes < 1 {
+    if words.bytes < 1 {
         return 1;
     }
-    if 8 < bytes {
+    if 8 < words.bytes {
         return 1;
     }
-    if flags <= 3 { 3 } else { 2 }
+    if words.flags <= 3 { 3 } else { 2 }
 }

@@ -1,18 +1,10 @@
-// Marks: a number that was used, and the occupied bits of a frame, as one number.
+// Marks: the occupied bits of a frame, as one number.
 ghost use mathlib.Core.Path.{_≡_};
 ghost use mathlib.Core.Bool.{false, not, _||_};
 ghost use Prim.Native.Nat.{ℕ, _+_, _-_, _^_, _<_, _≤_};
-ghost use lib.ListN.{getD};
 ghost use Rattle.wire.specs.Bits.{bit};
 ghost use Rattle.signal.specs.Signal.{inside};
 ghost use Rattle.cluster.specs.Read.{hits};
-
-// Whether a number is marked.
-pub(crate) fn is_marked(marks: &[bool], i: usize) -> bool
-    ensures { λ r. ⌜ r ≡ getD (now (marks .entry)) i false ⌝ }
-{
-    if i < marks.len() { marks[i] } else { false }
-}
 
 // Whether none of the bits from an offset on is occupied.
 pub(crate) fn are_free(bits: u64, offset: usize, width: usize) -> bool

@@ -7,13 +7,14 @@ use crate::table::Layout;
 use crate::table::due;
 use crate::table::follows;
 use crate::table::member_at;
+use crate::table::whole_records;
 use crate::table::word;
 ghost use mathlib.Core.Path.{_≡_};
-ghost use Prim.Native.Nat.{_≤_};
+ghost use Prim.Native.Nat.{_+_, _<_, _≤_};
 ghost use lib.ListN.{length};
 ghost use Rattle.cluster.specs.Check.{memberFaults};
 ghost use Rattle.cluster.specs.Lists.{members, nextMember, isOneOf, memberOf};
-ghost use Rattle.cluster.specs.Read.{RecordsBefore, leading, memberSeen};
+ghost use Rattle.cluster.specs.Read.{RecordsBefore, MemberRead, leading, memberSeen};
 ghost use Rattle.cluster.specs.Table.{mostFrames, mostMembers, mostPlacements, memberCount, placementCount};
 ghost use Rattle.cluster.specs.Table.{memberList, memberFrame, listCount};
 
@@ -96,7 +97,7 @@ pub fn of_frame(t: &[u16], f: u16) -> u16
     m
 }
 
-// Checks the members' records; the frames in a list so far are marked.
+// Checks the members' records, those that are there in whole, and then one that is cut off; the frames in a list so far are marked.
 pub(crate) fn judge(t: &[u16]) -> Verdict
     requires { ⌜ RecordsBefore (now t) × (memberCount (now t) ≤ mostMembers) × (placementCount (now t) ≤ mostPlacements) ⌝ }
     ensures { λ r. ⌜ r ≡ memberFaults (now (t .entry)) ⌝ }
@@ -104,29 +105,63 @@ pub(crate) fn judge(t: &[u16]) -> Verdict
     let mut listed = [false; Limits::FRAMES];
     let first = member_at(t, 0);
     let n = count(t) as usize;
+    let whole = whole_records(t, first, Layout::MEMBER, n);
     let mut lists: usize = 0;
     let mut m: usize = 0;
-    while m < n {
+    while m < whole {
         let at = first + Layout::MEMBER * m;
-        let list = due(t, at);
-        let f = due(t, at + 1);
-        let right = right_words(t, &listed, follows(lists, list), f);
+        let words = read(t, at);
+        let f = words.frame;
+        let right = right_words(t, &listed, lists, words);
         if right < Layout::MEMBER {
             return fault(at + right);
         }
         listed[f] = true;
-        lists = list + 1;
+        lists = words.list + 1;
         m += 1;
+    }
+    if m < n {
+        let at = first + Layout::MEMBER * m;
+        return fault(at + right_words(t, &listed, lists, read_due(t, at)));
     }
     Verdict::Accepted
 }
 
-// How many words of a member's record are right before the first that is not; `up` says that its list number follows.
-fn right_words(t: &[u16], listed: &[bool], up: bool, f: usize) -> usize
-    requires { ⌜ RecordsBefore (now t) × (length (now listed) ≡ mostFrames) ⌝ }
-    ensures { λ r. ⌜ r ≡ leading (memberSeen (now (t .entry)) (now (listed .entry)) up f) ⌝ }
+// A member's record as it was read.
+struct Words {
+    list: usize,
+    frame: usize,
+}
+
+// Reads a member's record that is there in whole.
+fn read(t: &[u16], at: usize) -> Words
+    requires { ⌜ at + 2 ≤ length (now t) ⌝ }
+    ensures { λ r. ⌜ MemberRead (now (t .entry)) at r ⌝ }
 {
-    if !up {
+    Words {
+        list: t[at] as usize,
+        frame: t[at + 1] as usize,
+    }
+}
+
+// Reads a member's record; a missing word reads as 65536.
+fn read_due(t: &[u16], at: usize) -> Words
+    requires { ⌜ at < 100000 ⌝ }
+    ensures { λ r. ⌜ MemberRead (now (t .entry)) at r ⌝ }
+{
+    Words {
+        list: due(t, at),
+        frame: due(t, at + 1),
+    }
+}
+
+// How many words of a member's record are right before the first that is not, behind members of so many lists.
+fn right_words(t: &[u16], listed: &[bool], lists: usize, words: Words) -> usize
+    requires { ⌜ RecordsBefore (now t) × (length (now listed) ≡ mostFrames) × (words .list ≤ 65536) ⌝ }
+    ensures { λ r. ⌜ r ≡ leading (memberSeen (now (t .entry)) (now (listed .entry)) lists words) ⌝ }
+{
+    let f = words.frame;
+    if !follows(lists, words.list) {
         return 0;
     }
     if frames::count(t) as usize <= f {

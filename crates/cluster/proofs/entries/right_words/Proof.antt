@@ -13,7 +13,9 @@ use Rattle.cluster.proofs.entries.right_words.Tie as tie
 up : (c : tie.Else1) → let a = c .before .before .args in follows (a .schedules) (a .words .schedule) ≡ true
 up c = sym (c .before .follows .ensures) ∙ not-false (c .before .follows .result) (c .if1 .left)
 
-target : (c : tie.Else3) → let a = c .before .before .before .before .before .before .args in targetRight (a .frames) (a .lists) (a .words .kind) (a .words .target) ≡ true
+target : (c : tie.Else3)
+    → let a = c .before .before .before .before .before .before .args in
+    targetRight (a .frames) (a .lists) (a .words .kind) (a .words .target) ≡ true
 target c = sym (c .before .target-right .ensures) ∙ not-false (c .before .target-right .result) (c .if3 .left)
 
 returns : tie.Need-returns
