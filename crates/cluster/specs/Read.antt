@@ -82,14 +82,12 @@ pub record SignalRead (t : List ℕ) (at : ℕ) (r : signal.Words) : Type 0 wher
   pub kind-is : r .kind ≡ due t at
   pub width-is : r .width ≡ due t (at + 1)
   pub start-is : r .start ≡ due t (at + 2)
-  pub width-high : r .width ≤ 65536
 
 pub record PlacementRead (t : List ℕ) (at : ℕ) (r : placement.Words) : Type 0 where
   pub signal-is : r .signal ≡ due t at
   pub frame-is : r .frame ≡ due t (at + 1)
   pub offset-is : r .offset ≡ due t (at + 2)
   pub signal-high : r .signal ≤ 65536
-  pub frame-high : r .frame ≤ 65536
   pub offset-high : r .offset ≤ 65536
 
 pub record MemberRead (t : List ℕ) (at : ℕ) (r : member.Words) : Type 0 where

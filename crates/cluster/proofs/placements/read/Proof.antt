@@ -26,7 +26,6 @@ returns c =
       frame-is = sym (due-there (a .t .now) (a .at + 1) (omega arith));
       offset-is = sym (due-there (a .t .now) (a .at + 2) (omega arith));
       signal-high = omega (arith, c .before .before .shared-slice-known2 .given (a .at));
-      frame-high = omega (arith, c .before .shared-slice-known3 .given (a .at + 1));
       offset-high = omega (arith, c .shared-slice-known4 .given (a .at + 2));
     }
 

@@ -25,7 +25,6 @@ returns c =
       kind-is = sym (due-there (a .t .now) (a .at) (omega arith));
       width-is = sym (due-there (a .t .now) (a .at + 1) (omega arith));
       start-is = sym (due-there (a .t .now) (a .at + 2) (omega arith));
-      width-high = omega (arith, c .before .shared-slice-known2 .given (a .at + 1));
     }
 
 pub read-spec : {M : Type 1} → statement M
