@@ -5,7 +5,7 @@ use script::forms;
 use script::forms::{Line, MOST};
 
 // The forms by their names.
-#[derive(Drop)]
+#[derive(Clone, Copy)]
 pub(crate) struct Form {}
 
 impl Form {

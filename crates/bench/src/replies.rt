@@ -15,7 +15,7 @@ use transport::reassembly::Answer;
 use wire::Answer as Made;
 
 // An answer before it is printed: its text, and the numbers that stand in it.
-#[derive(Drop)]
+#[derive(Clone, Copy)]
 pub(crate) struct Reply {
     pub(crate) text: u32,
     pub(crate) n: u32,

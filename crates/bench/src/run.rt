@@ -12,7 +12,7 @@ use master::state::State;
 const MOST_KEPT: usize = LONGEST_LINE + 1;
 
 // What is there to run: how many characters of the text, and whether more may follow.
-#[derive(Drop)]
+#[derive(Clone, Copy)]
 struct Part {
     count: usize,
     goes_on: bool,

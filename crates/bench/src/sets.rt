@@ -7,7 +7,7 @@ use crate::texts::Text;
 use desk::*;
 
 // What a line sets: a value at a place, and behind it so many of the line's numbers, from one of them on.
-#[derive(Drop)]
+#[derive(Clone, Copy)]
 struct Setting {
     place: usize,
     value: u32,

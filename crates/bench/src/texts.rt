@@ -5,7 +5,7 @@ use desk::{Desk, PRINTED, size};
 use script::print;
 
 // The patterns by their names.
-#[derive(Drop)]
+#[derive(Clone, Copy)]
 pub(crate) struct Text {}
 
 impl Text {

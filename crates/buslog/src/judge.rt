@@ -13,7 +13,7 @@ use wire::checksum::Model;
 use wire::{Answer, checksum, identifier};
 
 // The verdicts in the order in which they apply, with the identifier where there is one.
-#[derive(Drop)]
+#[derive(Clone, Copy)]
 pub enum Verdict {
     Text,
     Parity,
@@ -24,7 +24,7 @@ pub enum Verdict {
 }
 
 // What the judge answers: the verdict, or refusal 1 for the table.
-#[derive(Drop)]
+#[derive(Clone, Copy)]
 pub enum Judged {
     Line(Verdict),
     Refused(Refusal),

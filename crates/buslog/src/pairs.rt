@@ -4,7 +4,7 @@ ghost use Rattle.buslog.specs.Pairs.{digit_of};
 ghost use Rattle.buslog.specs.Parts.{Reads, pair_at};
 
 // The bytes at the front, and how many; none where the line is text.
-#[derive(Drop)]
+#[derive(Clone, Copy)]
 pub(crate) struct Pairs {
     pub(crate) count: usize,
     pub(crate) bytes: [u8; 10],

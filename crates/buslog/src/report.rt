@@ -13,14 +13,14 @@ use cluster::Verdict;
 use refusal::Refusal;
 
 // What the report of some text answers.
-#[derive(Drop)]
+#[derive(Clone, Copy)]
 pub enum Answer {
     Reported,
     Refused(Refusal),
 }
 
 // The answer, how many lines were reported, how many characters of the text they have, and how many their rows have.
-#[derive(Drop)]
+#[derive(Clone, Copy)]
 pub struct Written {
     pub answer: Answer,
     pub lines: usize,

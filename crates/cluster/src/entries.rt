@@ -120,7 +120,7 @@ pub(crate) fn judge(t: &[u16]) -> Verdict
 }
 
 // An entry's record as it was read.
-#[derive(Drop)]
+#[derive(Clone, Copy)]
 struct Words {
     schedule: usize,
     kind: usize,

@@ -63,7 +63,7 @@ pub fn model(t: &[u16], f: u16) -> Model
 }
 
 // What a frame says to the records that name it: how many bits it has, and whether the master publishes it.
-#[derive(Drop)]
+#[derive(Clone, Copy)]
 pub(crate) struct Room {
     pub(crate) bits: usize,
     pub(crate) published: bool,
@@ -109,7 +109,7 @@ pub(crate) fn judge(t: &[u16]) -> Verdict
 }
 
 // A frame's record as it was read.
-#[derive(Drop)]
+#[derive(Clone, Copy)]
 struct Words {
     identifier: usize,
     bytes: usize,

@@ -17,14 +17,14 @@ ghost use Rattle.cluster.specs.Check.{fault as faultAt, judged, taken_of};
 ghost use Rattle.cluster.specs.Answers.{verdict_told, check_told};
 
 // What the table check answers: accepted, or refusal 1 with the position of the first word that is wrong, missing or surplus.
-#[derive(Drop)]
+#[derive(Clone, Copy)]
 pub enum Verdict {
     Accepted,
     Refused(Refusal),
 }
 
 // The most that a table has of each, and how many identifiers there are for frames.
-#[derive(Drop)]
+#[derive(Clone, Copy)]
 pub struct Limits;
 
 impl Limits {

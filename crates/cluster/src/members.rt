@@ -119,7 +119,7 @@ pub(crate) fn judge(t: &[u16]) -> Verdict
 }
 
 // A member's record as it was read.
-#[derive(Drop)]
+#[derive(Clone, Copy)]
 struct Words {
     list: usize,
     frame: usize,

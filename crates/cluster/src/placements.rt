@@ -117,7 +117,7 @@ pub(crate) fn judge(t: &[u16]) -> Verdict
 }
 
 // A placement's record as it was read.
-#[derive(Drop)]
+#[derive(Clone, Copy)]
 struct Words {
     signal: usize,
     frame: usize,
@@ -125,7 +125,7 @@ struct Words {
 }
 
 // What is known of the placements before: how many signals they are of, and the frame of the last one.
-#[derive(Drop)]
+#[derive(Clone, Copy)]
 struct Before {
     placed: usize,
     frame: usize,

@@ -55,7 +55,7 @@ pub fn array_length(t: &[u16], s: u16) -> usize
 }
 
 // What a signal says of its placements: whether it is an array, and how many bits it has.
-#[derive(Drop)]
+#[derive(Clone, Copy)]
 pub(crate) struct Shape {
     pub(crate) array: bool,
     pub(crate) width: usize,
@@ -98,7 +98,7 @@ pub(crate) fn judge(t: &[u16]) -> Verdict
 }
 
 // A signal's record as it was read.
-#[derive(Drop)]
+#[derive(Clone, Copy)]
 struct Words {
     kind: usize,
     width: usize,

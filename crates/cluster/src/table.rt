@@ -37,7 +37,7 @@ pub(crate) fn whole_records(t: &[u16], first: usize, words: usize, n: usize) -> 
 }
 
 // The words of the header and of each record.
-#[derive(Drop)]
+#[derive(Clone, Copy)]
 pub(crate) struct Layout;
 
 impl Layout {

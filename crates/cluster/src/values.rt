@@ -6,7 +6,7 @@ use crate::fresh::set_bytes;
 use crate::{placements, signals};
 
 // A byte array as it is handed out: eight bytes, the unused ones 255, and how many are used.
-#[derive(Drop)]
+#[derive(Clone, Copy)]
 pub struct Array {
     pub bytes: [u8; 8],
     pub count: usize,

@@ -9,7 +9,7 @@ use buslog::report;
 use libc::{STDERR_FILENO, STDIN_FILENO, STDOUT_FILENO};
 
 // How far the log was reported.
-#[derive(Drop)]
+#[derive(Clone, Copy)]
 struct Log {
     // The number of the next line.
     number: u64,

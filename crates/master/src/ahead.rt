@@ -13,7 +13,7 @@ use cluster::{Verdict, members};
 use refusal::Refusal;
 
 // What number ahead answers.
-#[derive(Drop)]
+#[derive(Clone, Copy)]
 pub enum AheadAnswer {
     Count(u16),
     Refused(Refusal),

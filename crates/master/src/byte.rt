@@ -16,7 +16,7 @@ use cluster::Verdict;
 use refusal::Refusal;
 
 // What a byte in answers; response says that the response's eight bytes are there.
-#[derive(Drop)]
+#[derive(Clone, Copy)]
 pub enum ByteAnswer {
     More,
     Success,
@@ -26,7 +26,7 @@ pub enum ByteAnswer {
 }
 
 // The state handed back, the answer, and the bytes of a successful response; 255 where there is none.
-#[derive(Drop)]
+#[derive(Clone, Copy)]
 pub struct Took {
     pub state: State,
     pub answer: ByteAnswer,

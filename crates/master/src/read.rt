@@ -14,35 +14,35 @@ use cluster::{Verdict, signals, values};
 use refusal::Refusal;
 
 // What a read of a scalar answers.
-#[derive(Drop)]
+#[derive(Clone, Copy)]
 pub enum ReadAnswer {
     Value(u16),
     Refused(Refusal),
 }
 
 // What a read of an array answers: the number of bytes.
-#[derive(Drop)]
+#[derive(Clone, Copy)]
 pub enum ArrayAnswer {
     Bytes(usize),
     Refused(Refusal),
 }
 
 // The answer, and the bytes; the unused ones are 255.
-#[derive(Drop)]
+#[derive(Clone, Copy)]
 pub struct ReadArray {
     pub answer: ArrayAnswer,
     pub bytes: [u8; 8],
 }
 
 // What a status reading answers: the 16-bit word.
-#[derive(Drop)]
+#[derive(Clone, Copy)]
 pub enum StatusAnswer {
     Word(u16),
     Refused(Refusal),
 }
 
 // The state handed back, and the answer.
-#[derive(Drop)]
+#[derive(Clone, Copy)]
 pub struct StatusRead {
     pub state: State,
     pub answer: StatusAnswer,

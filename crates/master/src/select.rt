@@ -12,14 +12,14 @@ use cluster::{Verdict, entries};
 use refusal::Refusal;
 
 // What select answers.
-#[derive(Drop)]
+#[derive(Clone, Copy)]
 pub enum SelectAnswer {
     Selected,
     Refused(Refusal),
 }
 
 // The state handed back, and the answer.
-#[derive(Drop)]
+#[derive(Clone, Copy)]
 pub struct Chosen {
     pub state: State,
     pub answer: SelectAnswer,

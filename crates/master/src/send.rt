@@ -13,21 +13,21 @@ use refusal::Refusal;
 use transport::reassembly::Assembly;
 
 // What send answers.
-#[derive(Drop)]
+#[derive(Clone, Copy)]
 pub enum SendAnswer {
     Sending,
     Refused(Refusal),
 }
 
 // The state handed back, and the answer.
-#[derive(Drop)]
+#[derive(Clone, Copy)]
 pub struct Sent {
     pub state: State,
     pub answer: SendAnswer,
 }
 
 // What the message state is.
-#[derive(Drop)]
+#[derive(Clone, Copy)]
 pub enum MessageAnswer {
     None,
     Sending,

@@ -11,14 +11,14 @@ use cluster::{Verdict, fresh, taken};
 use refusal::Refusal;
 
 // What fresh answers.
-#[derive(Drop)]
+#[derive(Clone, Copy)]
 pub enum FreshAnswer {
     Fresh,
     Refused(Refusal),
 }
 
 // The fresh state and the answer; beside a refusal the state says nothing.
-#[derive(Drop)]
+#[derive(Clone, Copy)]
 pub struct Started {
     pub state: State,
     pub answer: FreshAnswer,

@@ -7,21 +7,21 @@ use cluster::{Limits, fresh};
 use transport::reassembly::Assembly;
 
 // The current place in a schedule: none, or the number of an entry in the table.
-#[derive(Drop)]
+#[derive(Clone, Copy)]
 pub enum Current {
     None,
     Entry(u16),
 }
 
 // The schedule that begins at the next slot start, if one was asked for.
-#[derive(Drop)]
+#[derive(Clone, Copy)]
 pub enum Requested {
     None,
     Schedule(u16),
 }
 
 // Where the schedule stands.
-#[derive(Drop)]
+#[derive(Clone, Copy)]
 pub struct Plan {
     // The ticks left in the current slot.
     pub wait: u16,
@@ -30,7 +30,7 @@ pub struct Plan {
 }
 
 // What an open transfer is of: a frame by its number, the request (60) or the response (61).
-#[derive(Drop)]
+#[derive(Clone, Copy)]
 pub enum Opened {
     Nothing,
     Frame(u16),
@@ -39,7 +39,7 @@ pub enum Opened {
 }
 
 // The transfer record.
-#[derive(Drop)]
+#[derive(Clone, Copy)]
 pub struct Transfer {
     pub opened: Opened,
     // The response bytes that have passed.
@@ -51,7 +51,7 @@ pub struct Transfer {
 }
 
 // A message that is being sent: to which NAD, its length, and the number of its next frame, from 0.
-#[derive(Drop)]
+#[derive(Clone, Copy)]
 pub struct Sending {
     pub nad: u8,
     pub length: u16,
@@ -59,7 +59,7 @@ pub struct Sending {
 }
 
 // The diagnostic message.
-#[derive(Drop)]
+#[derive(Clone, Copy)]
 pub enum Message {
     None,
     Sending(Sending),
@@ -68,7 +68,7 @@ pub enum Message {
 }
 
 // Status in its parts.
-#[derive(Drop)]
+#[derive(Clone, Copy)]
 pub struct Status {
     pub error: bool,
     pub success: bool,
@@ -78,20 +78,20 @@ pub struct Status {
 }
 
 // The placement of a signal that was received last, by its number in the table.
-#[derive(Drop)]
+#[derive(Clone, Copy)]
 pub enum Last {
     Never,
     Placement(u16),
 }
 
 // What is kept of a signal's receptions.
-#[derive(Drop)]
+#[derive(Clone, Copy)]
 pub struct Reception {
     pub last: Last,
 }
 
 // The whole state.
-#[derive(Drop)]
+#[derive(Clone, Copy)]
 pub struct State {
     pub pending: [bool; Limits::FRAMES],
     pub plan: Plan,

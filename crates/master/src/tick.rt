@@ -19,7 +19,7 @@ use cluster::{Limits, Verdict, entries};
 use refusal::Refusal;
 
 // What a tick answers; opened tells the protected identifier.
-#[derive(Drop)]
+#[derive(Clone, Copy)]
 pub enum TickAnswer {
     Waiting,
     Idle,
@@ -29,7 +29,7 @@ pub enum TickAnswer {
 }
 
 // The state handed back, and the answer.
-#[derive(Drop)]
+#[derive(Clone, Copy)]
 pub struct Ticked {
     pub state: State,
     pub answer: TickAnswer,

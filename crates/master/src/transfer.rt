@@ -23,7 +23,7 @@ use wire::checksum::Model;
 use wire::{Answer, checksum, identifier};
 
 // What is known of a transfer.
-#[derive(Drop)]
+#[derive(Clone, Copy)]
 pub struct Format {
     pub identifier: u16,
     // The data bytes.

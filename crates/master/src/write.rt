@@ -16,14 +16,14 @@ use cluster::{Verdict, signals, values};
 use refusal::Refusal;
 
 // What a write answers.
-#[derive(Drop)]
+#[derive(Clone, Copy)]
 pub enum WriteAnswer {
     Written,
     Refused(Refusal),
 }
 
 // The state handed back, and the answer.
-#[derive(Drop)]
+#[derive(Clone, Copy)]
 pub struct Wrote {
     pub state: State,
     pub answer: WriteAnswer,

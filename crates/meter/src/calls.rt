@@ -8,7 +8,7 @@ use master::tick::TickAnswer;
 use refusal::Refusal;
 
 // The state behind a call, and its answer as a number.
-#[derive(Drop)]
+#[derive(Clone, Copy)]
 pub(crate) struct Done {
     pub(crate) state: State,
     pub(crate) code: u64,

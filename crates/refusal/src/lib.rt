@@ -4,7 +4,7 @@ ghost use Rattle.refusal.specs.Numbers.{numbers, refused, refused_at, tells_plac
 
 // The number says which row of the papers' tables applies. The place is the one that the paper gives with it, and 0 where
 // it gives none.
-#[derive(Drop)]
+#[derive(Clone, Copy)]
 pub struct Refusal {
     pub number: u8,
     pub place: usize,

@@ -70,11 +70,11 @@ module _ (form line : List ℕ) where
               → read_as (fields_from 32 form at) (fields_from 32 line place) place ns ≡ unfit
           wrong_at t = rw (field_at 32 form at end h e b, field_at 32 line place stop k q d) (field_wrong place ns _ _ _ _ none t)
 
-          pub right_at_lem : is_right (field_of (take (end - at) (drop at form)) (take (stop - place) (drop place line))) ≡ true
+          pub right_at : is_right (field_of (take (end - at) (drop at form)) (take (stop - place) (drop place line))) ≡ true
               → read_as (fields_from 32 form at) (fields_from 32 line place) place ns
               ≡ read_as (fields_from 32 form (end + 1)) (fields_from 32 line (stop + 1)) (stop + 1)
               (with_field (field_of (take (end - at) (drop at form)) (take (stop - place) (drop place line))) ns)
-          right_at_lem t =
+          right_at t =
               let p : place + length (take (stop - place) (drop place line)) + 1 ≡ stop + 1
               = omega (arith, field_length 32 line place stop k q d) in
               rw (field_at 32 form at end h e b, field_at 32 line place stop k q d)

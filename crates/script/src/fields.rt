@@ -4,7 +4,7 @@ ghost use Rattle.buslog.specs.Pairs.{digit_of};
 ghost use Rattle.script.specs.Fields.{field_of, decimal_field, pair_field, word_field, number_field, is_number, number_in};
 
 // What a field is: the word that the form has, a number, or neither.
-#[derive(Drop)]
+#[derive(Clone, Copy)]
 pub(crate) enum Field {
     Word,
     Number(u32),

@@ -12,7 +12,7 @@ pub const MOST: usize = 12;
 
 // A line by its form: the form's number, the place where its list begins, and its numbers with zeros behind them. The form's number is
 // that of all forms where the line has none.
-#[derive(Drop)]
+#[derive(Clone, Copy)]
 pub struct Line {
     pub form: usize,
     pub list: usize,
@@ -20,7 +20,7 @@ pub struct Line {
 }
 
 // Whether a line has a form, where its list begins then, and its numbers.
-#[derive(Drop)]
+#[derive(Clone, Copy)]
 pub(crate) struct Reading {
     pub(crate) fits: bool,
     pub(crate) list: usize,
@@ -28,7 +28,7 @@ pub(crate) struct Reading {
 }
 
 // The numbers that were read, and how many.
-#[derive(Drop)]
+#[derive(Clone, Copy)]
 pub(crate) struct Numbers {
     pub(crate) values: [u32; MOST],
     pub(crate) count: usize,

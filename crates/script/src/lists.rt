@@ -4,7 +4,7 @@ ghost use Rattle.script.specs.Lists.{Listed, words_at, bytes_at};
 use crate::fields;
 
 // How many fields were read up to the line's end.
-#[derive(Drop)]
+#[derive(Clone, Copy)]
 pub enum Count {
     Of(usize),
     Malformed,

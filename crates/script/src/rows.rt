@@ -8,14 +8,14 @@ use crate::fields;
 use crate::lists::Count;
 
 // How many fields two rows have.
-#[derive(Drop)]
+#[derive(Clone, Copy)]
 pub enum Rows {
     Of(usize, usize),
     Malformed,
 }
 
 // The first of two rows: whether it is right and a colon ends it, how many fields it has, and where the second row begins.
-#[derive(Drop)]
+#[derive(Clone, Copy)]
 pub(crate) struct Row {
     pub(crate) right: bool,
     pub(crate) count: usize,

@@ -13,7 +13,7 @@ use refusal::Refusal;
 
 // What the judge answers: every slot holds its longest frame; or the number in the table, from 0, of the first entry whose slot does not;
 // or the refusal.
-#[derive(Drop)]
+#[derive(Clone, Copy)]
 pub enum Judgement {
     Holds,
     Short(u16),

@@ -9,14 +9,14 @@ use crate::reassembly::Assembly;
 use refusal::Refusal;
 
 // What is answered for a length: the number of frames, or refusal 9.
-#[derive(Drop)]
+#[derive(Clone, Copy)]
 pub enum Counted {
     Frames(u16),
     Refused(Refusal),
 }
 
 // What is answered for a frame's number: there is such a frame, there is none, or refusal 9 for the message's length.
-#[derive(Drop)]
+#[derive(Clone, Copy)]
 pub enum Answer {
     Frame,
     Missing,
@@ -24,7 +24,7 @@ pub enum Answer {
 }
 
 // The answer, and the frame's eight bytes; where there is no frame they are all 255.
-#[derive(Drop)]
+#[derive(Clone, Copy)]
 pub struct Cut {
     pub answer: Answer,
     pub bytes: [u8; 8],

@@ -9,7 +9,7 @@ ghost use Rattle.transport.specs.Reassembly.{frame_nad, frame_pci, bytes_due, re
 use refusal::Refusal;
 
 // An open message: its NAD, its length, the bytes that are there, and the counter due.
-#[derive(Drop)]
+#[derive(Clone, Copy)]
 pub struct Assembly {
     pub nad: u8,
     pub length: u16,
@@ -18,14 +18,14 @@ pub struct Assembly {
 }
 
 // The state from frame to frame.
-#[derive(Drop)]
+#[derive(Clone, Copy)]
 pub enum Reassembly {
     Nothing,
     Open(Assembly),
 }
 
 // What is answered for a frame; done tells the length.
-#[derive(Drop)]
+#[derive(Clone, Copy)]
 pub enum Answer {
     Ignored,
     Started,
@@ -36,7 +36,7 @@ pub enum Answer {
 }
 
 // The answer, and the state handed back.
-#[derive(Drop)]
+#[derive(Clone, Copy)]
 pub struct Taken {
     pub state: Reassembly,
     pub answer: Answer,

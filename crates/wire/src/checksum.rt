@@ -8,7 +8,7 @@ use crate::identifier::{PROTECTED, protected_in};
 use crate::{Answer, refused};
 
 // Which bytes a checksum covers: classic the data alone, enhanced the protected identifier too.
-#[derive(Drop)]
+#[derive(Clone, Copy)]
 pub enum Model {
     Classic,
     Enhanced,

@@ -9,7 +9,7 @@ ghost use Rattle.refusal.specs.Numbers.{frame};
 ghost use Rattle.wire.specs.Answers.{refused_with};
 
 // What every call of this crate answers: one byte, or the refusal.
-#[derive(Drop)]
+#[derive(Clone, Copy)]
 pub enum Answer {
     Byte(u8),
     Refused(Refusal),

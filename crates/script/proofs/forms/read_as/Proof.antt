@@ -7,7 +7,7 @@ use borrow.Author.Tests.{not-true, not-false}
 use lib.ListN.{length}
 use Rattle.script.specs.Fields.{fields_from, is_right}
 use Rattle.script.specs.Forms.{read_as, read_of}
-use Rattle.script.proofs.Forming.{begins, form_ends, line_left, list_at, line_ends, wrong_at, right_at_lem}
+use Rattle.script.proofs.Forming.{begins, form_ends, line_left, list_at, line_ends, wrong_at, right_at}
 use Rattle.script.proofs.forms.read_as.Statement.{statement}
 use Rattle.script.proofs.forms.read_as.Tie as tie
 
@@ -79,7 +79,7 @@ loop-again c =
       omega (arith, c11.find.ensures.1),
       omega (arith, c6.find2.ensures.1),
       c13.loop.invariant.2
-          ∙ right_at_lem c17.args.form.now c17.args.line.now c13.loop.at c13.loop.place c13.loop.numbers c11.find.result
+          ∙ right_at c17.args.form.now c17.args.line.now c13.loop.at c13.loop.place c13.loop.numbers c11.find.result
           c12.loop-test.true c11.find.ensures.0 c11.find.ensures.1 (sym c9.is-list.ensures ∙ c8.if1.false)
           c6.find2.result c7.if2.false c6.find2.ensures.0 c6.find2.ensures.1
           (ap is_right (sym c3.read.ensures) ∙ sym c.before.before.is_right.ensures ∙ not-false _ c.before.if3.false)
