@@ -82,13 +82,13 @@ pub record First (s : Reassembly) (f b : List ℕ) : Type 0 where
 
 -- a next frame of the open NAD with the counter due
 pub record Due (s : Reassembly) (f : List ℕ) (m : Assembly) : Type 0 where
-  pub is_open_lem : s ≡ Open m
+  pub is_open : s ≡ Open m
   pub same : get_or f 0 0 ≡ m.nad
   pub counter : get_or f 1 0 ≡ 32 + m.counter
 
 -- a next frame of the open NAD with another counter
 pub record Wrong (s : Reassembly) (f : List ℕ) (m : Assembly) : Type 0 where
-  pub is_open_lem : s ≡ Open m
+  pub is_open : s ≡ Open m
   pub same : get_or f 0 0 ≡ m.nad
   pub low : 32 ≤ get_or f 1 0
   pub high : get_or f 1 0 ≤ 47
@@ -252,8 +252,8 @@ next_case : (s : Reassembly) (f b : List ℕ) → Fit s → length f ≡ 8 → H
 next_case Nothing f b fit eight heard l h = ignored_case Nothing f b fit eight (none_open l h refl)
 next_case (Open m) f b fit eight heard l h =
     elim (ℕ_discrete (get_or f 1 0) (32 + m.counter)) [
-      | yes e ↦ due_case (Open m) f b fit eight m (record { is_open_lem = refl; same = heard.1; counter = e })
-      | no n ↦ wrong_case (Open m) f b fit eight m (record { is_open_lem = refl; same = heard.1; low = l; high = h; counter = n })
+      | yes e ↦ due_case (Open m) f b fit eight m (record { is_open = refl; same = heard.1; counter = e })
+      | no n ↦ wrong_case (Open m) f b fit eight m (record { is_open = refl; same = heard.1; low = l; high = h; counter = n })
     ]
 
 module _ (s : Reassembly) (f b : List ℕ) (fit : Fit s) (eight : length f ≡ 8) where

@@ -4,7 +4,7 @@ ghost use Rattle.wire.specs.Answers.{told};
 ghost use Rattle.refusal.specs.Answers.{first_failing};
 ghost use Rattle.wire.specs.Checksum.{with_carry, sum, covered, model_of, checksum_byte, checksum_of, checksum_tests};
 
-use crate::identifier::{PROTECTED, protected_in};
+use crate::identifier::protected_byte;
 use crate::{Answer, refused};
 
 // Which bytes a checksum covers: classic the data alone, enhanced the protected identifier too.
@@ -26,12 +26,16 @@ pub fn of(id: u8, wish: Model, data: &[u8]) -> Answer
     }
 }
 
-// A running sum and one more byte: 255 is subtracted where the sum is 256 or more, which is where the byte has no room.
+// A running sum and one more byte: 255 is subtracted where the sum is 256 or more.
 pub fn with_carry(sum: u8, byte: u8) -> u8
     ensures { result ≡ with_carry sum byte }
 {
-    let room = 255 - byte;
-    if room < sum { sum - room } else { sum + byte }
+    let added = sum as u16 + byte as u16;
+    if 255 < added {
+        (added - 255) as u8
+    } else {
+        added as u8
+    }
 }
 
 // The sum before the first data byte.
@@ -44,7 +48,7 @@ fn start(id: u8, wish: Model) -> u8
     }
     match wish {
         Model::Classic => 0,
-        Model::Enhanced => protected_in(&PROTECTED, id),
+        Model::Enhanced => protected_byte(id),
     }
 }
 

@@ -32,6 +32,16 @@ pub fn read(protected: u8) -> Answer
     }
 }
 
+// The identifier with its two parity bits above it.
+pub(crate) fn protected_byte(id: u8) -> u8
+    requires { id < 64 }
+    ensures { result ≡ protected_byte id }
+{
+    let p0 = (id ^ (id >> 1) ^ (id >> 2) ^ (id >> 4)) % 2;
+    let p1 = 1 - ((id >> 1) ^ (id >> 3) ^ (id >> 4) ^ (id >> 5)) % 2;
+    id + 64 * p0 + 128 * p1
+}
+
 // The number of a list of protected identifiers with these six bits, searched for in both halves at once: of such a search the compiler
 // makes a table, and for an index it would copy the list at every call.
 pub(crate) fn protected_in(list: &[u8], id: u8) -> u8

@@ -14,134 +14,134 @@ use Rattle.cluster.proofs.check.Tie as tie
 
 -- the table where each section is passed
 
-abbrev table1 : tie.After-enum-told → List ℕ
-table1 c = c.before.before.before.before.args.t.now
+abbrev table1 : tie.In_default → List ℕ
+table1 c = c.before.before.before.args.t.now
 
-abbrev table2 : tie.After-enum-told2 → List ℕ
-table2 c = table1 c.before.before.before
+abbrev table2 : tie.In_default-judge → List ℕ
+table2 c = table1 c.before.before
 
-abbrev table3 : tie.After-enum-told3 → List ℕ
-table3 c = table2 c.before.before.before
+abbrev table3 : tie.In_default-judge-2 → List ℕ
+table3 c = table2 c.before.before
 
-abbrev table4 : tie.After-enum-told4 → List ℕ
-table4 c = table3 c.before.before.before
+abbrev table4 : tie.In_default-judge-3 → List ℕ
+table4 c = table3 c.before.before
 
-abbrev table5 : tie.After-enum-told5 → List ℕ
-table5 c = table4 c.before.before.before
+abbrev table5 : tie.In_default-unplaced → List ℕ
+table5 c = table4 c.before.before
 
-abbrev table6 : tie.After-enum-told6 → List ℕ
-table6 c = table5 c.before.before.before
+abbrev table6 : tie.In_default-judge-4 → List ℕ
+table6 c = table5 c.before.before
 
-abbrev table7 : tie.After-enum-told7 → List ℕ
-table7 c = table6 c.before.before.before
+abbrev table7 : tie.In_default-judge-5 → List ℕ
+table7 c = table6 c.before.before
 
 -- what is left to be judged behind each section that accepts
 
-header-right : (c : tie.After-enum-told) → header_faults (table1 c) ≡ Accepted
-header-right c = sym c.before.before.judge.ensures ∙ c.enum_told.given.1
+header-right : (c : tie.In_default) → header_faults (table1 c) ≡ Accepted
+header-right c = sym c.before.judge.ensures ∙ c.in_default.is
 
-frames-left : (c : tie.After-enum-told) → judged (table1 c) ≡ from_frames (table1 c)
+frames-left : (c : tie.In_default) → judged (table1 c) ≡ from_frames (table1 c)
 frames-left c = judged_sections (table1 c) ∙ rw (header-right c)
 
-frames-right : (c : tie.After-enum-told2) → frame_faults (table2 c) ≡ Accepted
-frames-right c = sym c.before.before.judge2.ensures ∙ c.enum-told2.given.1
+frames-right : (c : tie.In_default-judge) → frame_faults (table2 c) ≡ Accepted
+frames-right c = sym c.before.judge-2.ensures ∙ c.in_default-judge.is
 
-signals-left : (c : tie.After-enum-told2) → judged (table2 c) ≡ from_signals (table2 c)
-signals-left c = frames-left c.before.before.before ∙ rw (frames-right c)
+signals-left : (c : tie.In_default-judge) → judged (table2 c) ≡ from_signals (table2 c)
+signals-left c = frames-left c.before.before ∙ rw (frames-right c)
 
-signals-right : (c : tie.After-enum-told3) → signal_faults (table3 c) ≡ Accepted
-signals-right c = sym c.before.before.judge3.ensures ∙ c.enum-told3.given.1
+signals-right : (c : tie.In_default-judge-2) → signal_faults (table3 c) ≡ Accepted
+signals-right c = sym c.before.judge-3.ensures ∙ c.in_default-judge-2.is
 
-placements-left : (c : tie.After-enum-told3) → judged (table3 c) ≡ from_placements (table3 c)
-placements-left c = signals-left c.before.before.before ∙ rw (signals-right c)
+placements-left : (c : tie.In_default-judge-2) → judged (table3 c) ≡ from_placements (table3 c)
+placements-left c = signals-left c.before.before ∙ rw (signals-right c)
 
-unplaced-left : (c : tie.After-enum-told4) → judged (table4 c) ≡ from_unplaced (table4 c)
-unplaced-left c = placements-left c.before.before.before ∙ rw (sym c.before.before.judge4.ensures ∙ c.enum-told4.given.1)
+unplaced-left : (c : tie.In_default-judge-3) → judged (table4 c) ≡ from_unplaced (table4 c)
+unplaced-left c = placements-left c.before.before ∙ rw (sym c.before.judge-4.ensures ∙ c.in_default-judge-3.is)
 
-members-left : (c : tie.After-enum-told5) → judged (table5 c) ≡ from_members (table5 c)
-members-left c = unplaced-left c.before.before.before ∙ rw (sym c.before.before.unplaced.ensures ∙ c.enum-told5.given.1)
+members-left : (c : tie.In_default-unplaced) → judged (table5 c) ≡ from_members (table5 c)
+members-left c = unplaced-left c.before.before ∙ rw (sym c.before.unplaced.ensures ∙ c.in_default-unplaced.is)
 
-entries-left : (c : tie.After-enum-told6) → judged (table6 c) ≡ from_entries (table6 c)
-entries-left c = members-left c.before.before.before ∙ rw (sym c.before.before.judge5.ensures ∙ c.enum-told6.given.1)
+entries-left : (c : tie.In_default-judge-4) → judged (table6 c) ≡ from_entries (table6 c)
+entries-left c = members-left c.before.before ∙ rw (sym c.before.judge-5.ensures ∙ c.in_default-judge-4.is)
 
-nothing_left : (c : tie.After-enum-told7) → judged (table7 c) ≡ surplus (table7 c)
-nothing_left c = entries-left c.before.before.before ∙ rw (sym c.before.before.judge6.ensures ∙ c.enum-told7.given.1)
+nothing_left : (c : tie.In_default-judge-5) → judged (table7 c) ≡ surplus (table7 c)
+nothing_left c = entries-left c.before.before ∙ rw (sym c.before.judge-6.ensures ∙ c.in_default-judge-5.is)
 
 -- what the header says, where each section is passed
 
-abbrev header3 : tie.After-enum-told3 → tie.After-enum-told
-header3 c = c.before.before.before.before.before.before
+abbrev header3 : tie.In_default-judge-2 → tie.In_default
+header3 c = c.before.before.before.before
 
-abbrev header5 : tie.After-enum-told5 → tie.After-enum-told
-header5 c = header3 c.before.before.before.before.before.before
+abbrev header5 : tie.In_default-unplaced → tie.In_default
+header5 c = header3 c.before.before.before.before
 
 -- each section knows what those before it found
 
-returns : tie.Need-returns
+returns : tie.Need-returns-in-Refused
 returns c =
-    let refused = sym c.before.before.before.judge.ensures ∙ c.before.refusal.given.1 in
-    check_told_lem _ _ (rw (judged_sections c.before.before.before.before.before.args.t.now, refused))
+    let refused = sym c.before.judge.ensures ∙ c.in-Refused.is in
+    check_told_lem _ _ (rw (judged_sections c.before.before.before.args.t.now, refused))
 
 judge-requires-2 : tie.Need-judge-requires-2
 judge-requires-2 c κs = (header_passed (table1 c) (header-right c)).0
 
-returns-2 : tie.Need-returns-2
+returns-2 : tie.Need-returns-in-Refused-judge
 returns-2 c =
-    let refused = sym c.before.before.before.judge2.ensures ∙ c.before.refusal2.given.1 in
-    check_told_lem _ _ (rw (frames-left c.before.before.before.before, refused))
+    let refused = sym c.before.judge-2.ensures ∙ c.in-Refused-judge.is in
+    check_told_lem _ _ (rw (frames-left c.before.before, refused))
 
 judge-requires-3 : tie.Need-judge-requires-3
 judge-requires-3 c κs =
-    let counts = header_passed (table2 c) (header-right c.before.before.before) in
+    let counts = header_passed (table2 c) (header-right c.before.before) in
     (counts.0, counts.1)
 
-returns-3 : tie.Need-returns-3
+returns-3 : tie.Need-returns-in-Refused-judge-2
 returns-3 c =
-    let refused = sym c.before.before.before.judge3.ensures ∙ c.before.refusal3.given.1 in
-    check_told_lem _ _ (rw (signals-left c.before.before.before.before, refused))
+    let refused = sym c.before.judge-3.ensures ∙ c.in-Refused-judge-2.is in
+    check_told_lem _ _ (rw (signals-left c.before.before, refused))
 
 -- the records that those behind the signals name
-records-there : (c : tie.After-enum-told3) → RecordsBefore (table3 c)
-records-there c = records_passed (table3 c) (header-right (header3 c)) (frames-right c.before.before.before) (signals-right c)
+records-there : (c : tie.In_default-judge-2) → RecordsBefore (table3 c)
+records-there c = records_passed (table3 c) (header-right (header3 c)) (frames-right c.before.before) (signals-right c)
 
 judge-requires-4 : tie.Need-judge-requires-4
 judge-requires-4 c κs = ((header_passed (table3 c) (header-right (header3 c))).4, records-there c)
 
-returns-4 : tie.Need-returns-4
+returns-4 : tie.Need-returns-in-Refused-judge-3
 returns-4 c =
-    let refused = sym c.before.before.before.judge4.ensures ∙ c.before.refusal4.given.1 in
-    check_told_lem _ _ (rw (placements-left c.before.before.before.before, refused))
+    let refused = sym c.before.judge-4.ensures ∙ c.in-Refused-judge-3.is in
+    check_told_lem _ _ (rw (placements-left c.before.before, refused))
 
-returns-5 : tie.Need-returns-5
+returns-5 : tie.Need-returns-in-Refused-unplaced
 returns-5 c =
-    let refused = sym c.before.before.before.unplaced.ensures ∙ c.before.refusal5.given.1 in
-    check_told_lem _ _ (rw (unplaced-left c.before.before.before.before, refused))
+    let refused = sym c.before.unplaced.ensures ∙ c.in-Refused-unplaced.is in
+    check_told_lem _ _ (rw (unplaced-left c.before.before, refused))
 
 judge-requires-5 : tie.Need-judge-requires-5
 judge-requires-5 c κs =
     let counts = header_passed (table5 c) (header-right (header5 c)) in
-    (records-there c.before.before.before.before.before.before, counts.2, counts.4)
+    (records-there c.before.before.before.before, counts.2, counts.4)
 
-returns-6 : tie.Need-returns-6
+returns-6 : tie.Need-returns-in-Refused-judge-4
 returns-6 c =
-    let refused = sym c.before.before.before.judge5.ensures ∙ c.before.refusal6.given.1 in
-    check_told_lem _ _ (rw (members-left c.before.before.before.before, refused))
+    let refused = sym c.before.judge-5.ensures ∙ c.in-Refused-judge-4.is in
+    check_told_lem _ _ (rw (members-left c.before.before, refused))
 
 judge-requires-6 : tie.Need-judge-requires-6
 judge-requires-6 c κs =
-    let counts = header_passed (table6 c) (header-right (header5 c.before.before.before)) in
+    let counts = header_passed (table6 c) (header-right (header5 c.before.before)) in
     ((counts.0, counts.1, counts.2), (counts.3, counts.4))
 
-returns-7 : tie.Need-returns-7
+returns-7 : tie.Need-returns-in-Refused-judge-5
 returns-7 c =
-    let refused = sym c.before.before.before.judge6.ensures ∙ c.before.refusal7.given.1 in
-    check_told_lem _ _ (rw (entries-left c.before.before.before.before, refused))
+    let refused = sym c.before.judge-6.ensures ∙ c.in-Refused-judge-5.is in
+    check_told_lem _ _ (rw (entries-left c.before.before, refused))
 
-returns-8 : tie.Need-returns-8
+returns-8 : tie.Need-returns
 returns-8 c = check_told_lem _ _ (c.surplus.ensures ∙ sym (nothing_left c.before))
 
-pub check-spec : {M : Type 1} → statement M
-check-spec =
+pub check_spec : {M : Type 1} → statement M
+check_spec =
     tie.close
     (tie.spec (λ c κs. search rules) (λ c. search rules) returns (λ c. search rules) judge-requires-2
     (λ c. search rules) returns-2 (λ c. search rules) judge-requires-3 (λ c. search rules) returns-3

@@ -9,5 +9,5 @@ returns : tie.Need-returns
 unfolding taken_of
 returns c = taken_told _ _ c.check.ensures.0
 
-pub taken-spec : {M : Type 1} → statement M
-taken-spec = tie.close (tie.spec (λ c κs. search rules) returns)
+pub taken_spec : {M : Type 1} → statement M
+taken_spec = tie.close (tie.spec (λ c κs. search rules) returns)

@@ -5,16 +5,16 @@ use Rattle.host.specs.Coded.{coded}
 use Rattle.host.proofs.coded.Statement.{statement}
 use Rattle.host.proofs.coded.Tie as tie
 
-returns : tie.Need-returns
+returns : tie.Need-returns-in-Byte
 unfolding coded
-returns c = rw c.before.answer.given.1 (omega arith)
+returns c = rw c.in-Byte.is (omega arith)
 
-returns-2 : tie.Need-returns-2
+returns-2 : tie.Need-returns-in-Refused
 unfolding coded
-returns-2 c = rw c.before.before.answer2.given.1 (omega arith)
+returns-2 c = rw c.before.in-Refused.is (omega arith)
 
-pub coded-spec : {M : Type 1} → statement M
-coded-spec =
+pub coded_spec : {M : Type 1} → statement M
+coded_spec =
     tie.close
     (tie.spec (λ c. search rules) (λ c. search rules) (λ c. search rules) (λ c. search rules) (λ c. search rules)
     returns returns-2)

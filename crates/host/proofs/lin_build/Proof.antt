@@ -8,5 +8,5 @@ use Rattle.host.proofs.lin_build.Tie as tie
 returns : tie.Need-returns
 returns c = c.coded.ensures ∙ ap coded c.before.build.ensures.0
 
-pub lin-build-spec : {M : Type 1} → statement M
-lin-build-spec = tie.close (tie.spec (λ c κs. search rules) (λ c κs. search rules) returns)
+pub lin_build_spec : {M : Type 1} → statement M
+lin_build_spec = tie.close (tie.spec (λ c κs. search rules) (λ c κs. search rules) returns)

@@ -9,21 +9,21 @@ use Rattle.host.specs.Coded.{table_coded}
 use Rattle.host.proofs.lin_check.Statement.{statement}
 use Rattle.host.proofs.lin_check.Tie as tie
 
-refused : (c : tie.After-refusal) → taken_of c.before.before.before.before.args.table.now ≡ Refused c.refusal.given.0.0
-refused c = sym c.before.before.taken.ensures.0 ∙ c.refusal.given.1
+refused : (c : tie.In-Refused-2) → taken_of c.before.before.before.args.table.now ≡ Refused c.in-Refused.refusal
+refused c = sym c.before.taken.ensures.0 ∙ c.in-Refused.is
 
 placed-requires : tie.Need-placed-requires
 placed-requires c κs = omega (arith, taken_high _ _ (refused c.before))
 
-returns : tie.Need-returns
+returns : tie.Need-returns-in-Accepted
 unfolding table_coded
-returns c = rw (sym c.before.before.taken.ensures.0 ∙ c.enum_told.given.1)
+returns c = rw (sym c.before.taken.ensures.0 ∙ c.in-Accepted.is)
 
-returns-2 : tie.Need-returns-2
+returns-2 : tie.Need-returns-in-Refused
 unfolding table_coded
 returns-2 c = rw (refused c.before.before) c.placed.ensures
 
-pub lin-check-spec : {M : Type 1} → statement M
-lin-check-spec =
+pub lin_check_spec : {M : Type 1} → statement M
+lin_check_spec =
     tie.close
     (tie.spec (λ c κs. search rules) (λ c. search rules) (λ c. search rules) placed-requires returns returns-2)

@@ -6,16 +6,16 @@ use Rattle.host.specs.Coded.{coded, wish_of}
 use Rattle.host.proofs.lin_checksum.Statement.{statement}
 use Rattle.host.proofs.lin_checksum.Tie as tie
 
-returns : tie.Need-returns
+returns : tie.Need-returns-then-model-eq0
 unfolding wish_of
-returns c = simp (eq-eqb _ _ c.before.before.if1.true) (c.coded.ensures ∙ ap coded c.before.of.ensures.0)
+returns c = simp (eq-eqb _ _ c.before.before.if-model-eq0.true) (c.coded.ensures ∙ ap coded c.before.of.ensures.0)
 
-returns-2 : tie.Need-returns-2
+returns-2 : tie.Need-returns-else-model-eq0
 unfolding wish_of
-returns-2 c = simp (ne_eqb _ _ c.before.before.if1.false) (c.coded2.ensures ∙ ap coded c.before.of2.ensures.0)
+returns-2 c = simp (ne_eqb _ _ c.before.before.if-model-eq0.false) (c.coded-else-model-eq0.ensures ∙ ap coded c.before.of-else-model-eq0.ensures.0)
 
-pub lin-checksum-spec : {M : Type 1} → statement M
-lin-checksum-spec =
+pub lin_checksum_spec : {M : Type 1} → statement M
+lin_checksum_spec =
     tie.close
     (tie.spec (λ c κs. search rules) (λ c κs. search rules) (λ c κs. search rules) (λ c κs. search rules) returns
     returns-2)

@@ -6,14 +6,14 @@ use lib.ListN.{get_or-eq_default}
 use Rattle.signal.proofs.byte.Statement.{statement}
 use Rattle.signal.proofs.byte.Tie as tie
 
-cast-result : tie.Need-overflow-cast-result
-cast-result c = omega (arith, c.shared-slice-known.given c.before.before.args.i)
+cast-result : tie.Need-overflow_cast-result
+cast-result c = omega (arith, c.shared_slice_known-1.given c.before.before.args.i)
 
-returns : tie.Need-returns
-returns c = (refl, omega (arith, c.shared-slice-known.given c.before.before.args.i))
+returns : tie.Need-returns-then-i-bytes
+returns c = (refl, omega (arith, c.shared_slice_known-1.given c.before.before.args.i))
 
-returns-2 : tie.Need-returns-2
-returns-2 c = (sym (get_or-eq_default c.before.args.bytes.now 0 c.if1.false), search rules)
+returns-2 : tie.Need-returns-else-i-bytes
+returns-2 c = (sym (get_or-eq_default c.before.args.bytes.now 0 c.if-i-bytes.false), search rules)
 
-pub byte-spec : {M : Type 1} → statement M
-byte-spec = tie.close (tie.spec (λ c. search rules) cast-result returns returns-2)
+pub byte_spec : {M : Type 1} → statement M
+byte_spec = tie.close (tie.spec (λ c. search rules) cast-result returns returns-2)

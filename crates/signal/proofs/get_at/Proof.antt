@@ -8,22 +8,22 @@ use Rattle.signal.proofs.Windows.{get_window}
 use Rattle.signal.proofs.get_at.Statement.{statement}
 use Rattle.signal.proofs.get_at.Tie as tie
 
-cast-result : tie.Need-overflow-cast-result
+cast-result : tie.Need-overflow_cast-result
 cast-result c =
     omega (
       arith,
-      mod-lt (c.before.before.window.result / c.before.power.result) c.power2.ensures.1,
-      c.power2.ensures.0,
+      mod-lt (c.before.before.window.result / c.before.power.result) c.power-2.ensures.1,
+      c.power-2.ensures.0,
       pow_mono {j = 16} c.before.before.before.before.requires.2,
     )
 
 returns : tie.Need-returns
 returns c =
-    rw (c.before.power.ensures.0, c.power2.ensures.0)
+    rw (c.before.power.ensures.0, c.power-2.ensures.0)
     (get_window _ _ _ _ _ (omega arith) c.before.before.window.ensures)
 
-pub get-at-spec : {M : Type 1} → statement M
-get-at-spec =
+pub get_at_spec : {M : Type 1} → statement M
+get_at_spec =
     tie.close
     (tie.spec (λ c κs. search rules) (λ c κs. search rules) (λ c. search rules) (λ c κs. search rules)
     (λ c. search rules) cast-result returns)

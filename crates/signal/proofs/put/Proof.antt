@@ -12,7 +12,7 @@ unfolding put_scalar
 returns c =
     let o = c.before.before.before.before.before.before.args.offset in
     let e : 8 * (o / 8) + o % 8 ≡ o = omega arith in
-    rw (e, c.before.before.before.scalar-width.ensures) at c.before.before.put-at.ensures
+    rw (e, c.before.before.before.scalar_width.ensures) at c.before.before.put_at.ensures
 
 pub put_spec : {M : Type 1} → statement M
 put_spec =

@@ -10,36 +10,36 @@ use Rattle.signal.proofs.PutBits.{put_none, put_length}
 use Rattle.signal.proofs.put_array.Statement.{statement}
 use Rattle.signal.proofs.put_array.Tie as tie
 
-abbrev invariant-loop : tie.invariant-loop
+abbrev invariant-loop : tie.invariant-loop-i
 invariant-loop bytes₀ offset values i₀ bytes i =
     (i ≤ length values) × (bytes ≡ put_bits bytes₀ offset (8 * i) (bit_at values))
 
-abbrev decreases-loop : tie.decreases-loop
+abbrev decreases-loop : tie.decreases-loop-i
 decreases-loop bytes₀ offset values i₀ bytes i = length values - i
 
-loop-holds : tie.Need-loop-init invariant-loop decreases-loop
+loop-holds : tie.Need-loop-i-init invariant-loop decreases-loop
 loop-holds c =
-    (omega arith, sym (put_none _ _ _ (λ i. (c.before.slice-known.given i).fits)))
+    (omega arith, sym (put_none _ _ _ (λ i. (c.before.slice_known-1.given i).fits)))
 
-cast-put-at-2 : tie.Need-overflow-cast-put-at-2 invariant-loop decreases-loop
-cast-put-at-2 c = omega (arith, c.shared-slice-known2.given c.before.before.before.loop.i)
+cast-put-at-2 : tie.Need-overflow_cast-values invariant-loop decreases-loop
+cast-put-at-2 c = omega (arith, c.shared_slice_known-in-loop-i-1.given c.before.before.before.loop-i.i)
 
-loop-again : tie.Need-loop-preserved invariant-loop decreases-loop
+loop-again : tie.Need-loop-i-preserved invariant-loop decreases-loop
 loop-again c =
     let o = c.before.before.before.before.before.before.before.before.before.args.offset in
-    let i = c.before.before.before.before.before.before.loop.i in
+    let i = c.before.before.before.before.before.before.loop-i.i in
     let e : 8 * (o / 8 + i) + o % 8 ≡ o + 8 * i = omega arith in
-    (omega arith, put_turn _ _ _ _ _ _ _ _ e c.before.before.before.before.before.before.loop.invariant.1 c.before.before.put-at.ensures)
+    (omega arith, put_turn _ _ _ _ _ _ _ _ e c.before.before.before.before.before.before.loop-i.invariant.1 c.before.before.put_at.ensures)
 
-same_length : tie.Need-same-length invariant-loop decreases-loop
-same_length c = ap length c.before.loop.invariant.1 ∙ put_length _ _ _ _
+same_length : tie.Need-shape_of-bytes invariant-loop decreases-loop
+same_length c = ap length c.before.loop-i.invariant.1 ∙ put_length _ _ _ _
 
 returns : tie.Need-returns invariant-loop decreases-loop
 unfolding put_array
 returns c = let e : c.before.loop.i ≡ length c.before.before.before.before.args.values.now = omega arith in c.before.loop.invariant.1 ∙ rw e
 
-pub put-array-spec : {M : Type 1} → statement M
-put-array-spec =
+pub put_array_spec : {M : Type 1} → statement M
+put_array_spec =
     tie.close
     (tie.spec invariant-loop decreases-loop loop-holds (λ c. search rules) (λ c. search rules) (λ c. search rules) cast-put-at-2
     (λ c κs. search rules) (λ c. search rules) (λ c. search rules) loop-again same_length returns)

@@ -5,8 +5,8 @@ use lib.Seq.{set_out}
 use Rattle.signal.proofs.set_byte.Statement.{statement}
 use Rattle.signal.proofs.set_byte.Tie as tie
 
-returns-2 : tie.Need-returns-2
-returns-2 c = sym (set_out _ _ _ c.if1.false)
+returns-2 : tie.Need-returns-else-i-bytes
+returns-2 c = sym (set_out _ _ _ c.if-i-bytes.false)
 
-pub set-byte-spec : {M : Type 1} → statement M
-set-byte-spec = tie.close (tie.spec (λ c. search rules) (λ c. search rules) (λ c. search rules) returns-2)
+pub set_byte_spec : {M : Type 1} → statement M
+set_byte_spec = tie.close (tie.spec (λ c. search rules) (λ c. search rules) (λ c. search rules) returns-2)

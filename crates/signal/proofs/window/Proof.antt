@@ -6,11 +6,11 @@ use Rattle.signal.proofs.window.Tie as tie
 
 returns : tie.Need-returns
 returns c =
-    rw (c.before.before.byte.ensures.0, c.before.byte2.ensures.0, c.byte3.ensures.0)
-    (window_is _ _ (λ i. (c.before.before.before.shared-slice-known.given i).fits))
+    rw (c.before.before.byte.ensures.0, c.before.byte-2.ensures.0, c.byte-3.ensures.0)
+    (window_is _ _ (λ i. (c.before.before.before.shared_slice_known-1.given i).fits))
 
-pub window-spec : {M : Type 1} → statement M
-window-spec =
+pub window_spec : {M : Type 1} → statement M
+window_spec =
     tie.close
     (tie.spec (λ c κs. search rules) (λ c. search rules) (λ c κs. search rules) (λ c. search rules)
     (λ c. search rules) (λ c. search rules) (λ c κs. search rules) (λ c. search rules) (λ c. search rules)

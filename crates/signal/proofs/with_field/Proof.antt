@@ -11,35 +11,35 @@ use Rattle.signal.proofs.with_field.Tie as tie
 returns : tie.Need-returns
 returns c =
     field_sum _ _ _ _ _ _ _ _
-    (rw c.before.before.before.before.field-end.ensures at c.before.before.before.power.ensures.0)
-    c.before.before.power2.ensures.0
-    c.before.power3.ensures.0
-    c.power4.ensures.0
+    (rw c.before.before.before.before.field_end.ensures at c.before.before.before.power-above.ensures.0)
+    c.before.before.power.ensures.0
+    c.before.power-2.ensures.0
+    c.power-3.ensures.0
     c.before.before.before.before.before.requires.1
     c.before.before.before.before.before.requires.2
     c.before.before.before.before.before.requires.0
 
-fits : (c : tie.After-power4) →
-    c.before.before.before.before.before.args.old % c.before.before.power2.result
-    + c.before.before.before.before.before.args.value % c.before.power3.result * c.power4.result
-    + c.before.before.before.before.before.args.old / c.before.before.before.power.result * c.before.before.before.power.result
+fits : (c : tie.After-power-3) →
+    c.before.before.before.before.before.args.old % c.before.before.power.result
+    + c.before.before.before.before.before.args.value % c.before.power-2.result * c.power-3.result
+    + c.before.before.before.before.before.args.old / c.before.before.before.power-above.result * c.before.before.before.power-above.result
     < 2 ^ 24
 fits c = rw (returns c) (number_below 24 _)
 
-mul-result : tie.Need-overflow-mul-result
+mul-result : tie.Need-overflow_mul-result
 mul-result c = omega (arith, fits c)
 
-add-result : tie.Need-overflow-add-result
+add-result : tie.Need-overflow_add-result
 add-result c = omega (arith, fits c)
 
-mul-result-2 : tie.Need-overflow-mul-result-2
+mul-result-2 : tie.Need-overflow_mul-result-2
 mul-result-2 c = omega (arith, fits c)
 
-add-result-2 : tie.Need-overflow-add-result-2
+add-result-2 : tie.Need-overflow_add-result-2
 add-result-2 c = omega (arith, fits c)
 
-pub with-field-spec : {M : Type 1} → statement M
-with-field-spec =
+pub with_field_spec : {M : Type 1} → statement M
+with_field_spec =
     tie.close
     (tie.spec (λ c κs. search rules) (λ c κs. search rules) (λ c κs. search rules) (λ c. search rules)
     (λ c κs. search rules) (λ c. search rules) (λ c κs. search rules) mul-result add-result (λ c. search rules)

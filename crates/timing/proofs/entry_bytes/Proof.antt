@@ -10,36 +10,36 @@ use Rattle.timing.proofs.Steps.{frame_bytes, list_bytes, other_bytes}
 use Rattle.timing.proofs.entry_bytes.Statement.{statement}
 use Rattle.timing.proofs.entry_bytes.Tie as tie
 
-returns : tie.Need-returns
+returns : tie.Need-returns-then-kind-eq0
 returns c =
     let a = c.before.before.before.before.before.args in
-    let kind = sym c.before.before.before.kind.ensures ∙ c.before.if1.true in
-    c.length.ensures ∙ ap (frame_length a.t.now) c.before.before.target.ensures ∙ sym (frame_bytes a.t.now a.e kind)
+    let kind = sym c.before.before.before.kind-kind.ensures ∙ c.before.if-kind-eq0.true in
+    c.length.ensures ∙ ap (frame_length a.t.now) c.before.before.target-target.ensures ∙ sym (frame_bytes a.t.now a.e kind)
 
-element-copy-out-result : tie.Need-element-copy-out-result
+element-copy-out-result : tie.Need-bounds-longest-target
 element-copy-out-result c =
-    let a = c.before.before.before.before.before in
-    let t = a.args.t.now in
-    let kind = sym c.before.before.before.kind.ensures ∙ c.if2.true in
-    let there = list_target t a.requires.0 a.args.e a.requires.1 kind in
-    omega (arith, c.before.before.target.ensures, there, list_count_lem t a.requires.0, member_count_lem t a.requires.0)
+    let a = c in
+    let t = a.before.before.before.before.before.before.args.t.now in
+    let kind = sym c.before.before.before.before.kind-kind.ensures ∙ c.before.if-kind-eq1.true in
+    let there = list_target t a.before.before.before.before.before.before.requires.0 a.before.before.before.before.before.before.args.e a.before.before.before.before.before.before.requires.1 kind in
+    omega (arith, c.before.before.before.target-target.ensures, there, list_count_lem t a.before.before.before.before.before.before.requires.0, member_count_lem t a.before.before.before.before.before.before.requires.0)
 
-returns-2 : tie.Need-returns-2
+returns-2 : tie.Need-returns-then-kind-eq1
 returns-2 c =
-    let a = c.before.before.before.before.before.before in
-    let t = a.args.t.now in
-    let target = c.before.before.before.target.ensures in
-    let kind = sym c.before.before.before.before.kind.ensures ∙ c.before.if2.true in
-    rw target (a.requires.2 (entry_target t a.args.e) ∙ sym (list_bytes t a.args.e kind))
+    let a = c in
+    let t = a.before.before.before.before.before.before.before.args.t.now in
+    let target = c.before.before.before.before.target-target.ensures in
+    let kind = sym c.before.before.before.before.before.kind-kind.ensures ∙ c.before.before.if-kind-eq1.true in
+    rw target (a.before.before.before.before.before.before.before.requires.2 (entry_target t a.before.before.before.before.before.before.before.args.e) ∙ sym (list_bytes t a.before.before.before.before.before.before.before.args.e kind))
 
-returns-3 : tie.Need-returns-3
+returns-3 : tie.Need-returns
 returns-3 c =
     let a = c.before.before.before.before.before.args in
-    let kind = c.before.before.before.kind.ensures in
-    sym (other_bytes a.t.now a.e (λ k. c.before.if1.false (kind ∙ k)) (λ k. c.if2.false (kind ∙ k)))
+    let kind = c.before.before.before.kind-kind.ensures in
+    sym (other_bytes a.t.now a.e (λ k. c.before.if-kind-eq0.false (kind ∙ k)) (λ k. c.if-kind-eq1.false (kind ∙ k)))
 
-pub entry-bytes-spec : {M : Type 1} → statement M
-entry-bytes-spec =
+pub entry_bytes_spec : {M : Type 1} → statement M
+entry_bytes_spec =
     tie.close
     (tie.spec (λ c κs. search rules) (λ c κs. search rules) (λ c κs. search rules) returns (λ c. search rules) (λ c. search rules)
     element-copy-out-result returns-2 returns-3)

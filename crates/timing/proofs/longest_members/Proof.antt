@@ -11,58 +11,58 @@ use Rattle.timing.proofs.Steps.{LongestOf, none_yet, longer, not_longer}
 use Rattle.timing.proofs.longest_members.Statement.{statement}
 use Rattle.timing.proofs.longest_members.Tie as tie
 
-abbrev invariant-loop : tie.invariant-loop
+abbrev invariant-loop : tie.invariant-loop-m
 invariant-loop t longest₀ n m₀ longest m = (n ≡ member_count t) × (m ≤ n) × LongestOf t m longest
 
-abbrev decreases-loop : tie.decreases-loop
+abbrev decreases-loop : tie.decreases-loop-m
 decreases-loop t longest₀ n m₀ longest m = n - m
 
 -- the list of the member at hand is one of sixty
-below : (c : tie.After-length invariant-loop decreases-loop) → c.before.before.list.result < 60
+below : (c : tie.After-length-bytes invariant-loop decreases-loop) → c.before.before.list-l.result < 60
 below c =
-    let a = c.before.before.before.before.before.before.before in
-    let at = c.before.before.before.before.loop in
-    let m : at.m < member_count a.args.t.now = omega (arith, at.invariant.0, c.before.before.before.loop-test.true) in
+    let a = c in
+    let at = c.before.before.before.before.loop-m in
+    let m : at.m < member_count a.before.before.before.before.before.before.before.args.t.now = omega (arith, at.invariant.0, c.before.before.before.loop-m-test.true) in
     omega (
       arith,
-      c.before.before.list.ensures,
-      list_below a.args.t.now a.requires at.m m,
-      list_count_lem a.args.t.now a.requires,
-      member_count_lem a.args.t.now a.requires,
+      c.before.before.list-l.ensures,
+      list_below a.before.before.before.before.before.before.before.args.t.now a.before.before.before.before.before.before.before.requires at.m m,
+      list_count_lem a.before.before.before.before.before.before.before.args.t.now a.before.before.before.before.before.before.before.requires,
+      member_count_lem a.before.before.before.before.before.before.before.args.t.now a.before.before.before.before.before.before.before.requires,
     )
 
-loop-holds : tie.Need-loop-init invariant-loop decreases-loop
-loop-holds c = (c.count.ensures, omega arith, none_yet c.before.before.args.t.now)
+loop-holds : tie.Need-loop-m-init invariant-loop decreases-loop
+loop-holds c = (c.count-n.ensures, omega arith, none_yet c.before.before.args.t.now)
 
-array-read-if1 : tie.Need-array-read-if1 invariant-loop decreases-loop
+array-read-if1 : tie.Need-bounds-longest-l invariant-loop decreases-loop
 array-read-if1 c = below c
 
-array-write-longest : tie.Need-array-write-longest invariant-loop decreases-loop
+array-write-longest : tie.Need-bounds-longest-l-then-longest-l invariant-loop decreases-loop
 array-write-longest c = below c.before
 
-loop-again : tie.Need-loop-preserved invariant-loop decreases-loop
+loop-again : tie.Need-loop-m-preserved invariant-loop decreases-loop
 loop-again c =
-    let d = c.before in
-    let t = d.before.before.before.before.before.before.before.args.t.now in
-    let at = d.before.before.before.before.loop in
-    let list = d.before.before.list.ensures in
-    let bytes = d.length.ensures ∙ ap (frame_length t) d.before.frame.ensures in (
+    let d = c in
+    let t = d.before.before.before.before.before.before.before.before.args.t.now in
+    let at = d.before.before.before.before.before.loop-m in
+    let list = d.before.before.before.list-l.ensures in
+    let bytes = d.before.length-bytes.ensures ∙ ap (frame_length t) d.before.before.frame.ensures in (
       at.invariant.0,
-      omega (arith, d.before.before.before.loop-test.true),
+      omega (arith, d.before.before.before.before.loop-m-test.true),
       ⊎_elim
           (λ w. rw w.1 (longer t at.m at.longest _ _ at.invariant.2 list bytes (below d) w.0.taken))
           (λ w. rw w.1 (not_longer t at.m at.longest _ _ at.invariant.2 list bytes w.0.left))
-          c.if1.branch,
+          c.if-longest-l.branch,
     )
 
 returns : tie.Need-returns invariant-loop decreases-loop
 returns c =
-    let at = c.before.loop in
-    let end : at.m ≡ member_count c.before.before.before.before.args.t.now = omega (arith, at.invariant.0, at.invariant.1, c.loop-test.false) in
+    let at = c.before.loop-m in
+    let end : at.m ≡ member_count c.before.before.before.before.args.t.now = omega (arith, at.invariant.0, at.invariant.1, c.loop-m-test.false) in
     rw end at at.invariant.2.1
 
-pub longest-members-spec : {M : Type 1} → statement M
-longest-members-spec =
+pub longest_members_spec : {M : Type 1} → statement M
+longest_members_spec =
     tie.close
     (tie.spec invariant-loop decreases-loop (λ c κs. search rules) loop-holds (λ c κs. search rules) (λ c. search rules) (λ c κs. search rules)
     (λ c κs. search rules) (λ c. search rules) array-read-if1 (λ c. search rules) array-write-longest (λ c. search rules)

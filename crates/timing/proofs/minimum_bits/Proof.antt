@@ -9,5 +9,5 @@ returns : tie.Need-returns
 unfolding minimum_bits
 returns c = refl
 
-pub minimum-bits-spec : {M : Type 1} → statement M
-minimum-bits-spec = tie.close (tie.spec (λ c. search rules) (λ c. search rules) (λ c. search rules) returns)
+pub minimum_bits_spec : {M : Type 1} → statement M
+minimum_bits_spec = tie.close (tie.spec (λ c. search rules) (λ c. search rules) (λ c. search rules) returns)

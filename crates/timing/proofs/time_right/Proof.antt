@@ -4,13 +4,13 @@ use Rattle.timing.specs.Slots.{time_right}
 use Rattle.timing.proofs.time_right.Statement.{statement}
 use Rattle.timing.proofs.time_right.Tie as tie
 
-returns : tie.Need-returns
+returns : tie.Need-returns-then-x-ge1
 unfolding time_right
-returns c = rw (le-leb 1 c.before.args.x c.if1.true)
+returns c = rw (le-leb 1 c.before.args.x c.if-x-ge1.true)
 
-returns-2 : tie.Need-returns-2
+returns-2 : tie.Need-returns-else-x-ge1
 unfolding time_right
-returns-2 c = rw (lt-leb 1 c.before.args.x c.if1.false)
+returns-2 c = rw (lt-leb 1 c.before.args.x c.if-x-ge1.false)
 
-pub time-right-spec : {M : Type 1} → statement M
-time-right-spec = tie.close (tie.spec returns returns-2)
+pub time_right_spec : {M : Type 1} → statement M
+time_right_spec = tie.close (tie.spec returns returns-2)

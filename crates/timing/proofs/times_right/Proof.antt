@@ -4,11 +4,11 @@ use borrow.Author.Rules.{rules}
 use Rattle.timing.proofs.times_right.Statement.{statement}
 use Rattle.timing.proofs.times_right.Tie as tie
 
-returns : tie.Need-returns
-returns c = rw (sym c.before.before.time-right.ensures ∙ c.before.if1.true) c.time-right2.ensures
+returns : tie.Need-returns-then-time_right
+returns c = rw (sym c.before.before.time_right.ensures ∙ c.before.if-time_right.true) c.time_right-then-time_right.ensures
 
-returns-2 : tie.Need-returns-2
-returns-2 c = rw (sym c.before.time-right.ensures ∙ c.if1.false) c.if1.false
+returns-2 : tie.Need-returns-else-time_right
+returns-2 c = rw (sym c.before.time_right.ensures ∙ c.if-time_right.false) c.if-time_right.false
 
-pub times-right-spec : {M : Type 1} → statement M
-times-right-spec = tie.close (tie.spec (λ c κs. search rules) (λ c κs. search rules) returns returns-2)
+pub times_right_spec : {M : Type 1} → statement M
+times_right_spec = tie.close (tie.spec (λ c κs. search rules) (λ c κs. search rules) returns returns-2)

@@ -8,5 +8,5 @@ returns : tie.Need-returns
 unfolding entry_delay
 returns c = cc
 
-pub delay-spec : {M : Type 1} → statement M
-delay-spec = tie.close (tie.spec (λ c κs. search rules) (λ c. search rules) (λ c κs. search rules) returns)
+pub delay_spec : {M : Type 1} → statement M
+delay_spec = tie.close (tie.spec (λ c κs. search rules) (λ c. search rules) (λ c κs. search rules) returns)

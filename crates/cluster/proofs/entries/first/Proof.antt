@@ -12,32 +12,32 @@ use Rattle.cluster.proofs.Searching.{right, wrong, ended}
 use Rattle.cluster.proofs.entries.first.Statement.{statement}
 use Rattle.cluster.proofs.entries.first.Tie as tie
 
-abbrev invariant-loop : tie.invariant-loop
+abbrev invariant-loop : tie.invariant-loop-e
 invariant-loop t n end e₀ e =
     (end ≡ entry_count t) × (first_entry t n ≡ first_from (λ j. eqb (entry_schedule t j) n) e (end - e))
 
-abbrev decreases-loop : tie.decreases-loop
+abbrev decreases-loop : tie.decreases-loop-e
 decreases-loop t n end e₀ e = end - e
 
-loop-holds : tie.Need-loop-init invariant-loop decreases-loop
+loop-holds : tie.Need-loop-e-init invariant-loop decreases-loop
 unfolding first_entry
-loop-holds c = (c.count.ensures, rw (c.count.ensures, sub-zero) refl)
+loop-holds c = (c.count-end.ensures, rw (c.count-end.ensures, sub-zero) refl)
 
-returns : tie.Need-returns invariant-loop decreases-loop
+returns : tie.Need-returns-then-schedule-n invariant-loop decreases-loop
 returns c =
     sym
-    (c.before.before.before.loop.invariant.1
-    ∙ right _ _ _ c.before.before.loop-test.true (eq-eqb _ _ (sym c.before.schedule.ensures ∙ c.if1.true)))
+    (c.before.before.before.loop-e.invariant.1
+    ∙ right _ _ _ c.before.before.loop-e-test.true (eq-eqb _ _ (sym c.before.schedule.ensures ∙ c.if-schedule-n.true)))
 
-loop-again : tie.Need-loop-preserved invariant-loop decreases-loop
+loop-again : tie.Need-loop-e-preserved invariant-loop decreases-loop
 loop-again c = (
-  c.before.before.before.loop.invariant.0,
-  c.before.before.before.loop.invariant.1
-      ∙ wrong _ _ _ c.before.before.loop-test.true (ne_eqb _ _ (λ e. c.if1.false (c.before.schedule.ensures ∙ e))),
+  c.before.before.before.loop-e.invariant.0,
+  c.before.before.before.loop-e.invariant.1
+      ∙ wrong _ _ _ c.before.before.loop-e-test.true (ne_eqb _ _ (λ e. c.if-schedule-n.false (c.before.schedule.ensures ∙ e))),
 )
 
-returns-2 : tie.Need-returns-2 invariant-loop decreases-loop
-returns-2 c = sym (c.before.loop.invariant.1 ∙ ended _ _ _ c.loop-test.false)
+returns-2 : tie.Need-returns invariant-loop decreases-loop
+returns-2 c = sym (c.before.loop-e.invariant.1 ∙ ended _ _ _ c.loop-e-test.false)
 
 pub first_spec : {M : Type 1} → statement M
 first_spec =

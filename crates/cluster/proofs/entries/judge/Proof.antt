@@ -11,87 +11,87 @@ use Rattle.cluster.proofs.EntryTurn.{Passed, Turn, none_passed, all_passed, entr
 use Rattle.cluster.proofs.entries.judge.Statement.{statement}
 use Rattle.cluster.proofs.entries.judge.Tie as tie
 
-abbrev invariant-loop : tie.invariant-loop
+abbrev invariant-loop : tie.invariant-loop-e
 invariant-loop t lists first n whole schedules₀ e₀ schedules e = Passed t e schedules
 
-abbrev decreases-loop : tie.decreases-loop
+abbrev decreases-loop : tie.decreases-loop-e
 decreases-loop t lists first n whole schedules₀ e₀ schedules e = whole - e
 
 -- the table, the entry and the schedules counted at the loop's test
 
 abbrev Loop : Type 0
-Loop = tie.At-loop invariant-loop decreases-loop
+Loop = tie.At-loop-e invariant-loop decreases-loop
 
 abbrev table : Loop → List ℕ
 table c = c.before.before.before.before.before.before.args.t.now
 
 abbrev entry : Loop → ℕ
-entry c = c.loop.e
+entry c = c.loop-e.e
 
 abbrev schedules : Loop → ℕ
-schedules c = c.loop.schedules
+schedules c = c.loop-e.schedules
 
-turn : (c : Loop) → entry c < c.before.before.count.result → Turn (table c) (entry c) (schedules c)
+turn : (c : Loop) → entry c < c.before.before.count-n.result → Turn (table c) (entry c) (schedules c)
 turn c below =
     let known = c.before.before.before.before.before.before.requires in
-    (c.loop.invariant, omega (arith, c.before.before.count.ensures), known.0.0, known.1.0, omega (arith, c.before.before.before.before.lists.ensures))
+    (c.loop-e.invariant, omega (arith, c.before.before.count-n.ensures), known.0.0, known.1.0, omega (arith, c.before.before.before.before.lists-lists.ensures))
 
-here : (c : Loop) → c.before.before.before.entry_at.result + entry_words * entry c ≡ entry_at (table c) (entry c)
-here c = omega (arith, c.before.before.before.entry_at.ensures)
+here : (c : Loop) → c.before.before.before.entry_at-first.result + entry_words * entry c ≡ entry_at (table c) (entry c)
+here c = omega (arith, c.before.before.before.entry_at-first.ensures)
 
 -- what was found of a record that is whole, and of one that is cut off
 
 abbrev Judged : Type 0
-Judged = tie.After-right-words invariant-loop decreases-loop
+Judged = tie.After-right_words-right invariant-loop decreases-loop
 
 abbrev loop : Judged → Loop
 loop c = c.before.before.before.before
 
 turn-whole : (c : Judged) → Turn (table (loop c)) (entry (loop c)) (schedules (loop c))
-turn-whole c = turn (loop c) (omega (arith, c.before.before.before.loop-test.true, (loop c).before.whole-records.ensures.within))
+turn-whole c = turn (loop c) (omega (arith, c.before.before.before.loop-e-test.true, (loop c).before.whole-records.ensures.within))
 
-read_at : (c : Judged) → EntryRead (table (loop c)) (entry_at (table (loop c)) (entry (loop c))) c.before.before.read.result
-read_at c = rw (here (loop c)) at c.before.before.read.ensures
+read_at : (c : Judged) → EntryRead (table (loop c)) (entry_at (table (loop c)) (entry (loop c))) c.before.before.read-words.result
+read_at c = rw (here (loop c)) at c.before.before.read-words.ensures
 
-seen : (c : Judged) → c.right-words.result ≡ leading (entry_read (table (loop c)) (entry (loop c)) (schedules (loop c)))
+seen : (c : Judged) → c.right_words-right.result ≡ leading (entry_read (table (loop c)) (entry (loop c)) (schedules (loop c)))
 seen c =
     let l = loop c in
     let lists = l.before.before.before.before.lists.ensures.0 in
-    c.right-words.ensures ∙ ap leading (seen_read (table l) (entry l) (schedules l) _ (read_at c) _ _ c.before.count2.ensures lists)
+    c.right_words-right.ensures ∙ ap leading (seen_read (table l) (entry l) (schedules l) _ (read_at c) _ _ c.before.count.ensures lists)
 
 abbrev Cut : Type 0
-Cut = tie.After-right-words2 invariant-loop decreases-loop
+Cut = tie.After-right_words-right-then-e-n invariant-loop decreases-loop
 
 abbrev end : Cut → Loop
 end c = c.before.before.before.before.before
 
-seen-cut : (c : Cut) → c.right-words2.result ≡ leading (entry_read (table (end c)) (entry (end c)) (schedules (end c)))
+seen-cut : (c : Cut) → c.right_words-right-then-e-n.result ≡ leading (entry_read (table (end c)) (entry (end c)) (schedules (end c)))
 seen-cut c =
     let l = end c in
     let lists = l.before.before.before.before.lists.ensures.0 in
-    let read = rw (here l) at c.before.read-due.ensures in
-    c.right-words2.ensures ∙ ap leading (seen_read (table l) (entry l) (schedules l) _ read _ _ c.before.before.count3.ensures lists)
+    let read = rw (here l) at c.before.read_due.ensures in
+    c.right_words-right-then-e-n.ensures ∙ ap leading (seen_read (table l) (entry l) (schedules l) _ read _ _ c.before.before.count-then-e-n.ensures lists)
 
 turn-cut : (c : Cut) → Turn (table (end c)) (entry (end c)) (schedules (end c))
-turn-cut c = turn (end c) c.before.before.before.if2.true
+turn-cut c = turn (end c) c.before.before.before.if-e-n.true
 
 cut_right : (c : Cut) → leading (entry_read (table (end c)) (entry (end c)) (schedules (end c))) < entry_words
 cut_right c =
     let l = end c in
-    let more = c.before.before.before.if2.true in
-    let reached = c.before.before.before.before.loop-test.false in
-    cut_off (table l) (entry l) (schedules l) (turn-cut c) (omega (arith, here l, l.before.whole-records.ensures.cut (omega arith)))
+    let more = c.before.before.before.if-e-n.true in
+    let reached = c.before.before.before.before.loop-e-test.false in
+    cut_off (table l) (entry l) (schedules l) (turn-cut c) (omega (arith, here l, l.before.whole_records.ensures.cut (omega arith)))
 
-loop-holds : tie.Need-loop-init invariant-loop decreases-loop
+loop-holds : tie.Need-loop-e-init invariant-loop decreases-loop
 loop-holds c = none_passed c.before.before.before.before.before.args.t.now
 
-read-requires : tie.Need-read-requires invariant-loop decreases-loop
-read-requires c κs = let l = c.before in omega (arith, l.before.whole-records.ensures.there (entry l) c.loop-test.true)
+read-requires : tie.Need-read-words-requires invariant-loop decreases-loop
+read-requires c κs = let l = c in omega (arith, l.before.before.whole_records-whole.ensures.there (entry l) c.loop-e-test.true)
 
-right-words-requires : tie.Need-right-words-requires invariant-loop decreases-loop
-right-words-requires c κs = c.before.read.ensures.schedule-high
+right-words-requires : tie.Need-right_words-right-requires invariant-loop decreases-loop
+right-words-requires c κs = c.before.read-words.ensures.schedule_high
 
-returns : tie.Need-returns invariant-loop decreases-loop
+returns : tie.Need-returns-then-right-lt-ENTRY invariant-loop decreases-loop
 unfolding entry_columns
 returns c =
     let d : Judged = c.before.before in
@@ -99,7 +99,7 @@ returns c =
     let right = seen d in
     c.fault.ensures ∙ stops (table l) (entry l) (schedules l) (turn-whole d) (omega arith) _ (omega (arith, here l))
 
-loop-again : tie.Need-loop-preserved invariant-loop decreases-loop
+loop-again : tie.Need-loop-e-preserved invariant-loop decreases-loop
 unfolding entry_columns
 loop-again c =
     let d : Judged = c.before.before in
@@ -107,25 +107,25 @@ loop-again c =
     let right = seen d in
     rw (read_at d).schedule-is (passes (table l) (entry l) (schedules l) (turn-whole d) (omega arith))
 
-right-words-requires-2 : tie.Need-right-words-requires-2 invariant-loop decreases-loop
-right-words-requires-2 c κs = c.read-due.ensures.schedule-high
+right-words-requires-2 : tie.Need-right_words-right-requires-then-e-n invariant-loop decreases-loop
+right-words-requires-2 c κs = c.read_due.ensures.schedule_high
 
-add-fault-2 : tie.Need-overflow-add-fault-2 invariant-loop decreases-loop
+add-fault-2 : tie.Need-overflow_add-at-then-e-n-2 invariant-loop decreases-loop
 add-fault-2 c = omega (arith, seen-cut c, cut_right c)
 
-returns-2 : tie.Need-returns-2 invariant-loop decreases-loop
+returns-2 : tie.Need-returns-then-e-n invariant-loop decreases-loop
 returns-2 c =
     let d : Cut = c.before in
     let l = end d in
-    c.fault2.ensures ∙ stops (table l) (entry l) (schedules l) (turn-cut d) (cut_right d) _ (omega (arith, here l, seen-cut d))
+    c.fault-then-e-n.ensures ∙ stops (table l) (entry l) (schedules l) (turn-cut d) (cut_right d) _ (omega (arith, here l, seen-cut d))
 
-returns-3 : tie.Need-returns-3 invariant-loop decreases-loop
+returns-3 : tie.Need-returns invariant-loop decreases-loop
 returns-3 c =
-    let l = c.before.before in
-    all_passed _ _ _ l.loop.invariant (omega (arith, l.before.before.count.ensures))
+    let l = c in
+    all_passed _ _ _ l.before.before.loop-e.invariant (omega (arith, l.before.before.before.before.count-n.ensures))
 
-pub judge-spec : {M : Type 1} → statement M
-judge-spec =
+pub judge_spec : {M : Type 1} → statement M
+judge_spec =
     tie.close
     (tie.spec invariant-loop decreases-loop (λ c κs. search rules) (λ c κs. search rules) (λ c κs. search rules) (λ c. search rules) (λ c κs. search rules)
     loop-holds (λ c. search rules) (λ c. search rules) read-requires (λ c κs. search rules) (λ c. search rules) right-words-requires

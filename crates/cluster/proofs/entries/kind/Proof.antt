@@ -8,5 +8,5 @@ returns : tie.Need-returns
 unfolding entry_kind
 returns c = cc
 
-pub kind-spec : {M : Type 1} → statement M
-kind-spec = tie.close (tie.spec (λ c κs. search rules) (λ c. search rules) (λ c κs. search rules) returns)
+pub kind_spec : {M : Type 1} → statement M
+kind_spec = tie.close (tie.spec (λ c κs. search rules) (λ c. search rules) (λ c κs. search rules) returns)

@@ -10,29 +10,29 @@ use borrow.Author.Rules.{rules}
 use Rattle.cluster.proofs.entries.next.Statement.{statement}
 use Rattle.cluster.proofs.entries.next.Tie as tie
 
-returns : tie.Need-returns
+returns : tie.Need-returns-then-schedule-n
 returns c =
     let t = c.before.before.before.before.before.before.before.before.args.t.now in
     let e = c.before.before.before.before.before.before.before.before.args.e in
-    let s = c.before.before.before.before.before.before.schedule.ensures in
-    let k = sym c.before.schedule2.ensures ∙ c.if3.true ∙ s in
+    let s = c.before.before.before.before.before.before.schedule-n.ensures in
+    let k = sym c.before.schedule.ensures ∙ c.if-schedule-n.true ∙ s in
     rw (add-one e)
     (sym (next_behind t e (omega arith) (rw (add-one e) at k)))
 
-returns-2 : tie.Need-returns-2
+returns-2 : tie.Need-returns
 returns-2 c =
     c.first.ensures
-    ∙ ap (first_entry _) c.before.before.before.schedule.ensures
+    ∙ ap (first_entry _) c.before.before.before.schedule-n.ensures
     ∙ sym
     (next_first _ _ (λ h k. ⊎_elim
-    (λ w. w.4.left (w.3.ensures ∙ ap (entry_schedule _) (add-one _) ∙ k ∙ sym c.before.before.before.schedule.ensures))
+    (λ w. w.4.left (w.3.ensures ∙ ap (entry_schedule _) (add-one _) ∙ k ∙ sym c.before.before.before.schedule-n.ensures))
     (⊎_elim
     (λ w. omega arith)
     (λ w. omega arith))
-    c.before.if1.branch))
+    c.before.if-e-count.branch))
 
-pub next-spec : {M : Type 1} → statement M
-next-spec =
+pub next_spec : {M : Type 1} → statement M
+next_spec =
     tie.close
     (tie.spec (λ c κs. search rules) (λ c κs. search rules) (λ c. search rules) (λ c κs. search rules)
     (λ c. search rules) (λ c κs. search rules) (λ c. search rules) returns (λ c κs. search rules) returns-2)

@@ -8,17 +8,17 @@ use borrow.Author.Rules.{rules}
 use Rattle.cluster.proofs.entries.read.Statement.{statement}
 use Rattle.cluster.proofs.entries.read.Tie as tie
 
-cast-t6 : tie.Need-overflow-cast-t6
-cast-t6 c = omega (arith, c.shared-slice-known.given c.before.args.at)
+cast-t6 : tie.Need-overflow_cast-result
+cast-t6 c = omega (arith, c.shared_slice_known-1.given c.before.args.at)
 
-cast-t11 : tie.Need-overflow-cast-t11
-cast-t11 c = omega (arith, c.shared-slice-known2.given (c.before.before.args.at + 1))
+cast-t11 : tie.Need-overflow_cast-result-2
+cast-t11 c = omega (arith, c.shared_slice_known-2-1.given (c.before.before.args.at + 1))
 
-cast-t16 : tie.Need-overflow-cast-t16
-cast-t16 c = omega (arith, c.shared-slice-known3.given (c.before.before.before.args.at + 2))
+cast-t16 : tie.Need-overflow_cast-result-3
+cast-t16 c = omega (arith, c.shared_slice_known-3-1.given (c.before.before.before.args.at + 2))
 
-cast-t21 : tie.Need-overflow-cast-t21
-cast-t21 c = omega (arith, c.shared-slice-known4.given (c.before.before.before.before.args.at + 3))
+cast-t21 : tie.Need-overflow_cast-result-4
+cast-t21 c = omega (arith, c.shared_slice_known-4-1.given (c.before.before.before.before.args.at + 3))
 
 returns : tie.Need-returns
 unfolding word
@@ -29,7 +29,7 @@ returns c =
       kind-is = sym (due_there a.t.now (a.at + 1) (omega arith));
       target_is = sym (due_there a.t.now (a.at + 2) (omega arith));
       delay-is = sym (due_there a.t.now (a.at + 3) (omega arith));
-      schedule-high = omega (arith, c.before.before.before.shared-slice-known.given a.at);
+      schedule-high = omega (arith, c.before.before.before.shared_slice_known-1.given a.at);
     }
 
 pub read_spec : {M : Type 1} → statement M

@@ -10,54 +10,54 @@ use Rattle.cluster.proofs.entries.right_words.Tie as tie
 
 -- the tests that were passed
 
-up : (c : tie.Else1) → let a = c.before.before.args in follows a.schedules a.words.schedule ≡ true
-up c = sym c.before.follows.ensures ∙ not-false c.before.follows.result c.if1.false
+up : (c : tie.Else-not-follows) → let a = c.before.before.args in follows a.schedules a.words.schedule ≡ true
+up c = sym c.before.follows.ensures ∙ not-false c.before.follows.result c.if-not-follows.false-raw
 
-target : (c : tie.Else3)
+target : (c : tie.Else-not-target_right)
     → let a = c.before.before.before.before.before.before.args in
     target_right a.frames a.lists a.words.kind a.words.target ≡ true
-target c = sym c.before.target_right.ensures ∙ not-false c.before.target_right.result c.if3.false
+target c = sym c.before.target_right.ensures ∙ not-false c.before.target_right.result c.if-not-target_right.false-raw
 
-returns : tie.Need-returns
+returns : tie.Need-returns-then-not-follows
 unfolding entry_columns leading
-returns c = simp (sym c.before.follows.ensures ∙ not-true c.before.follows.result c.if1.true)
+returns c = simp (sym c.before.follows.ensures ∙ not-true c.before.follows.result c.if-not-follows.true-raw)
 
-returns-2 : tie.Need-returns-2
+returns-2 : tie.Need-returns-then-words-gt3
 unfolding entry_columns leading
-returns-2 c = simp (up c.before.before, lt-leb _ _ c.if2.true)
+returns-2 c = simp (up c.before.before, lt-leb _ _ c.if-words-gt3.true)
 
-returns-3 : tie.Need-returns-3
+returns-3 : tie.Need-returns-then-not-target_right
 unfolding entry_columns leading
 returns-3 c =
-    let d2 = c.before.before in
+    let d2 = c in
     simp (
       up d2.before.before,
-      le-leb _ _ d2.if2.false,
-      sym c.before.target_right.ensures ∙ not-true c.before.target_right.result c.if3.true,
+      le-leb _ _ d2.before.before.if-words-gt3.false,
+      sym c.before.target_right.ensures ∙ not-true c.before.target_right.result c.if-not-target_right.true-raw,
     )
 
-returns-4 : tie.Need-returns-4
+returns-4 : tie.Need-returns-then-words-lt1
 unfolding entry_columns leading
 returns-4 c =
-    let d3 = c.before.before in
-    let d2 = d3.before.before in
-    simp (up d2.before.before, le-leb _ _ d2.if2.false, target d3, lt-leb _ _ c.if4.true)
+    let d3 = c in
+    let d2 = d3 in
+    simp (up d2.before.before, le-leb _ _ d2.before.before.before.before.if-words-gt3.false, target d3, lt-leb _ _ c.if-words-lt1.true)
 
-returns-5 : tie.Need-returns-5
+returns-5 : tie.Need-returns-then-words-le65535
 unfolding entry_columns leading
 returns-5 c =
-    let d3 = c.before.before.before.before in
-    let d2 = d3.before.before in
-    simp (up d2.before.before, le-leb _ _ d2.if2.false, target d3, le-leb _ _ c.before.before.if4.false, le-leb _ _ c.if5.true)
+    let d3 = c in
+    let d2 = d3 in
+    simp (up d2.before.before, le-leb _ _ d2.before.before.before.before.before.before.if-words-gt3.false, target d3, le-leb _ _ c.before.before.if-words-lt1.false, le-leb _ _ c.if-words-le65535.true)
 
-returns-6 : tie.Need-returns-6
+returns-6 : tie.Need-returns-else-words-le65535
 unfolding entry_columns leading
 returns-6 c =
-    let d3 = c.before.before.before.before in
-    let d2 = d3.before.before in
-    simp (up d2.before.before, le-leb _ _ d2.if2.false, target d3, le-leb _ _ c.before.before.if4.false, lt-leb _ _ c.if5.false)
+    let d3 = c in
+    let d2 = d3 in
+    simp (up d2.before.before, le-leb _ _ d2.before.before.before.before.before.before.if-words-gt3.false, target d3, le-leb _ _ c.before.before.if-words-lt1.false, lt-leb _ _ c.if-words-le65535.false)
 
-pub right-words-spec : {M : Type 1} → statement M
-right-words-spec =
+pub right_words_spec : {M : Type 1} → statement M
+right_words_spec =
     tie.close
     (tie.spec (λ c κs. search rules) returns returns-2 (λ c κs. search rules) returns-3 returns-4 returns-5 returns-6)

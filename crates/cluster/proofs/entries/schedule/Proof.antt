@@ -8,5 +8,5 @@ returns : tie.Need-returns
 unfolding entry_schedule
 returns c = cc
 
-pub schedule-spec : {M : Type 1} → statement M
-schedule-spec = tie.close (tie.spec (λ c κs. search rules) (λ c κs. search rules) returns)
+pub schedule_spec : {M : Type 1} → statement M
+schedule_spec = tie.close (tie.spec (λ c κs. search rules) (λ c κs. search rules) returns)

@@ -7,16 +7,16 @@ use borrow.Author.Rules.{rules}
 use Rattle.cluster.proofs.entries.schedules.Statement.{statement}
 use Rattle.cluster.proofs.entries.schedules.Tie as tie
 
-returns : tie.Need-returns
+returns : tie.Need-returns-then-n-eq0
 unfolding schedule_count
-returns c = (sym (counted_none _ _ (sym c.before.count.ensures ∙ c.if1.true)), omega arith)
+returns c = (sym (counted_none _ _ (sym c.before.count-n.ensures ∙ c.if-n-eq0.true)), omega arith)
 
-returns-2 : tie.Need-returns-2
+returns-2 : tie.Need-returns-else-n-eq0
 unfolding schedule_count
-returns-2 c = (rw (← c.before.before.count.ensures, counted_last _ _ c.before.if1.false, c.schedule.ensures), omega arith)
+returns-2 c = (rw (← c.before.before.count-n.ensures, counted_last _ _ c.before.if-n-eq0.false, c.schedule.ensures), omega arith)
 
-pub schedules-spec : {M : Type 1} → statement M
-schedules-spec =
+pub schedules_spec : {M : Type 1} → statement M
+schedules_spec =
     tie.close
     (tie.spec (λ c κs. search rules) (λ c. search rules) (λ c κs. search rules) (λ c. search rules)
     (λ c. search rules) returns returns-2)

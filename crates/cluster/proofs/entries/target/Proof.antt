@@ -8,5 +8,5 @@ returns : tie.Need-returns
 unfolding entry_target
 returns c = cc
 
-pub target-spec : {M : Type 1} → statement M
-target-spec = tie.close (tie.spec (λ c κs. search rules) (λ c. search rules) (λ c κs. search rules) returns)
+pub target_spec : {M : Type 1} → statement M
+target_spec = tie.close (tie.spec (λ c κs. search rules) (λ c. search rules) (λ c κs. search rules) returns)

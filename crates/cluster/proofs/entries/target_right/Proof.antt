@@ -5,18 +5,18 @@ use Rattle.cluster.specs.Columns.{target_right}
 use Rattle.cluster.proofs.entries.target_right.Statement.{statement}
 use Rattle.cluster.proofs.entries.target_right.Tie as tie
 
-returns : tie.Need-returns
+returns : tie.Need-returns-then-kind-eq0
 unfolding target_right
-returns c = rw c.if1.true
+returns c = rw c.if-kind-eq0.true
 
-returns-2 : tie.Need-returns-2
+returns-2 : tie.Need-returns-then-kind-eq1
 unfolding target_right
-returns-2 c = rw c.if2.true
+returns-2 c = rw c.if-kind-eq1.true
 
-returns-3 : tie.Need-returns-3
+returns-3 : tie.Need-returns
 returns-3 c =
     let a = c.before.before.args in
-    sym (other_kind a.frames a.lists a.kind a.target c.before.if1.false c.if2.false)
+    sym (other_kind a.frames a.lists a.kind a.target c.before.if-kind-eq0.false c.if-kind-eq1.false)
 
-pub target-right-spec : {M : Type 1} → statement M
-target-right-spec = tie.close (tie.spec returns returns-2 returns-3)
+pub target_right_spec : {M : Type 1} → statement M
+target_right_spec = tie.close (tie.spec returns returns-2 returns-3)

@@ -9,5 +9,5 @@ returns : tie.Need-returns
 unfolding classic bit
 returns c = simp c.flags.ensures
 
-pub classic-spec : {M : Type 1} → statement M
-classic-spec = tie.close (tie.spec (λ c κs. search rules) returns)
+pub classic_spec : {M : Type 1} → statement M
+classic_spec = tie.close (tie.spec (λ c κs. search rules) returns)

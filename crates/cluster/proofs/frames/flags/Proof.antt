@@ -8,5 +8,5 @@ returns : tie.Need-returns
 unfolding flags
 returns c = cc
 
-pub flags-spec : {M : Type 1} → statement M
-flags-spec = tie.close (tie.spec (λ c κs. search rules) (λ c. search rules) (λ c κs. search rules) returns)
+pub flags_spec : {M : Type 1} → statement M
+flags_spec = tie.close (tie.spec (λ c κs. search rules) (λ c. search rules) (λ c κs. search rules) returns)

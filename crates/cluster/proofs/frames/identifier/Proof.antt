@@ -8,5 +8,5 @@ returns : tie.Need-returns
 unfolding identifier
 returns c = cc
 
-pub identifier-spec : {M : Type 1} → statement M
-identifier-spec = tie.close (tie.spec (λ c κs. search rules) (λ c κs. search rules) returns)
+pub identifier_spec : {M : Type 1} → statement M
+identifier_spec = tie.close (tie.spec (λ c κs. search rules) (λ c κs. search rules) returns)

@@ -3,11 +3,11 @@ use borrow.Author.Rules.{rules}
 use Rattle.cluster.proofs.frames.model.Statement.{statement}
 use Rattle.cluster.proofs.frames.model.Tie as tie
 
-returns : tie.Need-returns
-returns c = rw (← c.before.classic.ensures, c.if1.true)
+returns : tie.Need-returns-then-classic
+returns c = rw (← c.before.classic.ensures, c.if-classic.true)
 
-returns-2 : tie.Need-returns-2
-returns-2 c = rw (← c.before.classic.ensures, c.if1.false)
+returns-2 : tie.Need-returns-else-classic
+returns-2 c = rw (← c.before.classic.ensures, c.if-classic.false)
 
-pub model-spec : {M : Type 1} → statement M
-model-spec = tie.close (tie.spec (λ c κs. search rules) returns returns-2)
+pub model_spec : {M : Type 1} → statement M
+model_spec = tie.close (tie.spec (λ c κs. search rules) returns returns-2)

@@ -10,5 +10,5 @@ returns : tie.Need-returns
 unfolding published bit
 returns c = rw (pow-zero, div-one) (rw c.flags.ensures)
 
-pub published-spec : {M : Type 1} → statement M
-published-spec = tie.close (tie.spec (λ c κs. search rules) returns)
+pub published_spec : {M : Type 1} → statement M
+published_spec = tie.close (tie.spec (λ c κs. search rules) returns)

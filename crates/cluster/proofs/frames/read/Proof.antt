@@ -8,14 +8,14 @@ use borrow.Author.Rules.{rules}
 use Rattle.cluster.proofs.frames.read.Statement.{statement}
 use Rattle.cluster.proofs.frames.read.Tie as tie
 
-cast-t6 : tie.Need-overflow-cast-t6
-cast-t6 c = omega (arith, c.shared-slice-known.given c.before.args.at)
+cast-t6 : tie.Need-overflow_cast-result
+cast-t6 c = omega (arith, c.shared_slice_known-1.given c.before.args.at)
 
-cast-t11 : tie.Need-overflow-cast-t11
-cast-t11 c = omega (arith, c.shared-slice-known2.given (c.before.before.args.at + 1))
+cast-t11 : tie.Need-overflow_cast-result-2
+cast-t11 c = omega (arith, c.shared_slice_known-2-1.given (c.before.before.args.at + 1))
 
-cast-t16 : tie.Need-overflow-cast-t16
-cast-t16 c = omega (arith, c.shared-slice-known3.given (c.before.before.before.args.at + 2))
+cast-t16 : tie.Need-overflow_cast-result-3
+cast-t16 c = omega (arith, c.shared_slice_known-3-1.given (c.before.before.before.args.at + 2))
 
 returns : tie.Need-returns
 unfolding word

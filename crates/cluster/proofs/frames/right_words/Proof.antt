@@ -7,41 +7,41 @@ use Rattle.cluster.specs.Read.{leading}
 use Rattle.cluster.proofs.frames.right_words.Statement.{statement}
 use Rattle.cluster.proofs.frames.right_words.Tie as tie
 
-returns : tie.Need-returns
+returns : tie.Need-returns-then-id-ge-IDENTIFIERS
 unfolding frame_columns leading
-returns c = simp (le-ltb _ _ c.if1.true)
+returns c = simp (le-ltb _ _ c.if-id-ge-IDENTIFIERS.true)
 
-returns-2 : tie.Need-returns-2
+returns-2 : tie.Need-returns-then-used-id
 unfolding frame_columns leading
-returns-2 c = simp (c.if2.true, and-false)
+returns-2 c = simp (c.if-used-id.true, and-false)
 
-returns-3 : tie.Need-returns-3
+returns-3 : tie.Need-returns-then-words-lt1
 unfolding frame_columns leading
 returns-3 c =
-    let d2 = c.before.before in
-    simp (lt-ltb _ _ d2.before.before.if1.false, d2.if2.false, lt-leb _ _ c.if3.true)
+    let d2 = c in
+    simp (lt-ltb _ _ d2.before.before.before.before.if-id-ge-IDENTIFIERS.false, d2.before.before.if-used-id.false, lt-leb _ _ c.if-words-lt1.true)
 
-returns-4 : tie.Need-returns-4
+returns-4 : tie.Need-returns-then-words-gt8
 unfolding frame_columns leading
 returns-4 c =
-    let d2 = c.before.before.before.before in
-    simp (lt-ltb _ _ d2.before.before.if1.false, d2.if2.false, lt-leb _ _ c.if4.true, and-false)
+    let d2 = c in
+    simp (lt-ltb _ _ d2.before.before.before.before.before.before.if-id-ge-IDENTIFIERS.false, d2.before.before.before.before.if-used-id.false, lt-leb _ _ c.if-words-gt8.true, and-false)
 
-returns-5 : tie.Need-returns-5
+returns-5 : tie.Need-returns-then-words-le3
 unfolding frame_columns leading
 returns-5 c =
-    let d4 = c.before.before in
-    let d3 = d4.before.before in
-    let d2 = d3.before.before in
-    simp (lt-ltb _ _ d2.before.before.if1.false, d2.if2.false, le-leb _ _ d3.if3.false, le-leb _ _ d4.if4.false, le-leb _ _ c.if5.true)
+    let d4 = c in
+    let d3 = d4 in
+    let d2 = d3 in
+    simp (lt-ltb _ _ d2.before.before.before.before.before.before.before.before.if-id-ge-IDENTIFIERS.false, d2.before.before.before.before.before.before.if-used-id.false, le-leb _ _ d3.before.before.before.before.if-words-lt1.false, le-leb _ _ d4.before.before.if-words-gt8.false, le-leb _ _ c.if-words-le3.true)
 
-returns-6 : tie.Need-returns-6
+returns-6 : tie.Need-returns-else-words-le3
 unfolding frame_columns leading
 returns-6 c =
-    let d4 = c.before.before in
-    let d3 = d4.before.before in
-    let d2 = d3.before.before in
-    simp (lt-ltb _ _ d2.before.before.if1.false, d2.if2.false, le-leb _ _ d3.if3.false, le-leb _ _ d4.if4.false, lt-leb _ _ c.if5.false)
+    let d4 = c in
+    let d3 = d4 in
+    let d2 = d3 in
+    simp (lt-ltb _ _ d2.before.before.before.before.before.before.before.before.if-id-ge-IDENTIFIERS.false, d2.before.before.before.before.before.before.if-used-id.false, le-leb _ _ d3.before.before.before.before.if-words-lt1.false, le-leb _ _ d4.before.before.if-words-gt8.false, lt-leb _ _ c.if-words-le3.false)
 
-pub right-words-spec : {M : Type 1} → statement M
-right-words-spec = tie.close (tie.spec returns (λ c. search rules) returns-2 returns-3 returns-4 returns-5 returns-6)
+pub right_words_spec : {M : Type 1} → statement M
+right_words_spec = tie.close (tie.spec returns (λ c. search rules) returns-2 returns-3 returns-4 returns-5 returns-6)

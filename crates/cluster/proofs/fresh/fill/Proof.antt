@@ -10,28 +10,28 @@ use Rattle.cluster.proofs.Filling.{filled_none, filled_turn, filled_same, filled
 use Rattle.cluster.proofs.fresh.fill.Statement.{statement}
 use Rattle.cluster.proofs.fresh.fill.Tie as tie
 
-abbrev invariant-loop : tie.invariant-loop
+abbrev invariant-loop : tie.invariant-loop-k
 invariant-loop t bytes₀ n k₀ bytes k = (k ≤ n) × (bytes ≡ filled t (length bytes₀) k)
 
-abbrev decreases-loop : tie.decreases-loop
+abbrev decreases-loop : tie.decreases-loop-k
 decreases-loop t bytes₀ n k₀ bytes k = n - k
 
-loop-holds : tie.Need-loop-init invariant-loop decreases-loop
+loop-holds : tie.Need-loop-k-init invariant-loop decreases-loop
 loop-holds c =
     let size = length c.before.before.before.before.before.before.before.args.bytes.now in
-    (omega arith, filled_none _ _ size c.before.before.before.set-bytes.ensures)
+    (omega arith, filled_none _ _ size c.before.before.before.set_bytes.ensures)
 
-loop-again : tie.Need-loop-preserved invariant-loop decreases-loop
+loop-again : tie.Need-loop-k-preserved invariant-loop decreases-loop
 loop-again c =
-    (omega arith, filled_turn _ _ _ _ _ c.before.before.before.before.before.loop.invariant.1 c.before.before.put-start.ensures)
+    (omega arith, filled_turn _ _ _ _ _ c.before.before.before.before.before.loop-k.invariant.1 c.before.before.put_start.ensures)
 
-same_length : tie.Need-same-length invariant-loop decreases-loop
-same_length c = filled_same _ _ _ _ _ c.before.before.before.before.before.set-bytes.ensures c.before.loop.invariant.1
+same_length : tie.Need-shape_of-bytes invariant-loop decreases-loop
+same_length c = filled_same _ _ _ _ _ c.before.before.before.before.before.set_bytes.ensures c.before.loop-k.invariant.1
 
 returns : tie.Need-returns invariant-loop decreases-loop
 returns c =
-    let e : c.before.loop.k ≡ placement_count c.before.before.before.before.before.before.before.before.before.args.t.now = omega arith in
-    filled_all _ _ _ _ _ e c.before.before.before.before.before.set-bytes.ensures c.before.loop.invariant.1
+    let e : c.before.loop-k.k ≡ placement_count c.before.before.before.before.before.before.before.before.before.args.t.now = omega arith in
+    filled_all _ _ _ _ _ e c.before.before.before.before.before.set_bytes.ensures c.before.loop-k.invariant.1
 
 pub fill_spec : {M : Type 1} → statement M
 fill_spec =

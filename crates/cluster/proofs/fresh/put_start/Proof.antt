@@ -8,5 +8,5 @@ returns : tie.Need-returns
 unfolding put_start
 returns c = cc
 
-pub put-start-spec : {M : Type 1} → statement M
-put-start-spec = tie.close (tie.spec (λ c κs. search rules) (λ c κs. search rules) (λ c κs. search rules) (λ c. search rules) returns)
+pub put_start_spec : {M : Type 1} → statement M
+put_start_spec = tie.close (tie.spec (λ c κs. search rules) (λ c κs. search rules) (λ c κs. search rules) (λ c. search rules) returns)

@@ -9,27 +9,27 @@ use Rattle.cluster.proofs.Filling.{fill_turn, fill_all}
 use Rattle.cluster.proofs.fresh.set_bytes.Statement.{statement}
 use Rattle.cluster.proofs.fresh.set_bytes.Tie as tie
 
-abbrev invariant-loop : tie.invariant-loop
+abbrev invariant-loop : tie.invariant-loop-i
 invariant-loop bytes₀ v i₀ bytes i = (i ≤ length bytes₀) × (length bytes ≡ length bytes₀) × (bytes ≡ replicate i v ++ drop i bytes₀)
 
-abbrev decreases-loop : tie.decreases-loop
+abbrev decreases-loop : tie.decreases-loop-i
 decreases-loop bytes₀ v i₀ bytes i = length bytes₀ - i
 
-loop-again : tie.Need-loop-preserved invariant-loop decreases-loop
+loop-again : tie.Need-loop-i-preserved invariant-loop decreases-loop
 loop-again c =
-    let h : c.before.loop.i < length c.before.before.args.bytes.now = omega arith in
-    (omega arith, simp length-set c.before.loop.invariant.1, fill_turn _ _ _ _ h c.before.loop.invariant.2)
+    let h : c.before.loop-i.i < length c.before.before.args.bytes.now = omega arith in
+    (omega arith, simp length-set c.before.loop-i.invariant.1, fill_turn _ _ _ _ h c.before.loop-i.invariant.2)
 
-same_length : tie.Need-same-length invariant-loop decreases-loop
-same_length c = c.before.loop.invariant.1
+same_length : tie.Need-shape_of-bytes invariant-loop decreases-loop
+same_length c = c.before.loop-i.invariant.1
 
 returns : tie.Need-returns invariant-loop decreases-loop
 returns c =
-    let e : c.before.loop.i ≡ length c.before.before.args.bytes.now = omega arith in
-    fill_all _ _ _ _ e c.before.loop.invariant.2
+    let e : c.before.loop-i.i ≡ length c.before.before.args.bytes.now = omega arith in
+    fill_all _ _ _ _ e c.before.loop-i.invariant.2
 
-pub set-bytes-spec : {M : Type 1} → statement M
-set-bytes-spec =
+pub set_bytes_spec : {M : Type 1} → statement M
+set_bytes_spec =
     tie.close
     (tie.spec invariant-loop decreases-loop (λ c. search rules) (λ c. search rules) (λ c. search rules) (λ c. search rules) loop-again
     same_length returns)

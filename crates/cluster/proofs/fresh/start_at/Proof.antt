@@ -6,32 +6,32 @@ use Rattle.cluster.proofs.Filling.{array_put, scalar_put}
 use Rattle.cluster.proofs.fresh.start_at.Statement.{statement}
 use Rattle.cluster.proofs.fresh.start_at.Tie as tie
 
-slice-aggregate-put-array : tie.Need-slice-aggregate-put-array
-slice-aggregate-put-array c = sym (length-take-le _ _ c.before.before.array-length.ensures.1)
+slice-aggregate-put-array : tie.Need-slice_bounds-put_array-end
+slice-aggregate-put-array c = sym (length-take-le _ _ c.before.before.array_length-n.ensures.1)
 
-returns : tie.Need-returns
+returns : tie.Need-returns-then-is_array
 returns c =
-    let d = c.before.before.before.before.before in
+    let d = c in
     array_put _ _ _ _ _ _ _ _
-    d.before.before.before.is-array.ensures
-    d.before.before.if1.true
-    d.before.start.ensures
-    d.array-length.ensures.0
-    d.array-length.ensures.1
-    c.before.before.put-array.ensures
+    d.before.before.before.before.before.before.before.before.is_array.ensures
+    d.before.before.before.before.before.before.before.if-is_array.true
+    d.before.before.before.before.before.before.start.ensures
+    d.before.before.before.before.before.array_length-n.ensures.0
+    d.before.before.before.before.before.array_length-n.ensures.1
+    c.before.before.put_array.ensures
 
-returns-2 : tie.Need-returns-2
+returns-2 : tie.Need-returns-else-is_array
 returns-2 c =
-    let d = c.before.before.before.before in
+    let d = c in
     scalar_put _ _ _ _ _ _ _ _
-    d.before.before.before.is-array.ensures
-    d.before.before.if1.false
-    d.width.ensures
-    c.before.before.before.start2.ensures
+    d.before.before.before.before.before.before.before.is_array.ensures
+    d.before.before.before.before.before.before.if-is_array.false
+    d.before.before.before.before.width.ensures
+    c.before.before.before.start-else-is_array.ensures
     c.before.before.put.ensures
 
-pub start-at-spec : {M : Type 1} → statement M
-start-at-spec =
+pub start_at_spec : {M : Type 1} → statement M
+start_at_spec =
     tie.close
     (tie.spec (λ c κs. search rules) (λ c κs. search rules) (λ c. search rules)
     (λ c κs. search rules) (λ c. search rules) slice-aggregate-put-array (λ c κs. search rules)

@@ -10,5 +10,5 @@ returns c =
     let a = c.before.args in
     rw c.ones.ensures (field_free a.bits a.offset a.width (omega arith))
 
-pub are-free-spec : {M : Type 1} → statement M
-are-free-spec = tie.close (tie.spec (λ c κs. search rules) (λ c. search rules) (λ c. search rules) (λ c. search rules) returns)
+pub are_free_spec : {M : Type 1} → statement M
+are_free_spec = tie.close (tie.spec (λ c κs. search rules) (λ c. search rules) (λ c. search rules) (λ c. search rules) returns)

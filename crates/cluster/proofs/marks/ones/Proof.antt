@@ -8,5 +8,5 @@ use Rattle.cluster.proofs.marks.ones.Tie as tie
 returns : tie.Need-returns
 returns c = ones_shifted c.args.width (omega arith)
 
-pub ones-spec : {M : Type 1} → statement M
-ones-spec = tie.close (tie.spec (λ c. search rules) (λ c. search rules) (λ c. search rules) (λ c. search rules) returns)
+pub ones_spec : {M : Type 1} → statement M
+ones_spec = tie.close (tie.spec (λ c. search rules) (λ c. search rules) (λ c. search rules) (λ c. search rules) returns)

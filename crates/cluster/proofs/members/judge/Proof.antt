@@ -13,87 +13,87 @@ use Rattle.cluster.proofs.MemberTurn.{Passed, Turn, none_passed, all_passed, mem
 use Rattle.cluster.proofs.members.judge.Statement.{statement}
 use Rattle.cluster.proofs.members.judge.Tie as tie
 
-abbrev invariant-loop : tie.invariant-loop
+abbrev invariant-loop : tie.invariant-loop-m
 invariant-loop t listed₀ first n whole lists₀ m₀ listed lists m = Passed t m lists listed
 
-abbrev decreases-loop : tie.decreases-loop
+abbrev decreases-loop : tie.decreases-loop-m
 decreases-loop t listed₀ first n whole lists₀ m₀ listed lists m = whole - m
 
 -- the table, the member, the lists counted and the marks at the loop's test
 
 abbrev Loop : Type 0
-Loop = tie.At-loop invariant-loop decreases-loop
+Loop = tie.At-loop-m invariant-loop decreases-loop
 
 abbrev table : Loop → List ℕ
 table c = c.before.before.before.before.before.args.t.now
 
 abbrev member : Loop → ℕ
-member c = c.loop.m
+member c = c.loop-m.m
 
 abbrev lists : Loop → ℕ
-lists c = c.loop.lists
+lists c = c.loop-m.lists
 
 abbrev marks : Loop → List Bool
-marks c = c.loop.listed
+marks c = c.loop-m.listed
 
-turn : (c : Loop) → member c < c.before.before.count.result → Turn (table c) (member c) (lists c) (marks c)
+turn : (c : Loop) → member c < c.before.before.count-n.result → Turn (table c) (member c) (lists c) (marks c)
 turn c below =
     let known = c.before.before.before.before.before.requires in
-    (c.loop.invariant, omega (arith, c.before.before.count.ensures), known.0.frames, known.1)
+    (c.loop-m.invariant, omega (arith, c.before.before.count-n.ensures), known.0.frames, known.1)
 
-here : (c : Loop) → c.before.before.before.member-at.result + member_words * member c ≡ member_at (table c) (member c)
-here c = omega (arith, c.before.before.before.member-at.ensures)
+here : (c : Loop) → c.before.before.before.member_at-first.result + member_words * member c ≡ member_at (table c) (member c)
+here c = omega (arith, c.before.before.before.member_at-first.ensures)
 
 -- what was found of a record that is whole, and of one that is cut off
 
 abbrev Judged : Type 0
-Judged = tie.After-right-words invariant-loop decreases-loop
+Judged = tie.After-right_words-right invariant-loop decreases-loop
 
 abbrev loop : Judged → Loop
 loop c = c.before.before.before.before
 
 turn-whole : (c : Judged) → Turn (table (loop c)) (member (loop c)) (lists (loop c)) (marks (loop c))
-turn-whole c = turn (loop c) (omega (arith, c.before.before.before.loop-test.true, (loop c).before.whole-records.ensures.within))
+turn-whole c = turn (loop c) (omega (arith, c.before.before.before.loop-m-test.true, (loop c).before.whole-records.ensures.within))
 
-read_at : (c : Judged) → MemberRead (table (loop c)) (member_at (table (loop c)) (member (loop c))) c.before.before.read.result
-read_at c = rw (here (loop c)) at c.before.before.read.ensures
+read_at : (c : Judged) → MemberRead (table (loop c)) (member_at (table (loop c)) (member (loop c))) c.before.before.read-words.result
+read_at c = rw (here (loop c)) at c.before.before.read-words.ensures
 
-seen : (c : Judged) → c.right-words.result ≡ leading (member_read (table (loop c)) (member (loop c)) (lists (loop c)) (marks (loop c)))
-seen c = let l = loop c in c.right-words.ensures ∙ ap leading (seen_read (table l) (member l) (lists l) (marks l) _ (read_at c))
+seen : (c : Judged) → c.right_words-right.result ≡ leading (member_read (table (loop c)) (member (loop c)) (lists (loop c)) (marks (loop c)))
+seen c = let l = loop c in c.right_words-right.ensures ∙ ap leading (seen_read (table l) (member l) (lists l) (marks l) _ (read_at c))
 
 abbrev Cut : Type 0
-Cut = tie.After-right-words2 invariant-loop decreases-loop
+Cut = tie.After-right_words invariant-loop decreases-loop
 
 abbrev end : Cut → Loop
 end c = c.before.before.before.before.before
 
 turn-cut : (c : Cut) → Turn (table (end c)) (member (end c)) (lists (end c)) (marks (end c))
-turn-cut c = turn (end c) c.before.before.before.if2.true
+turn-cut c = turn (end c) c.before.before.before.if-m-n.true
 
-seen-cut : (c : Cut) → c.right-words2.result ≡ leading (member_read (table (end c)) (member (end c)) (lists (end c)) (marks (end c)))
+seen-cut : (c : Cut) → c.right_words.result ≡ leading (member_read (table (end c)) (member (end c)) (lists (end c)) (marks (end c)))
 seen-cut c =
     let l = end c in
-    c.right-words2.ensures ∙ ap leading (seen_read (table l) (member l) (lists l) (marks l) _ (rw (here l) at c.before.read-due.ensures))
+    c.right_words.ensures ∙ ap leading (seen_read (table l) (member l) (lists l) (marks l) _ (rw (here l) at c.before.read_due.ensures))
 
 cut_right : (c : Cut) → leading (member_read (table (end c)) (member (end c)) (lists (end c)) (marks (end c))) < member_words
 cut_right c =
     let l = end c in
-    let more = c.before.before.before.if2.true in
-    let reached = c.before.before.before.before.loop-test.false in
-    cut_off (table l) (member l) (lists l) (marks l) (turn-cut c) (omega (arith, here l, l.before.whole-records.ensures.cut (omega arith)))
+    let more = c.before.before.before.if-m-n.true in
+    let reached = c.before.before.before.before.loop-m-test.false in
+    cut_off (table l) (member l) (lists l) (marks l) (turn-cut c) (omega (arith, here l, l.before.whole_records.ensures.cut (omega arith)))
 
-loop-holds : tie.Need-loop-init invariant-loop decreases-loop
+loop-holds : tie.Need-loop-m-init invariant-loop decreases-loop
 loop-holds c = none_passed c.before.before.before.before.args.t.now
 
-read-requires : tie.Need-read-requires invariant-loop decreases-loop
-read-requires c κs = let l = c.before in omega (arith, l.before.whole-records.ensures.there (member l) c.loop-test.true)
+read-requires : tie.Need-read-words-requires invariant-loop decreases-loop
+read-requires c κs = let l = c in omega (arith, l.before.before.whole_records-whole.ensures.there (member l) c.loop-m-test.true)
 
-right-words-requires : tie.Need-right-words-requires invariant-loop decreases-loop
+right-words-requires : tie.Need-right_words-right-requires invariant-loop decreases-loop
 right-words-requires c κs =
-    let l = c.before.before.before in
-    (l.before.before.before.before.before.requires.0, l.loop.invariant.1.0, c.before.read.ensures.list-high)
+    let l = c in
+    (l.before.before.before.before.before.before.before.before.requires.0, l.before.before.before.loop-m.invariant.1.0, c.before.read-words.ensures.list_high)
 
-returns : tie.Need-returns invariant-loop decreases-loop
+returns : tie.Need-returns-then-right-lt-MEMBER invariant-loop decreases-loop
 unfolding member_columns
 returns c =
     let d : Judged = c.before.before in
@@ -101,7 +101,7 @@ returns c =
     let right = seen d in
     c.fault.ensures ∙ stops (table l) (member l) (lists l) (marks l) (turn-whole d) (omega arith) _ (omega (arith, here l))
 
-array-write-listed : tie.Need-array-write-listed invariant-loop decreases-loop
+array-write-listed : tie.Need-bounds-listed-f invariant-loop decreases-loop
 array-write-listed c =
     let d : Judged = c.before in
     let l = loop d in
@@ -109,7 +109,7 @@ array-write-listed c =
     let below = frame_below (table l) (member l) (lists l) (marks l) (turn-whole d) (omega arith) in
     omega (arith, (read_at d).frame_is, l.loop.inv.1.0)
 
-loop-again : tie.Need-loop-preserved invariant-loop decreases-loop
+loop-again : tie.Need-loop-m-preserved invariant-loop decreases-loop
 unfolding member_columns
 loop-again c =
     let d : Judged = c.before.before in
@@ -117,27 +117,27 @@ loop-again c =
     let right = seen d in
     passes (table l) (member l) (lists l) (marks l) (turn-whole d) (omega arith) _ (read_at d)
 
-right-words-requires-2 : tie.Need-right-words-requires-2 invariant-loop decreases-loop
+right-words-requires-2 : tie.Need-right_words-requires invariant-loop decreases-loop
 right-words-requires-2 c κs =
-    let l = c.before.before.before.before in
-    (l.before.before.before.before.before.requires.0, l.loop.invariant.1.0, c.read-due.ensures.list-high)
+    let l = c in
+    (l.before.before.before.before.before.before.before.before.before.requires.0, l.before.before.before.before.loop-m.invariant.1.0, c.read_due.ensures.list_high)
 
-add-fault-2 : tie.Need-overflow-add-fault-2 invariant-loop decreases-loop
+add-fault-2 : tie.Need-overflow_add-at-then-m-n-2 invariant-loop decreases-loop
 add-fault-2 c = omega (arith, seen-cut c, cut_right c)
 
-returns-2 : tie.Need-returns-2 invariant-loop decreases-loop
+returns-2 : tie.Need-returns-then-m-n invariant-loop decreases-loop
 returns-2 c =
     let d : Cut = c.before in
     let l = end d in
-    c.fault2.ensures ∙ stops (table l) (member l) (lists l) (marks l) (turn-cut d) (cut_right d) _ (omega (arith, here l, seen-cut d))
+    c.fault-then-m-n.ensures ∙ stops (table l) (member l) (lists l) (marks l) (turn-cut d) (cut_right d) _ (omega (arith, here l, seen-cut d))
 
-returns-3 : tie.Need-returns-3 invariant-loop decreases-loop
+returns-3 : tie.Need-returns invariant-loop decreases-loop
 returns-3 c =
-    let l = c.before.before in
-    all_passed _ _ _ l.loop.listed l.loop.invariant (omega (arith, l.before.before.count.ensures))
+    let l = c in
+    all_passed _ _ _ l.before.before.loop-m.listed l.before.before.loop-m.invariant (omega (arith, l.before.before.before.before.count-n.ensures))
 
-pub judge-spec : {M : Type 1} → statement M
-judge-spec =
+pub judge_spec : {M : Type 1} → statement M
+judge_spec =
     tie.close
     (tie.spec invariant-loop decreases-loop (λ c κs. search rules) (λ c κs. search rules) (λ c. search rules) (λ c κs. search rules) loop-holds
     (λ c. search rules) (λ c. search rules) read-requires (λ c. search rules) right-words-requires (λ c. search rules) (λ c κs. search rules)

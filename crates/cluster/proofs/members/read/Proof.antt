@@ -8,11 +8,11 @@ use borrow.Author.Rules.{rules}
 use Rattle.cluster.proofs.members.read.Statement.{statement}
 use Rattle.cluster.proofs.members.read.Tie as tie
 
-cast-t6 : tie.Need-overflow-cast-t6
-cast-t6 c = omega (arith, c.shared-slice-known.given c.before.args.at)
+cast-t6 : tie.Need-overflow_cast-result
+cast-t6 c = omega (arith, c.shared_slice_known-1.given c.before.args.at)
 
-cast-t11 : tie.Need-overflow-cast-t11
-cast-t11 c = omega (arith, c.shared-slice-known2.given (c.before.before.args.at + 1))
+cast-t11 : tie.Need-overflow_cast-result-2
+cast-t11 c = omega (arith, c.shared_slice_known-2-1.given (c.before.before.args.at + 1))
 
 returns : tie.Need-returns
 unfolding word
@@ -21,7 +21,7 @@ returns c =
     record {
       list-is = sym (due_there a.t.now a.at (omega arith));
       frame_is = sym (due_there a.t.now (a.at + 1) (omega arith));
-      list-high = omega (arith, c.before.shared-slice-known.given a.at);
+      list-high = omega (arith, c.before.shared_slice_known-1.given a.at);
     }
 
 pub read_spec : {M : Type 1} → statement M

@@ -11,44 +11,44 @@ use Rattle.cluster.specs.Table.{frame_count}
 use Rattle.cluster.proofs.members.right_words.Statement.{statement}
 use Rattle.cluster.proofs.members.right_words.Tie as tie
 
-abbrev start : tie.Else2 → tie.Start
+abbrev start : tie.Else-count-f → tie.Start
 start c = c.before.before.before.before.before.before
 
-up : (c : tie.Else1) → let a = c.before.before.before.before.args in follows a.lists a.words.list ≡ true
-up c = sym c.before.follows.ensures ∙ not-false c.before.follows.result c.if1.false
+up : (c : tie.Else-not-follows) → let a = c.before.before.before.before.args in follows a.lists a.words.list ≡ true
+up c = sym c.before.follows.ensures ∙ not-false c.before.follows.result c.if-not-follows.false-raw
 
-frame-there : (c : tie.Else2) → (start c).args.words.frame < frame_count (start c).args.t.now
-frame-there c = omega (arith, c.before.count.ensures, c.if2.false)
+frame-there : (c : tie.Else-count-f) → (start c).args.words.frame < frame_count (start c).args.t.now
+frame-there c = omega (arith, c.before.count.ensures, c.if-count-f.false)
 
-returns : tie.Need-returns
+returns : tie.Need-returns-then-not-follows
 unfolding member_columns leading
-returns c = simp (sym c.before.follows.ensures ∙ not-true c.before.follows.result c.if1.true)
+returns c = simp (sym c.before.follows.ensures ∙ not-true c.before.follows.result c.if-not-follows.true-raw)
 
-returns-2 : tie.Need-returns-2
+returns-2 : tie.Need-returns-then-count-f
 unfolding member_columns leading
 returns-2 c =
-    let d = c.before.before in
-    let a = d.before.before.before.before.args in
-    simp (up d, le-ltb a.words.frame (frame_count a.t.now) (omega (arith, c.before.count.ensures, c.if2.true)))
+    let d = c in
+    let a = d.before.before.before.before.before.before.args in
+    simp (up d, le-ltb a.words.frame (frame_count a.t.now) (omega (arith, c.before.count.ensures, c.if-count-f.true)))
 
-returns-3 : tie.Need-returns-3
+returns-3 : tie.Need-returns-then-listed-f
 unfolding member_columns leading
-returns-3 c = simp (up c.before.before.before.before, c.if3.true, and-false)
+returns-3 c = simp (up c.before.before.before.before, c.if-listed-f.true, and-false)
 
-returns-4 : tie.Need-returns-4
+returns-4 : tie.Need-returns-then-room
 unfolding member_columns leading
 returns-4 c =
-    let e = c.before.before.before.before in
-    simp (up e.before.before, lt-ltb _ _ (frame-there e), c.before.before.if3.false, sym c.before.room_of.ensures.1 ∙ c.if4.true)
+    let e = c in
+    simp (up e.before.before, lt-ltb _ _ (frame-there e), c.before.before.if-listed-f.false, sym c.before.room_of-room.ensures.1 ∙ c.if-room.true)
 
-returns-5 : tie.Need-returns-5
+returns-5 : tie.Need-returns-else-room
 unfolding member_columns leading
 returns-5 c =
-    let e = c.before.before.before.before in
-    simp (up e.before.before, sym c.before.room_of.ensures.1 ∙ c.if4.false, and-false)
+    let e = c in
+    simp (up e.before.before, sym c.before.room_of-room.ensures.1 ∙ c.if-room.false, and-false)
 
-pub right-words-spec : {M : Type 1} → statement M
-right-words-spec =
+pub right_words_spec : {M : Type 1} → statement M
+right_words_spec =
     tie.close
     (tie.spec (λ c κs. search rules) returns (λ c κs. search rules) (λ c. search rules) returns-2 (λ c. search rules) returns-3
     (λ c κs. search rules) returns-4 returns-5)

@@ -12,31 +12,31 @@ use Rattle.cluster.proofs.Searching.{right, wrong, ended}
 use Rattle.cluster.proofs.placements.first.Statement.{statement}
 use Rattle.cluster.proofs.placements.first.Tie as tie
 
-abbrev invariant-loop : tie.invariant-loop
+abbrev invariant-loop : tie.invariant-loop-k
 invariant-loop t s n k₀ k = (n ≡ placement_count t) × (first_placement t s ≡ first_from (places t s) k (n - k))
 
-abbrev decreases-loop : tie.decreases-loop
+abbrev decreases-loop : tie.decreases-loop-k
 decreases-loop t s n k₀ k = n - k
 
-loop-holds : tie.Need-loop-init invariant-loop decreases-loop
+loop-holds : tie.Need-loop-k-init invariant-loop decreases-loop
 unfolding first_placement
-loop-holds c = (c.count.ensures, rw (c.count.ensures, sub-zero))
+loop-holds c = (c.count-n.ensures, rw (c.count-n.ensures, sub-zero))
 
-returns : tie.Need-returns invariant-loop decreases-loop
+returns : tie.Need-returns-then-signal-s invariant-loop decreases-loop
 returns c =
     sym
-    (c.before.before.before.loop.invariant.1
-    ∙ right _ _ _ c.before.before.loop-test.true (eq-eqb _ _ (sym c.before.signal.ensures ∙ c.if1.true)))
+    (c.before.before.before.loop-k.invariant.1
+    ∙ right _ _ _ c.before.before.loop-k-test.true (eq-eqb _ _ (sym c.before.signal.ensures ∙ c.if-signal-s.true)))
 
-loop-again : tie.Need-loop-preserved invariant-loop decreases-loop
+loop-again : tie.Need-loop-k-preserved invariant-loop decreases-loop
 loop-again c = (
-  c.before.before.before.loop.invariant.0,
-  c.before.before.before.loop.invariant.1
-      ∙ wrong _ _ _ c.before.before.loop-test.true (ne_eqb _ _ (λ e. c.if1.false (c.before.signal.ensures ∙ e))),
+  c.before.before.before.loop-k.invariant.0,
+  c.before.before.before.loop-k.invariant.1
+      ∙ wrong _ _ _ c.before.before.loop-k-test.true (ne_eqb _ _ (λ e. c.if-signal-s.false (c.before.signal.ensures ∙ e))),
 )
 
-returns-2 : tie.Need-returns-2 invariant-loop decreases-loop
-returns-2 c = sym (c.before.loop.invariant.1 ∙ ended _ _ _ c.loop-test.false)
+returns-2 : tie.Need-returns invariant-loop decreases-loop
+returns-2 c = sym (c.before.loop-k.invariant.1 ∙ ended _ _ _ c.loop-k-test.false)
 
 pub first_spec : {M : Type 1} → statement M
 first_spec =

@@ -8,5 +8,5 @@ returns : tie.Need-returns
 unfolding placement_frame
 returns c = cc
 
-pub frame-spec : {M : Type 1} → statement M
-frame-spec = tie.close (tie.spec (λ c κs. search rules) (λ c. search rules) (λ c κs. search rules) returns)
+pub frame_spec : {M : Type 1} → statement M
+frame_spec = tie.close (tie.spec (λ c κs. search rules) (λ c. search rules) (λ c κs. search rules) returns)

@@ -11,87 +11,87 @@ use Rattle.cluster.proofs.PlacementTurn.{Passed, Turn, none_passed, all_passed, 
 use Rattle.cluster.proofs.placements.judge.Statement.{statement}
 use Rattle.cluster.proofs.placements.judge.Tie as tie
 
-abbrev invariant-loop : tie.invariant-loop
+abbrev invariant-loop : tie.invariant-loop-at
 invariant-loop t occupied₀ last₀ first end placed₀ frame₀ at₀ occupied last placed frame at =
     (k : ℕ) × (at ≡ placement_at t k) × Passed t k placed frame last occupied
 
-abbrev decreases-loop : tie.decreases-loop
+abbrev decreases-loop : tie.decreases-loop-at
 decreases-loop t occupied₀ last₀ first end placed₀ frame₀ at₀ occupied last placed frame at = end - at
 
 -- the table, the placement and the marks where a record was read
 
 abbrev Seen : Type 0
-Seen = tie.After-read invariant-loop decreases-loop
+Seen = tie.After-read-words invariant-loop decreases-loop
 
 abbrev table : Seen → List ℕ
 table c = c.before.before.before.before.before.before.args.t.now
 
 abbrev placement : Seen → ℕ
-placement c = c.before.before.loop.invariant.0
+placement c = c.before.before.loop-at.invariant.0
 
 abbrev placed : Seen → ℕ
-placed c = c.before.before.loop.placed
+placed c = c.before.before.loop-at.placed
 
 abbrev frame : Seen → ℕ
-frame c = c.before.before.loop.frame
+frame c = c.before.before.loop-at.frame
 
 abbrev lasts : Seen → List ℕ
-lasts c = c.before.before.loop.last
+lasts c = c.before.before.loop-at.last
 
 abbrev bits : Seen → List ℕ
-bits c = c.before.before.loop.occupied
+bits c = c.before.before.loop-at.occupied
 
-here : (c : Seen) → c.before.before.loop.at ≡ placement_at (table c) (placement c)
-here c = c.before.before.loop.invariant.1
+here : (c : Seen) → c.before.before.loop-at.at ≡ placement_at (table c) (placement c)
+here c = c.before.before.loop-at.invariant.1
 
 turn : (c : Seen) → Turn (table c) (placement c) (placed c) (frame c) (lasts c) (bits c)
 turn c =
-    let start = c.before.before.before in
+    let start = c in
     record {
-      passed = c.before.before.loop.invariant.2;
-      more = omega (arith, here c, c.before.loop-test.true, start.count.ensures, start.before.placement-at.ensures);
-      records = start.before.before.before.requires.1;
+      passed = c.before.before.loop-at.invariant.2;
+      more = omega (arith, here c, c.before.loop-at-test.true, start.before.before.before.count.ensures, start.before.before.before.before.placement_at-first.ensures);
+      records = start.before.before.before.before.before.before.requires.1;
     }
 
-read_at : (c : Seen) → PlacementRead (table c) (placement_at (table c) (placement c)) c.read.result
-read_at c = rw (here c) at c.read.ensures
+read_at : (c : Seen) → PlacementRead (table c) (placement_at (table c) (placement c)) c.read-words.result
+read_at c = rw (here c) at c.read-words.ensures
 
 -- what was found of its words
 
 abbrev Judged : Type 0
-Judged = tie.After-right-words invariant-loop decreases-loop
+Judged = tie.After-right_words-right invariant-loop decreases-loop
 
 abbrev read : Judged → Seen
 read c = c.before.before.before
 
 found : (c : Judged)
-    → c.right-words.result ≡ leading (placement_read (table (read c)) (placement (read c)) (placed (read c)) (frame (read c)) (lasts (read c)) (bits (read c)))
+    → c.right_words-right.result ≡ leading (placement_read (table (read c)) (placement (read c)) (placed (read c)) (frame (read c)) (lasts (read c)) (bits (read c)))
 found c =
-    c.right-words.ensures
+    c.right_words-right.ensures
     ∙ ap leading (seen_read (table (read c)) (placement (read c)) (placed (read c)) (frame (read c)) (lasts (read c)) (bits (read c)) _ (read_at (read c)))
 
-place : (c : Judged) → placement_words ≤ c.right-words.result
+place : (c : Judged) → placement_words ≤ c.right_words-right.result
     → Placed (table (read c)) (placement (read c)) (placed (read c)) (frame (read c)) (lasts (read c)) (bits (read c))
 place c right =
     placed_right (table (read c)) (placement (read c)) (placed (read c)) (frame (read c)) (lasts (read c)) (bits (read c)) (turn (read c))
     (omega (arith, found c))
 
-loop-holds : tie.Need-loop-init invariant-loop decreases-loop
-loop-holds c = (0, omega (arith, c.before.placement-at.ensures), none_passed c.before.before.before.args.t.now)
+loop-holds : tie.Need-loop-at-init invariant-loop decreases-loop
+loop-holds c = (0, omega (arith, c.before.placement_at-first.ensures), none_passed c.before.before.before.args.t.now)
 
-read-requires : tie.Need-read-requires invariant-loop decreases-loop
+read-requires : tie.Need-read-words-requires invariant-loop decreases-loop
 read-requires c κs =
-    let start = c.before.before in
-    omega (arith, c.loop-test.true, start.count.ensures, start.before.placement-at.ensures, start.before.before.before.requires)
+    let start = c in
+    omega (arith, c.loop-at-test.true, start.before.before.count.ensures, start.before.before.before.placement_at-first.ensures, start.before.before.before.before.before.requires)
 
-right-words-requires : tie.Need-right-words-requires invariant-loop decreases-loop
+right-words-requires : tie.Need-right_words-right-requires invariant-loop decreases-loop
 right-words-requires c κs =
     let d : Seen = c.before.before in (
       ((turn d).records, (turn d).passed.there),
-      (((turn d).passed.bits.0, (turn d).passed.lasts.0), (d.read.ensures.signal-high, d.read.ensures.offset-high)),
+      (((turn d).passed.bits.0, (turn d).passed.lasts.0), (d.read-words.ensures.signal_high, d.read-words.ensures.offset_high)),
     )
 
-returns : tie.Need-returns invariant-loop decreases-loop
+returns : tie.Need-returns-then-right-lt-PLACEMENT invariant-loop decreases-loop
 unfolding placement_columns
 returns c =
     let d : Judged = c.before.before in
@@ -99,76 +99,76 @@ returns c =
     let right = found d in
     c.fault.ensures ∙ stops (table e) (placement e) (placed e) (frame e) (lasts e) (bits e) (turn e) (omega arith) _ (omega (arith, here e))
 
-shape-of-requires : tie.Need-shape-of-requires invariant-loop decreases-loop
+shape-of-requires : tie.Need-shape_of-shape-requires-in-loop-at invariant-loop decreases-loop
 shape-of-requires c κs =
     let d : Judged = c.before in
     let e = read d in
-    (e.read.ensures.signal-high, omega (arith, (read_at e).signal-is, (place d (omega arith)).signal-there, (turn e).records.all))
+    (e.read.ensures.signal_high, omega (arith, (read_at e).signal-is, (place d (omega arith)).signal-there, (turn e).records.all))
 
-array-read-with-bits : tie.Need-array-read-with-bits invariant-loop decreases-loop
+array-read-with-bits : tie.Need-bounds-occupied-f invariant-loop decreases-loop
 array-read-with-bits c =
     let d : Judged = c.before.before in
     omega (arith, (read_at (read d)).frame_is, (place d (omega arith)).below, (turn (read d)).passed.bits.0)
 
-mul-with-bits : tie.Need-overflow-mul-with-bits invariant-loop decreases-loop
+mul-with-bits : tie.Need-offset_bounds-occupied-f invariant-loop decreases-loop
 mul-with-bits c =
     let d : Judged = c.before.before in
     omega (arith, (read_at (read d)).frame_is, (place d (omega arith)).below)
 
-with-bits-requires : tie.Need-with-bits-requires invariant-loop decreases-loop
+with-bits-requires : tie.Need-with_bits-requires invariant-loop decreases-loop
 with-bits-requires c κs =
     let d : Judged = c.before.before in
     let e = read d in
     let right = found d in
     free_read (table e) (placement e) (placed e) (frame e) (lasts e) (bits e) (turn e) (omega arith) _ (read_at e) _ _
-    c.shape_of.ensures.1 refl
+    c.shape_of-shape.ensures.1 refl
 
-mul-occupied : tie.Need-overflow-mul-occupied invariant-loop decreases-loop
+mul-occupied : tie.Need-offset_bounds-occupied-f-in-loop-at invariant-loop decreases-loop
 mul-occupied c =
     let d : Judged = c.before.before.before in
     omega (arith, (read_at (read d)).frame_is, (place d (omega arith)).below)
 
-array-write-occupied : tie.Need-array-write-occupied invariant-loop decreases-loop
+array-write-occupied : tie.Need-bounds-occupied-f-in-loop-at invariant-loop decreases-loop
 array-write-occupied c =
     let d : Judged = c.before.before.before in
     omega (arith, (read_at (read d)).frame_is, (place d (omega arith)).below, (turn (read d)).passed.bits.0)
 
-cast-last : tie.Need-overflow-cast-last invariant-loop decreases-loop
+cast-last : tie.Need-overflow_cast-last invariant-loop decreases-loop
 cast-last c =
     let d : Judged = c.before.before.before.before in
     omega (arith, (read_at (read d)).signal-is, (place d (omega arith)).signal-there, (turn (read d)).records.signals)
 
-mul-last : tie.Need-overflow-mul-last invariant-loop decreases-loop
+mul-last : tie.Need-offset_bounds-last-f invariant-loop decreases-loop
 mul-last c =
     let d : Judged = c.before.before.before.before in
     omega (arith, (read_at (read d)).frame_is, (place d (omega arith)).below)
 
-array-write-last : tie.Need-array-write-last invariant-loop decreases-loop
+array-write-last : tie.Need-bounds-last-f invariant-loop decreases-loop
 array-write-last c =
     let d : Judged = c.before.before.before.before in
     omega (arith, (read_at (read d)).frame_is, (place d (omega arith)).below, (turn (read d)).passed.lasts.0)
 
-loop-again : tie.Need-loop-preserved invariant-loop decreases-loop
+loop-again : tie.Need-loop-at-preserved invariant-loop decreases-loop
 unfolding placement_columns
 loop-again c =
-    let w = c.before.before in
-    let d : Judged = w.before.before.before in
+    let w = c in
+    let d : Judged = w.before.before.before.before.before in
     let e = read d in
     let right = found d in (
       placement e + 1,
       omega (arith, here e),
       passes (table e) (placement e) (placed e) (frame e) (lasts e) (bits e) (turn e) (omega arith) _ (read_at e) _ _
-          w.before.shape_of.ensures.1 refl _ w.with-bits.ensures,
+          w.before.before.before.shape_of-shape.ensures.1 refl _ w.before.before.with_bits.ensures,
     )
 
-returns-2 : tie.Need-returns-2 invariant-loop decreases-loop
+returns-2 : tie.Need-returns invariant-loop decreases-loop
 returns-2 c =
-    let inv = c.before.loop.invariant in
-    let start = c.before.before in
-    all_passed _ inv.0 _ _ _ _ inv.2 (omega (arith, inv.1, start.count.ensures, start.before.placement-at.ensures))
+    let inv = c.before.loop-at.invariant in
+    let start = c in
+    all_passed _ inv.0 _ _ _ _ inv.2 (omega (arith, inv.1, start.before.before.count.ensures, start.before.before.before.placement_at-first.ensures))
 
-pub judge-spec : {M : Type 1} → statement M
-judge-spec =
+pub judge_spec : {M : Type 1} → statement M
+judge_spec =
     tie.close
     (tie.spec invariant-loop decreases-loop (λ c κs. search rules) (λ c κs. search rules) (λ c. search rules) (λ c. search rules) (λ c. search rules)
     loop-holds read-requires (λ c. search rules) (λ c. search rules) right-words-requires (λ c. search rules)

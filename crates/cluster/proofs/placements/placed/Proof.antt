@@ -6,16 +6,16 @@ use borrow.Author.Rules.{rules}
 use Rattle.cluster.proofs.placements.placed.Statement.{statement}
 use Rattle.cluster.proofs.placements.placed.Tie as tie
 
-returns : tie.Need-returns
+returns : tie.Need-returns-then-n-eq0
 unfolding placed_signals
-returns c = sym (counted_none _ _ (sym c.before.count.ensures ∙ c.if1.true))
+returns c = sym (counted_none _ _ (sym c.before.count-n.ensures ∙ c.if-n-eq0.true))
 
-returns-2 : tie.Need-returns-2
+returns-2 : tie.Need-returns-else-n-eq0
 unfolding placed_signals
-returns-2 c = rw (← c.before.before.count.ensures, counted_last _ _ c.before.if1.false, c.signal.ensures)
+returns-2 c = rw (← c.before.before.count-n.ensures, counted_last _ _ c.before.if-n-eq0.false, c.signal.ensures)
 
-pub placed-spec : {M : Type 1} → statement M
-placed-spec =
+pub placed_spec : {M : Type 1} → statement M
+placed_spec =
     tie.close
     (tie.spec (λ c κs. search rules) (λ c. search rules) (λ c κs. search rules) (λ c. search rules)
     (λ c. search rules) returns returns-2)

@@ -8,16 +8,16 @@ use borrow.Author.Rules.{rules}
 use Rattle.cluster.proofs.placements.read.Statement.{statement}
 use Rattle.cluster.proofs.placements.read.Tie as tie
 
-cast-t9 : tie.Need-overflow-cast-t9
-cast-t9 c = omega (arith, c.shared-slice-known2.given c.before.before.before.args.at)
+cast-t9 : tie.Need-overflow_cast-result
+cast-t9 c = omega (arith, c.shared_slice_known-then-at-t-1.given c.before.before.before.args.at)
 
-cast-t14 : tie.Need-overflow-cast-t14
-cast-t14 c = omega (arith, c.shared-slice-known3.given (c.before.before.before.before.args.at + 1))
+cast-t14 : tie.Need-overflow_cast-result-then-at-t
+cast-t14 c = omega (arith, c.shared_slice_known-then-at-t-2-1.given (c.before.before.before.before.args.at + 1))
 
-cast-t19 : tie.Need-overflow-cast-t19
-cast-t19 c = omega (arith, c.shared-slice-known4.given (c.before.before.before.before.before.args.at + 2))
+cast-t19 : tie.Need-overflow_cast-result-then-at-t-2
+cast-t19 c = omega (arith, c.shared_slice_known-then-at-t-3-1.given (c.before.before.before.before.before.args.at + 2))
 
-returns : tie.Need-returns
+returns : tie.Need-returns-then-at-t
 unfolding word
 returns c =
     let a = c.before.before.before.before.before.args in
@@ -25,8 +25,8 @@ returns c =
       signal-is = sym (due_there a.t.now a.at (omega arith));
       frame_is = sym (due_there a.t.now (a.at + 1) (omega arith));
       offset-is = sym (due_there a.t.now (a.at + 2) (omega arith));
-      signal-high = omega (arith, c.before.before.shared-slice-known2.given a.at);
-      offset-high = omega (arith, c.shared-slice-known4.given (a.at + 2));
+      signal-high = omega (arith, c.before.before.shared_slice_known-then-at-t-1.given a.at);
+      offset-high = omega (arith, c.shared_slice_known-then-at-t-3-1.given (a.at + 2));
     }
 
 pub read_spec : {M : Type 1} → statement M

@@ -15,7 +15,7 @@ use Rattle.cluster.proofs.Widths.{width_range}
 use Rattle.cluster.proofs.placements.right_words.Statement.{statement}
 use Rattle.cluster.proofs.placements.right_words.Tie as tie
 
-abbrev start : tie.Else1 → tie.Start
+abbrev start : tie.Else-not-signal_right → tie.Start
 start c = c.before.before.before.before.before
 
 -- what the marks say of the record: its signal is in the frame already, and its frame has another publisher than the one before
@@ -28,67 +28,67 @@ mixed c = mixes c.args.t.now c.args.known c.args.words.signal c.args.words.frame
 
 -- what was found where a word's test is passed
 
-signal-right : (c : tie.Else1)
+signal-right : (c : tie.Else-not-signal_right)
     → let a = (start c).args in
     placement_signal_right (signal_count a.t.now) (follows a.known.placed a.words.signal) a.words.signal ≡ true
-signal-right c = sym c.before.signal-right.ensures ∙ not-false c.before.signal-right.result c.if1.false
+signal-right c = sym c.before.signal_right.ensures ∙ not-false c.before.signal_right.result c.if-not-signal_right.false-raw
 
-signal-there : (c : tie.Else1)
+signal-there : (c : tie.Else-not-signal_right)
     → let a = (start c).args in (follows a.known.placed a.words.signal ≡ true) × (a.words.signal < signal_count a.t.now)
 signal-there c = signal_says _ _ _ (signal-right c)
 
-frame_right_lem : (c : tie.Else2)
+frame_right_lem : (c : tie.Else-not-frame_right)
     → let d = start c.before.before in
     placement_frame_right (frame_count d.args.t.now) (again d) (mixed d) d.args.words.frame ≡ true
-frame_right_lem c = sym c.before.frame_right.ensures ∙ not-false c.before.frame_right.result c.if2.false
+frame_right_lem c = sym c.before.frame_right.ensures ∙ not-false c.before.frame_right.result c.if-not-frame_right.false-raw
 
-frame-there : (c : tie.Else2) → let a = (start c.before.before).args in a.words.frame < frame_count a.t.now
+frame-there : (c : tie.Else-not-frame_right) → let a = (start c.before.before).args in a.words.frame < frame_count a.t.now
 frame-there c =
     let d = start c.before.before in
     (frame_says (frame_count d.args.t.now) (again d) (mixed d) d.args.words.frame (frame_right_lem c)).0
 
-returns : tie.Need-returns
+returns : tie.Need-returns-then-not-signal_right
 unfolding placement_columns leading
-returns c = simp (sym c.before.signal-right.ensures ∙ not-true c.before.signal-right.result c.if1.true)
+returns c = simp (sym c.before.signal_right.ensures ∙ not-true c.before.signal_right.result c.if-not-signal_right.true-raw)
 
-frame-right-requires : tie.Need-frame-right-requires
+frame-right-requires : tie.Need-frame_right-requires
 frame-right-requires c κs =
     let pre = (start c).requires in
     ((pre.0.0, pre.0.1, pre.1.0.1), (pre.1.1.0, (signal-there c).0))
 
-returns-2 : tie.Need-returns-2
+returns-2 : tie.Need-returns-then-not-frame_right
 unfolding placement_columns leading
 returns-2 c =
-    simp (signal-right c.before.before, sym c.before.frame_right.ensures ∙ not-true c.before.frame_right.result c.if2.true)
+    simp (signal-right c.before.before, sym c.before.frame_right.ensures ∙ not-true c.before.frame_right.result c.if-not-frame_right.true-raw)
 
-shape-of-requires : tie.Need-shape-of-requires
+shape-of-requires : tie.Need-shape_of-shape-requires
 shape-of-requires c κs =
-    let d = c.before.before in
+    let d = c in
     ((start d).requires.1.1.0, omega (arith, (signal-there d).1, (start d).requires.0.0.all))
 
-room-of-requires : tie.Need-room-of-requires
+room-of-requires : tie.Need-room_of-room-requires
 room-of-requires c κs =
     let records = (start c.before.before.before).requires.0.0 in
     (omega (arith, frame-there c.before, records.frames), omega (arith, frame-there c.before, records.all))
 
-mul-offset-free : tie.Need-overflow-mul-offset-free
+mul-offset-free : tie.Need-offset_bounds-occupied-f
 mul-offset-free c =
-    let e = c.before.before in
+    let e = c in
     omega (arith, frame-there e, (start e.before.before).requires.0.0.frames)
 
-shared-slice-read-offset-free : tie.Need-shared-slice-read-offset-free
+shared-slice-read-offset-free : tie.Need-bounds-occupied-f
 shared-slice-read-offset-free c =
-    let e = c.before.before.before in
+    let e = c in
     let pre = (start e.before.before).requires in
     omega (arith, frame-there e, pre.0.0.frames, pre.1.0.0)
 
-offset-free-requires : tie.Need-offset-free-requires
+offset-free-requires : tie.Need-offset_free-requires
 offset-free-requires c κs =
-    let e = c.before.before.before in
+    let e = c in
     let d = start e.before.before in
     let known = d.pre.0.0 in
-    let shape = c.before.before.shape_of.ensures in
-    let room = c.before.room_of.ensures in
+    let shape = c.before.before.shape_of-shape.ensures in
+    let room = c.before.room_of-room.ensures in
     let w = width_range _ _ (known.widths d.args.words.signal (signal-there e.before.before).1) in (
       d.pre.1.1.1,
       omega (arith, shape.1, w.0),
@@ -97,31 +97,31 @@ offset-free-requires c κs =
     )
 
 -- the test of the offset in the words of the contract
-offset-is : (c : tie.After-offset-free)
+offset-is : (c : tie.After-offset_free)
     → let a = (start c.before.before.before.before.before.before).args in
     let bits = 8 * frame_length a.t.now a.words.frame in
     let width = signal_width a.t.now a.words.signal in
-    c.offset-free.result
+    c.offset_free.result
     ≡ placement_offset_right (is_array a.t.now a.words.signal) bits (ltb bits (a.words.offset + width))
     (hits (get_or a.occupied.now a.words.frame 0) a.words.offset width) a.words.offset
 offset-is c =
-    let shape = c.before.before.before.shape_of.ensures in
-    rw (shape.0, shape.1, c.before.before.room_of.ensures.0) at c.offset-free.ensures
+    let shape = c.before.before.before.shape_of-shape.ensures in
+    rw (shape.0, shape.1, c.before.before.room_of-room.ensures.0) at c.offset_free.ensures
 
-returns-3 : tie.Need-returns-3
+returns-3 : tie.Need-returns-then-offset_free
 unfolding placement_columns leading
 returns-3 c =
-    let e = c.before.before.before.before.before in
-    simp (signal-right e.before.before, frame_right_lem e, sym (offset-is c.before) ∙ c.if3.true)
+    let e = c in
+    simp (signal-right e.before.before, frame_right_lem e, sym (offset-is c.before) ∙ c.if-offset_free.true)
 
-returns-4 : tie.Need-returns-4
+returns-4 : tie.Need-returns-else-offset_free
 unfolding placement_columns leading
 returns-4 c =
-    let e = c.before.before.before.before.before in
-    simp (signal-right e.before.before, frame_right_lem e, sym (offset-is c.before) ∙ c.if3.false)
+    let e = c in
+    simp (signal-right e.before.before, frame_right_lem e, sym (offset-is c.before) ∙ c.if-offset_free.false)
 
-pub right-words-spec : {M : Type 1} → statement M
-right-words-spec =
+pub right_words_spec : {M : Type 1} → statement M
+right_words_spec =
     tie.close
     (tie.spec (λ c κs. search rules) returns frame-right-requires returns-2 shape-of-requires room-of-requires mul-offset-free
     shared-slice-read-offset-free offset-free-requires returns-3 returns-4)

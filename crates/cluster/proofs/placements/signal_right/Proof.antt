@@ -11,16 +11,16 @@ use Rattle.cluster.proofs.Counting.{follows_next, follows_same}
 use Rattle.cluster.proofs.placements.signal_right.Statement.{statement}
 use Rattle.cluster.proofs.placements.signal_right.Tie as tie
 
-returns : tie.Need-returns
-returns c = rw (c.count.ensures, sym (follows_next _ _ c.before.if1.true))
+returns : tie.Need-returns-then-s-placed
+returns c = rw (c.count.ensures, sym (follows_next _ _ c.before.if-s-placed.true))
 
-returns-2 : tie.Need-returns-2
+returns-2 : tie.Need-returns
 returns-2 c =
     let a = c.before.before.args in
-    rw (sym (follows_same a.placed a.s c.if1.false))
+    rw (sym (follows_same a.placed a.s c.if-s-placed.false))
     (whether (eqb (a.s + 1) a.placed)
     (λ y. rw (y, lt-ltb a.s (signal_count a.t.now) (omega (arith, eqb-true (a.s + 1) a.placed y))))
     (λ z. rw z))
 
-pub signal-right-spec : {M : Type 1} → statement M
-signal-right-spec = tie.close (tie.spec (λ c κs. search rules) (λ c. search rules) returns (λ c. search rules) returns-2)
+pub signal_right_spec : {M : Type 1} → statement M
+signal_right_spec = tie.close (tie.spec (λ c κs. search rules) (λ c. search rules) returns (λ c. search rules) returns-2)

@@ -10,22 +10,22 @@ use Rattle.cluster.specs.Table.{signal_count, placed_signals}
 use Rattle.cluster.proofs.placements.unplaced.Statement.{statement}
 use Rattle.cluster.proofs.placements.unplaced.Tie as tie
 
-returns : tie.Need-returns
+returns : tie.Need-returns-then-placed-count
 unfolding unplaced all_placed
 returns c =
-    let d = c.before.before.before in
-    let t = d.before.before.before.before.args.t.now in
-    let few = lt-leb (signal_count t) (placed_signals t) (omega (arith, d.if1.true)) in
-    c.fault.ensures ∙ rw (few, c.before.placement-at.ensures.0, c.before.before.count2.ensures)
+    let d = c in
+    let t = d.before.before.before.before.before.before.before.args.t.now in
+    let few = lt-leb (signal_count t) (placed_signals t) (omega (arith, d.before.before.before.if-placed-count.true)) in
+    c.fault.ensures ∙ rw (few, c.before.placement_at.ensures.0, c.before.before.count-then-placed-count.ensures)
 
-returns-2 : tie.Need-returns-2
+returns-2 : tie.Need-returns-else-placed-count
 unfolding unplaced all_placed
 returns-2 c =
     let t = c.before.before.before.before.args.t.now in
-    rw (le-leb (signal_count t) (placed_signals t) (omega (arith, c.if1.false)))
+    rw (le-leb (signal_count t) (placed_signals t) (omega (arith, c.if-placed-count.false)))
 
-pub unplaced-spec : {M : Type 1} → statement M
-unplaced-spec =
+pub unplaced_spec : {M : Type 1} → statement M
+unplaced_spec =
     tie.close
     (tie.spec (λ c κs. search rules) (λ c κs. search rules) (λ c. search rules) (λ c κs. search rules) (λ c. search rules)
     (λ c κs. search rules) (λ c κs. search rules) returns returns-2)

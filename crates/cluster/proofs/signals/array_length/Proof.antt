@@ -5,13 +5,13 @@ use borrow.Author.Rules.{rules}
 use Rattle.cluster.proofs.signals.array_length.Statement.{statement}
 use Rattle.cluster.proofs.signals.array_length.Tie as tie
 
-returns : tie.Need-returns
+returns : tie.Need-returns-then-bytes-lt8
 unfolding array_length
 returns c = (omega arith, omega arith)
 
-returns-2 : tie.Need-returns-2
+returns-2 : tie.Need-returns-else-bytes-lt8
 unfolding array_length
 returns-2 c = (omega arith, omega arith)
 
-pub array-length-spec : {M : Type 1} → statement M
-array-length-spec = tie.close (tie.spec (λ c κs. search rules) (λ c. search rules) returns returns-2)
+pub array_length_spec : {M : Type 1} → statement M
+array_length_spec = tie.close (tie.spec (λ c κs. search rules) (λ c. search rules) returns returns-2)

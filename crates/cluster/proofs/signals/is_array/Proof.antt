@@ -8,5 +8,5 @@ returns : tie.Need-returns
 unfolding is_array
 returns c = cc
 
-pub is-array-spec : {M : Type 1} → statement M
-is-array-spec = tie.close (tie.spec (λ c κs. search rules) returns)
+pub is_array_spec : {M : Type 1} → statement M
+is_array_spec = tie.close (tie.spec (λ c κs. search rules) returns)

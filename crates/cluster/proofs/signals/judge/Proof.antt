@@ -11,30 +11,30 @@ use Rattle.cluster.proofs.SignalTurn.{Passed, none_passed, all_passed, signal_re
 use Rattle.cluster.proofs.signals.judge.Statement.{statement}
 use Rattle.cluster.proofs.signals.judge.Tie as tie
 
-abbrev invariant-loop : tie.invariant-loop
+abbrev invariant-loop : tie.invariant-loop-s
 invariant-loop t first n whole s₀ s = Passed t s
 
-abbrev decreases-loop : tie.decreases-loop
+abbrev decreases-loop : tie.decreases-loop-s
 decreases-loop t first n whole s₀ s = whole - s
 
 -- the table and the signal at the loop's test
 
 abbrev Loop : Type 0
-Loop = tie.At-loop invariant-loop decreases-loop
+Loop = tie.At-loop-s invariant-loop decreases-loop
 
 abbrev table : Loop → List ℕ
 table c = c.before.before.before.before.before.args.t.now
 
 abbrev signal : Loop → ℕ
-signal c = c.loop.s
+signal c = c.loop-s.s
 
-here : (c : Loop) → c.before.before.before.signal-at.result + signal_words * signal c ≡ signal_at (table c) (signal c)
-here c = omega (arith, c.before.before.before.signal-at.ensures)
+here : (c : Loop) → c.before.before.before.signal_at-first.result + signal_words * signal c ≡ signal_at (table c) (signal c)
+here c = omega (arith, c.before.before.before.signal_at-first.ensures)
 
 -- what was found of a record that is whole, and of one that is cut off
 
 abbrev Judged : Type 0
-Judged = tie.After-right-words invariant-loop decreases-loop
+Judged = tie.After-right_words-right invariant-loop decreases-loop
 
 abbrev loop : Judged → Loop
 loop c = c.before.before.before
@@ -42,38 +42,38 @@ loop c = c.before.before.before
 there : (c : Judged) → signal (loop c) < signal_count (table (loop c))
 there c =
     let l = loop c in
-    omega (arith, c.before.before.loop-test.true, l.before.before.count.ensures, l.before.whole-records.ensures.within)
+    omega (arith, c.before.before.loop-s-test.true, l.before.before.count.ensures, l.before.whole_records.ensures.within)
 
-seen : (c : Judged) → c.right-words.result ≡ leading (signal_read (table (loop c)) (signal (loop c)))
+seen : (c : Judged) → c.right_words-right.result ≡ leading (signal_read (table (loop c)) (signal (loop c)))
 seen c =
     let l = loop c in
-    c.right-words.ensures ∙ ap leading (seen_read (table l) (signal l) _ (rw (here l) at c.before.read.ensures))
+    c.right_words-right.ensures ∙ ap leading (seen_read (table l) (signal l) _ (rw (here l) at c.before.read.ensures))
 
 abbrev Cut : Type 0
-Cut = tie.After-right-words2 invariant-loop decreases-loop
+Cut = tie.After-right_words invariant-loop decreases-loop
 
 abbrev end : Cut → Loop
 end c = c.before.before.before.before
 
-seen-cut : (c : Cut) → c.right-words2.result ≡ leading (signal_read (table (end c)) (signal (end c)))
+seen-cut : (c : Cut) → c.right_words.result ≡ leading (signal_read (table (end c)) (signal (end c)))
 seen-cut c =
     let l = end c in
-    c.right-words2.ensures ∙ ap leading (seen_read (table l) (signal l) _ (rw (here l) at c.before.read-due.ensures))
+    c.right_words.ensures ∙ ap leading (seen_read (table l) (signal l) _ (rw (here l) at c.before.read_due.ensures))
 
 cut_right : (c : Cut) → leading (signal_read (table (end c)) (signal (end c))) < signal_words
 cut_right c =
     let l = end c in
-    let more = c.before.before.if2.true in
-    let reached = c.before.before.before.loop-test.false in
-    cut_off (table l) (signal l) (omega (arith, here l, l.before.whole-records.ensures.cut (omega arith)))
+    let more = c.before.before.if-s-n.true in
+    let reached = c.before.before.before.loop-s-test.false in
+    cut_off (table l) (signal l) (omega (arith, here l, l.before.whole_records.ensures.cut (omega arith)))
 
-loop-holds : tie.Need-loop-init invariant-loop decreases-loop
+loop-holds : tie.Need-loop-s-init invariant-loop decreases-loop
 loop-holds c = none_passed c.before.before.before.before.args.t.now
 
 read-requires : tie.Need-read-requires invariant-loop decreases-loop
-read-requires c κs = let l = c.before in omega (arith, l.before.whole-records.ensures.there (signal l) c.loop-test.true)
+read-requires c κs = let l = c in omega (arith, l.before.before.whole_records-whole.ensures.there (signal l) c.loop-s-test.true)
 
-returns : tie.Need-returns invariant-loop decreases-loop
+returns : tie.Need-returns-then-right-lt-SIGNAL invariant-loop decreases-loop
 unfolding signal_columns
 returns c =
     let d : Judged = c.before.before in
@@ -81,7 +81,7 @@ returns c =
     let right = seen d in
     c.fault.ensures ∙ stops (table l) (signal l) l.loop.inv (there d) (omega arith) _ (omega (arith, here l))
 
-loop-again : tie.Need-loop-preserved invariant-loop decreases-loop
+loop-again : tie.Need-loop-s-preserved invariant-loop decreases-loop
 unfolding signal_columns
 loop-again c =
     let d : Judged = c.before in
@@ -89,24 +89,24 @@ loop-again c =
     let right = seen d in
     passes (table l) (signal l) l.loop.inv (there d) (omega arith)
 
-add-fault-2 : tie.Need-overflow-add-fault-2 invariant-loop decreases-loop
+add-fault-2 : tie.Need-overflow_add-at-then-s-n-2 invariant-loop decreases-loop
 add-fault-2 c = omega (arith, seen-cut c, cut_right c)
 
-returns-2 : tie.Need-returns-2 invariant-loop decreases-loop
+returns-2 : tie.Need-returns-then-s-n invariant-loop decreases-loop
 returns-2 c =
     let d : Cut = c.before in
     let l = end d in
-    let there = d.before.before.if2.true in
-    c.fault2.ensures
+    let there = d.before.before.if-s-n.true in
+    c.fault-then-s-n.ensures
     ∙ stops (table l) (signal l) l.loop.inv (omega (arith, l.before.before.count.ensures)) (cut_right d) _ (omega (arith, here l, seen-cut d))
 
-returns-3 : tie.Need-returns-3 invariant-loop decreases-loop
+returns-3 : tie.Need-returns invariant-loop decreases-loop
 returns-3 c =
-    let l = c.before.before in
-    all_passed _ _ l.loop.invariant (omega (arith, l.before.before.count.ensures))
+    let l = c in
+    all_passed _ _ l.before.before.loop-s.invariant (omega (arith, l.before.before.before.before.count-n.ensures))
 
-pub judge-spec : {M : Type 1} → statement M
-judge-spec =
+pub judge_spec : {M : Type 1} → statement M
+judge_spec =
     tie.close
     (tie.spec invariant-loop decreases-loop (λ c κs. search rules) (λ c κs. search rules) (λ c. search rules) (λ c κs. search rules) loop-holds
     (λ c. search rules) (λ c. search rules) read-requires (λ c κs. search rules) (λ c. search rules) (λ c κs. search rules) returns

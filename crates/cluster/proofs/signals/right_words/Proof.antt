@@ -7,34 +7,34 @@ use Rattle.cluster.specs.Read.{leading}
 use Rattle.cluster.proofs.signals.right_words.Statement.{statement}
 use Rattle.cluster.proofs.signals.right_words.Tie as tie
 
-returns : tie.Need-returns
+returns : tie.Need-returns-then-words-gt1
 unfolding signal_columns leading
-returns c = simp (lt-leb _ _ c.if1.true)
+returns c = simp (lt-leb _ _ c.if-words-gt1.true)
 
-returns-2 : tie.Need-returns-2
+returns-2 : tie.Need-returns-then-not-width_right
 unfolding signal_columns leading
 returns-2 c =
-    let kind = le-leb _ _ c.before.before.before.if1.false in
-    simp (kind, sym c.before.width-right.ensures ∙ not-true c.before.width-right.result c.if2.true)
+    let kind = le-leb _ _ c.before.before.before.if-words-gt1.false in
+    simp (kind, sym c.before.width_right.ensures ∙ not-true c.before.width_right.result c.if-not-width_right.true-raw)
 
-start-limit-requires : tie.Need-start-limit-requires
-start-limit-requires c κs = sym c.before.width-right.ensures ∙ not-false c.before.width-right.result c.if2.false
+start-limit-requires : tie.Need-start_limit-requires
+start-limit-requires c κs = sym c.before.width_right.ensures ∙ not-false c.before.width_right.result c.if-not-width_right.false-raw
 
-returns-3 : tie.Need-returns-3
+returns-3 : tie.Need-returns-then-words-start_limit
 unfolding signal_columns leading
 returns-3 c =
-    let d = c.before.before.before in
-    let kind = le-leb _ _ d.before.before.before.if1.false in
-    let width = sym d.before.width-right.ensures ∙ not-false d.before.width-right.result d.if2.false in
-    simp (kind, width, sym c.before.before.start-limit.ensures.0, lt-ltb _ _ c.if3.true)
+    let d = c in
+    let kind = le-leb _ _ d.before.before.before.before.before.before.if-words-gt1.false in
+    let width = sym d.before.before.before.before.width_right.ensures ∙ not-false d.before.before.before.before.width_right.result d.before.before.before.if-not-width_right.false-raw in
+    simp (kind, width, sym c.before.before.start_limit.ensures.0, lt-ltb _ _ c.if-words-start_limit.true)
 
-returns-4 : tie.Need-returns-4
+returns-4 : tie.Need-returns-else-words-start_limit
 unfolding signal_columns leading
 returns-4 c =
-    let d = c.before.before.before in
-    let kind = le-leb _ _ d.before.before.before.if1.false in
-    let width = sym d.before.width-right.ensures ∙ not-false d.before.width-right.result d.if2.false in
-    simp (kind, width, sym c.before.before.start-limit.ensures.0, le-ltb _ _ c.if3.false)
+    let d = c in
+    let kind = le-leb _ _ d.before.before.before.before.before.before.if-words-gt1.false in
+    let width = sym d.before.before.before.before.width_right.ensures ∙ not-false d.before.before.before.before.width_right.result d.before.before.before.if-not-width_right.false-raw in
+    simp (kind, width, sym c.before.before.start_limit.ensures.0, le-ltb _ _ c.if-words-start_limit.false)
 
-pub right-words-spec : {M : Type 1} → statement M
-right-words-spec = tie.close (tie.spec returns (λ c κs. search rules) returns-2 start-limit-requires returns-3 returns-4)
+pub right_words_spec : {M : Type 1} → statement M
+right_words_spec = tie.close (tie.spec returns (λ c κs. search rules) returns-2 start-limit-requires returns-3 returns-4)

@@ -9,25 +9,25 @@ use Rattle.cluster.proofs.signals.start_limit.Statement.{statement}
 use Rattle.cluster.proofs.signals.start_limit.Tie as tie
 
 -- a scalar has at most 16 bits
-few : (c : tie.Else1) → c.before.args.width ≤ 16
-few c = (scalar_width_lem c.before.args.width (rw c.if1.false at c.before.requires)).1
+few : (c : tie.Else-array) → c.before.args.width ≤ 16
+few c = (scalar_width_lem c.before.args.width (rw c.if-array.false at c.before.requires)).1
 
-cast-result : tie.Need-overflow-cast-result
+cast-result : tie.Need-overflow_cast-result
 cast-result c = omega (arith, few c)
 
-cast-result-2 : tie.Need-overflow-cast-result-2
+cast-result-2 : tie.Need-overflow_cast-result-else-array
 cast-result-2 c = omega (arith, few c)
 
-shl-result : tie.Need-overflow-shl-result
+shl-result : tie.Need-overflow_shl-result
 shl-result c = omega (arith, few c)
 
-returns : tie.Need-returns
+returns : tie.Need-returns-then-array
 unfolding start_limit
-returns c = rw c.if1.true (search rules)
+returns c = rw c.if-array.true (search rules)
 
-returns-2 : tie.Need-returns-2
+returns-2 : tie.Need-returns-else-array
 unfolding start_limit
-returns-2 c = let limit = scalar_limit c.before.args.width (few c) in rw (c.if1.false, limit.0) (refl, limit.1)
+returns-2 c = let limit = scalar_limit c.before.args.width (few c) in rw (c.if-array.false, limit.0) (refl, limit.1)
 
-pub start-limit-spec : {M : Type 1} → statement M
-start-limit-spec = tie.close (tie.spec cast-result cast-result-2 shl-result returns returns-2)
+pub start_limit_spec : {M : Type 1} → statement M
+start_limit_spec = tie.close (tie.spec cast-result cast-result-2 shl-result returns returns-2)

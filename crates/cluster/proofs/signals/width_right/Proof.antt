@@ -5,16 +5,16 @@ use borrow.Author.Rules.{rules}
 use Rattle.cluster.proofs.signals.width_right.Statement.{statement}
 use Rattle.cluster.proofs.signals.width_right.Tie as tie
 
-returns : tie.Need-returns
-returns c = rw c.before.if1.true c.whole-bytes.ensures
+returns : tie.Need-returns-then-array
+returns c = rw c.before.if-array.true c.whole_bytes.ensures
 
-returns-2 : tie.Need-returns-2
+returns-2 : tie.Need-returns-then-width-lt1
 unfolding width_right
-returns-2 c = simp (c.before.if1.false, lt-leb _ _ c.if2.true)
+returns-2 c = simp (c.before.if-array.false, lt-leb _ _ c.if-width-lt1.true)
 
-returns-3 : tie.Need-returns-3
+returns-3 : tie.Need-returns
 unfolding width_right
-returns-3 c = simp (c.before.if1.false, le-leb 1 _ c.if2.false)
+returns-3 c = simp (c.before.if-array.false, le-leb 1 _ c.if-width-lt1.false)
 
-pub width-right-spec : {M : Type 1} → statement M
-width-right-spec = tie.close (tie.spec (λ c κs. search rules) returns returns-2 returns-3)
+pub width_right_spec : {M : Type 1} → statement M
+width_right_spec = tie.close (tie.spec (λ c κs. search rules) returns returns-2 returns-3)

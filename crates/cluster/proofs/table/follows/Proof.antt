@@ -4,11 +4,11 @@ use borrow.Author.Rules.{rules}
 use Rattle.cluster.proofs.table.follows.Statement.{statement}
 use Rattle.cluster.proofs.table.follows.Tie as tie
 
-returns : tie.Need-returns
-returns c = follows_next _ _ c.if1.true
+returns : tie.Need-returns-then-number-count
+returns c = follows_next _ _ c.if-number-count.true
 
-returns-2 : tie.Need-returns-2
-returns-2 c = follows_same _ _ c.if1.false
+returns-2 : tie.Need-returns
+returns-2 c = follows_same _ _ c.if-number-count.false
 
-pub follows-spec : {M : Type 1} → statement M
-follows-spec = tie.close (tie.spec returns (λ c. search rules) returns-2)
+pub follows_spec : {M : Type 1} → statement M
+follows_spec = tie.close (tie.spec returns (λ c. search rules) returns-2)

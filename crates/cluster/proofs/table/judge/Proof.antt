@@ -10,31 +10,31 @@ use borrow.Author.Rules.{rules}
 use Rattle.cluster.proofs.table.judge.Statement.{statement}
 use Rattle.cluster.proofs.table.judge.Tie as tie
 
-seen : (c : tie.After-right-words) → c.right-words.result ≡ leading (header_read c.before.before.before.before.before.before.before.args.t.now)
+seen : (c : tie.After-right_words-right) → c.right_words-right.result ≡ leading (header_read c.before.before.before.before.before.before.before.args.t.now)
 seen c =
     let frames = c.before.before.before.before.before.due.ensures.0 in
-    let signals = c.before.before.before.before.due2.ensures.0 in
-    let members = c.before.before.before.due3.ensures.0 in
-    c.right-words.ensures ∙ ap leading (seen_read _ _ _ _ _ _ frames signals members c.before.before.due4.ensures.0 c.before.due5.ensures.0)
+    let signals = c.before.before.before.before.due-2.ensures.0 in
+    let members = c.before.before.before.due-3.ensures.0 in
+    c.right_words-right.ensures ∙ ap leading (seen_read _ _ _ _ _ _ frames signals members c.before.before.due-4.ensures.0 c.before.due-5.ensures.0)
 
-returns : tie.Need-returns
+returns : tie.Need-returns-then-right-lt-HEADER
 unfolding header_columns
 returns c =
-    let d = c.before.before in
-    let t = d.before.before.before.before.before.before.before.args.t.now in
+    let d = c in
+    let t = d.before.before.before.before.before.before.before.before.before.args.t.now in
     let right = seen d in
-    c.fault.ensures ∙ sym (halt_words t 0 (header_read t) (header_right t) d.right-words.result (header_agrees t) (omega arith) (omega arith))
+    c.fault.ensures ∙ sym (halt_words t 0 (header_read t) (header_right t) d.before.before.right_words-right.result (header_agrees t) (omega arith) (omega arith))
 
-returns-2 : tie.Need-returns-2
+returns-2 : tie.Need-returns-else-right-lt-HEADER
 unfolding header_columns
 returns-2 c =
-    let d = c.before in
-    let t = d.before.before.before.before.before.before.before.args.t.now in
+    let d = c in
+    let t = d.before.before.before.before.before.before.before.before.args.t.now in
     let right = seen d in
     sym (pass_words t 0 (header_read t) (header_right t) (header_agrees t) (omega arith))
 
-pub judge-spec : {M : Type 1} → statement M
-judge-spec =
+pub judge_spec : {M : Type 1} → statement M
+judge_spec =
     tie.close
     (tie.spec (λ c κs. search rules) (λ c κs. search rules) (λ c κs. search rules) (λ c κs. search rules)
     (λ c κs. search rules) (λ c κs. search rules) (λ c κs. search rules) returns returns-2)

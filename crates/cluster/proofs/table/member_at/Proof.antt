@@ -9,7 +9,7 @@ returns : tie.Need-returns
 unfolding placement_count
 returns c = (omega arith, omega arith)
 
-pub member-at-spec : {M : Type 1} → statement M
-member-at-spec =
+pub member_at_spec : {M : Type 1} → statement M
+member_at_spec =
     tie.close (tie.spec (λ c κs. search rules) (λ c. search rules) (λ c κs. search rules) (λ c. search rules) (λ c. search rules)
     returns)

@@ -9,7 +9,7 @@ returns : tie.Need-returns
 unfolding signal_count
 returns c = (omega arith, omega arith)
 
-pub placement-at-spec : {M : Type 1} → statement M
-placement-at-spec =
+pub placement_at_spec : {M : Type 1} → statement M
+placement_at_spec =
     tie.close (tie.spec (λ c κs. search rules) (λ c. search rules) (λ c κs. search rules) (λ c. search rules) (λ c. search rules)
     returns)

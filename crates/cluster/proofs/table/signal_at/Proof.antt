@@ -9,7 +9,7 @@ returns : tie.Need-returns
 unfolding frame_count
 returns c = (omega arith, omega arith)
 
-pub signal-at-spec : {M : Type 1} → statement M
-signal-at-spec =
+pub signal_at_spec : {M : Type 1} → statement M
+signal_at_spec =
     tie.close (tie.spec (λ c κs. search rules) (λ c. search rules) (λ c κs. search rules) (λ c. search rules) (λ c. search rules)
     returns)

@@ -9,20 +9,20 @@ use borrow.Author.Rules.{rules}
 use Rattle.cluster.proofs.table.surplus.Statement.{statement}
 use Rattle.cluster.proofs.table.surplus.Tie as tie
 
-returns : tie.Need-returns
+returns : tie.Need-returns-then-end-t
 unfolding surplus size entry_count
 returns c =
     let t = c.before.before.before.before.before.args.t.now in
-    let end : c.before.before.entry_at.result ≡ size t = omega arith in
+    let end : c.before.before.entry_at-end.result ≡ size t = omega arith in
     c.fault.ensures ∙ rw end (rw (lt-ltb (size t) (length t) (omega arith)))
 
-returns-2 : tie.Need-returns-2
+returns-2 : tie.Need-returns-else-end-t
 unfolding surplus size entry_count
 returns-2 c =
     let t = c.before.before.before.before.args.t.now in
-    let end : c.before.entry_at.result ≡ size t = omega arith in
+    let end : c.before.entry_at-end.result ≡ size t = omega arith in
     rw (le-ltb (size t) (length t) (omega arith))
 
-pub surplus-spec : {M : Type 1} → statement M
-surplus-spec =
+pub surplus_spec : {M : Type 1} → statement M
+surplus_spec =
     tie.close (tie.spec (λ c κs. search rules) (λ c. search rules) (λ c κs. search rules) (λ c κs. search rules) returns returns-2)

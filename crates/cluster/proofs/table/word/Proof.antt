@@ -6,13 +6,13 @@ use borrow.Author.Rules.{rules}
 use Rattle.cluster.proofs.table.word.Statement.{statement}
 use Rattle.cluster.proofs.table.word.Tie as tie
 
-returns : tie.Need-returns
+returns : tie.Need-returns-then-i-t
 unfolding word
 returns c = refl
 
-returns-2 : tie.Need-returns-2
+returns-2 : tie.Need-returns-else-i-t
 unfolding word
-returns-2 c = sym (get_or-eq_default c.before.args.t.now 0 c.if1.false)
+returns-2 c = sym (get_or-eq_default c.before.args.t.now 0 c.if-i-t.false)
 
-pub word-spec : {M : Type 1} → statement M
-word-spec = tie.close (tie.spec (λ c. search rules) (λ c. search rules) returns returns-2)
+pub word_spec : {M : Type 1} → statement M
+word_spec = tie.close (tie.spec (λ c. search rules) (λ c. search rules) returns returns-2)

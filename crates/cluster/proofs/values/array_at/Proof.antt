@@ -6,11 +6,11 @@ use Rattle.cluster.proofs.values.array_at.Tie as tie
 
 returns : tie.Need-returns
 returns c =
-    let d = c.before.before.before in
-    array_read_lem _ _ _ _ _ _ _ d.before.array-length.ensures.0 d.before.array-length.ensures.1 d.place.ensures c.before.get-array.ensures
+    let d = c in
+    array_read_lem _ _ _ _ _ _ _ d.before.before.before.before.array_length-n.ensures.0 d.before.before.before.before.array_length-n.ensures.1 d.before.before.before.place-place.ensures c.before.get_array.ensures
 
-pub array-at-spec : {M : Type 1} → statement M
-array-at-spec =
+pub array_at_spec : {M : Type 1} → statement M
+array_at_spec =
     tie.close
     (tie.spec (λ c κs. search rules) (λ c κs. search rules) (λ c. search rules) (λ c. search rules)
     (λ c. search rules) (λ c κs. search rules) returns)

@@ -8,5 +8,5 @@ returns : tie.Need-returns
 unfolding array_fits
 returns c = cc
 
-pub array-fits-spec : {M : Type 1} → statement M
-array-fits-spec = tie.close (tie.spec (λ c κs. search rules) returns)
+pub array_fits_spec : {M : Type 1} → statement M
+array_fits_spec = tie.close (tie.spec (λ c κs. search rules) returns)

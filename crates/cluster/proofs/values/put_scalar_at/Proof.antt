@@ -4,9 +4,9 @@ use Rattle.cluster.proofs.values.put_scalar_at.Statement.{statement}
 use Rattle.cluster.proofs.values.put_scalar_at.Tie as tie
 
 returns : tie.Need-returns
-returns c = rw (c.before.before.put.ensures, c.before.before.before.place.ensures, c.before.before.before.before.before.width.ensures)
+returns c = rw (c.before.before.put.ensures, c.before.before.before.place.ensures, c.before.before.before.before.before.width-width.ensures)
 
-pub put-scalar-at-spec : {M : Type 1} → statement M
-put-scalar-at-spec =
+pub put_scalar_at_spec : {M : Type 1} → statement M
+put_scalar_at_spec =
     tie.close
     (tie.spec (λ c κs. search rules) (λ c. search rules) (λ c κs. search rules) (λ c κs. search rules) (λ c. search rules) returns)

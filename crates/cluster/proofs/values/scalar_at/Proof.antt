@@ -8,5 +8,5 @@ returns : tie.Need-returns
 unfolding scalar_at
 returns c = cc
 
-pub scalar-at-spec : {M : Type 1} → statement M
-scalar-at-spec = tie.close (tie.spec (λ c κs. search rules) (λ c κs. search rules) (λ c. search rules) (λ c κs. search rules) returns)
+pub scalar_at_spec : {M : Type 1} → statement M
+scalar_at_spec = tie.close (tie.spec (λ c κs. search rules) (λ c κs. search rules) (λ c. search rules) (λ c κs. search rules) returns)

@@ -6,12 +6,12 @@ use Rattle.cluster.proofs.ValueSteps.{fits_wide, limit_below}
 use Rattle.cluster.proofs.values.scalar_fits.Statement.{statement}
 use Rattle.cluster.proofs.values.scalar_fits.Tie as tie
 
-returns : tie.Need-returns
-returns c = fits_wide _ _ _ _ c.before.width.ensures (omega arith) (omega arith)
+returns : tie.Need-returns-then-width-gt31
+returns c = fits_wide _ _ _ _ c.before.width-width.ensures (omega arith) (omega arith)
 
-returns-2 : tie.Need-returns-2
+returns-2 : tie.Need-returns
 unfolding value_fits
-returns-2 c = rw (limit_below c.before.width.result (omega arith), c.before.width.ensures)
+returns-2 c = rw (limit_below c.before.width-width.result (omega arith), c.before.width-width.ensures)
 
-pub scalar-fits-spec : {M : Type 1} → statement M
-scalar-fits-spec = tie.close (tie.spec (λ c κs. search rules) returns (λ c. search rules) (λ c. search rules) returns-2)
+pub scalar_fits_spec : {M : Type 1} → statement M
+scalar_fits_spec = tie.close (tie.spec (λ c κs. search rules) returns (λ c. search rules) (λ c. search rules) returns-2)

@@ -6,11 +6,11 @@ use Rattle.cluster.proofs.values.start_array.Tie as tie
 
 returns : tie.Need-returns
 returns c =
-    let d = c.before.before.before in
-    start_read_lem _ _ _ _ _ d.before.array-length.ensures.0 d.before.array-length.ensures.1 d.start.ensures c.before.set-bytes.ensures
+    let d = c in
+    start_read_lem _ _ _ _ _ d.before.before.before.before.array_length-n.ensures.0 d.before.before.before.before.array_length-n.ensures.1 d.before.before.before.start.ensures c.before.set_bytes.ensures
 
-pub start-array-spec : {M : Type 1} → statement M
-start-array-spec =
+pub start_array_spec : {M : Type 1} → statement M
+start_array_spec =
     tie.close
     (tie.spec (λ c κs. search rules) (λ c κs. search rules) (λ c. search rules) (λ c. search rules) (λ c. search rules)
     (λ c. search rules) (λ c κs. search rules) returns)

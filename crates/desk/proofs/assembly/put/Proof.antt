@@ -3,11 +3,11 @@ use borrow.Author.Rules.{rules}
 use Rattle.desk.proofs.assembly.put.Statement.{statement}
 use Rattle.desk.proofs.assembly.put.Tie as tie
 
-returns : tie.Need-returns
-returns c = rw c.enum_told.given.1
+returns : tie.Need-returns-in-Nothing
+returns c = rw c.before.in-Nothing.is
 
-returns-2 : tie.Need-returns-2
-returns-2 c = rw c.before.before.before.reassembly.given.1 c.put-open.ensures
+returns-2 : tie.Need-returns-in-Open
+returns-2 c = rw c.before.before.in-Open.is c.put_open.ensures
 
 pub put_spec : {M : Type 1} → statement M
 put_spec =

@@ -5,17 +5,17 @@ use borrow.Author.Rules.{rules}
 use Rattle.desk.proofs.assembly.take.Statement.{statement}
 use Rattle.desk.proofs.assembly.take.Tie as tie
 
-returns : tie.Need-returns
+returns : tie.Need-returns-then-desk-eq0
 unfolding reassembly_on
-returns c = simp (eq-eqb _ _ c.if1.true)
+returns c = simp (eq-eqb _ _ c.if-desk-eq0.true)
 
-returns-2 : tie.Need-returns-2
+returns-2 : tie.Need-returns
 unfolding reassembly_on
 returns-2 c =
-    let c4 = c.before.before.before.before in
-    let c6 = c4.before.before in
-    let c8 = c6.before.before in
-    rw (c.byte2.ensures, c.before.before.word2.ensures, c4.word.ensures, c6.byte.ensures) (simp (ne_eqb _ _ c8.if1.false))
+    let c4 = c in
+    let c6 = c4 in
+    let c8 = c6 in
+    rw (c.byte-2.ensures, c.before.before.word-2.ensures, c4.before.before.before.before.word.ensures, c6.before.before.before.before.before.before.byte.ensures) (simp (ne_eqb _ _ c8.before.before.before.before.before.before.before.before.if-desk-eq0.false))
 
 pub take_spec : {M : Type 1} → statement M
 take_spec =

@@ -5,27 +5,27 @@ use borrow.Author.Rules.{rules}
 use Rattle.desk.proofs.state.message.Statement.{statement}
 use Rattle.desk.proofs.state.message.Tie as tie
 
-returns : tie.Need-returns
+returns : tie.Need-returns-then-kind-eq-SENDING
 unfolding message_on
 returns c =
-    let c4 = c.before.before.before.before in
-    let c6 = c4.before.before in
-    rw (c.word2.ensures, c.before.before.word.ensures, c4.byte.ensures) (simp (eq-eqb _ _ c6.if1.true))
+    let c4 = c in
+    let c6 = c4 in
+    rw (c.word-then-kind-eq-SENDING.ensures, c.before.before.word.ensures, c4.before.before.before.before.byte.ensures) (simp (eq-eqb _ _ c6.before.before.before.before.before.before.if-kind-eq-SENDING.true))
 
-returns-2 : tie.Need-returns-2
+returns-2 : tie.Need-returns-then-kind-eq-COMPLETED
 unfolding message_on
-returns-2 c = simp (ne_eqb _ _ c.before.if1.false, eq-eqb _ _ c.if2.true)
+returns-2 c = simp (ne_eqb _ _ c.before.if-kind-eq-SENDING.false, eq-eqb _ _ c.if-kind-eq-COMPLETED.true)
 
-returns-3 : tie.Need-returns-3
+returns-3 : tie.Need-returns-then-kind-eq-FAILED
 unfolding message_on
-returns-3 c = simp (ne_eqb _ _ c.before.before.if1.false, ne_eqb _ _ c.before.if2.false, eq-eqb _ _ c.if3.true)
+returns-3 c = simp (ne_eqb _ _ c.before.before.if-kind-eq-SENDING.false, ne_eqb _ _ c.before.if-kind-eq-COMPLETED.false, eq-eqb _ _ c.if-kind-eq-FAILED.true)
 
-returns-4 : tie.Need-returns-4
+returns-4 : tie.Need-returns
 unfolding message_on
-returns-4 c = simp (ne_eqb _ _ c.before.before.if1.false, ne_eqb _ _ c.before.if2.false, ne_eqb _ _ c.if3.false)
+returns-4 c = simp (ne_eqb _ _ c.before.before.if-kind-eq-SENDING.false, ne_eqb _ _ c.before.if-kind-eq-COMPLETED.false, ne_eqb _ _ c.if-kind-eq-FAILED.false)
 
-pub message-spec : {M : Type 1} → statement M
-message-spec =
+pub message_spec : {M : Type 1} → statement M
+message_spec =
     tie.close
     (tie.spec (λ c. search rules) (λ c. search rules) (λ c κs. search rules) (λ c. search rules)
     (λ c κs. search rules) (λ c. search rules) (λ c κs. search rules) returns returns-2 returns-3 returns-4)

@@ -5,23 +5,23 @@ use borrow.Author.Rules.{rules}
 use Rattle.desk.proofs.state.opened.Statement.{statement}
 use Rattle.desk.proofs.state.opened.Tie as tie
 
-returns : tie.Need-returns
+returns : tie.Need-returns-then-n-eq-NONE
 unfolding opened_of
-returns c = simp (eq-eqb _ _ c.if1.true)
+returns c = simp (eq-eqb _ _ c.if-n-eq-NONE.true)
 
-returns-2 : tie.Need-returns-2
+returns-2 : tie.Need-returns-then-n-eq-OPEN_REQUEST
 unfolding opened_of
-returns-2 c = simp (ne_eqb _ _ c.before.if1.false, eq-eqb _ _ c.if2.true)
+returns-2 c = simp (ne_eqb _ _ c.before.if-n-eq-NONE.false, eq-eqb _ _ c.if-n-eq-OPEN_REQUEST.true)
 
-returns-3 : tie.Need-returns-3
+returns-3 : tie.Need-returns-then-n-eq-OPEN_RESPONSE
 unfolding opened_of
-returns-3 c = simp (ne_eqb _ _ c.before.before.if1.false, ne_eqb _ _ c.before.if2.false, eq-eqb _ _ c.if3.true)
+returns-3 c = simp (ne_eqb _ _ c.before.before.if-n-eq-NONE.false, ne_eqb _ _ c.before.if-n-eq-OPEN_REQUEST.false, eq-eqb _ _ c.if-n-eq-OPEN_RESPONSE.true)
 
-returns-4 : tie.Need-returns-4
+returns-4 : tie.Need-returns
 unfolding opened_of
-returns-4 c = rw c.word.ensures (simp (ne_eqb _ _ c.before.before.before.if1.false, ne_eqb _ _ c.before.before.if2.false, ne_eqb _ _ c.before.if3.false))
+returns-4 c = rw c.word.ensures (simp (ne_eqb _ _ c.before.before.before.if-n-eq-NONE.false, ne_eqb _ _ c.before.before.if-n-eq-OPEN_REQUEST.false, ne_eqb _ _ c.before.if-n-eq-OPEN_RESPONSE.false))
 
-pub opened-spec : {M : Type 1} → statement M
-opened-spec =
+pub opened_spec : {M : Type 1} → statement M
+opened_spec =
     tie.close
     (tie.spec returns returns-2 returns-3 (λ c κs. search rules) returns-4)

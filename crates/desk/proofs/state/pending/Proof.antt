@@ -9,28 +9,28 @@ use borrow.Author.Rules.{rules}
 use Rattle.desk.proofs.state.pending.Statement.{statement}
 use Rattle.desk.proofs.state.pending.Tie as tie
 
-abbrev invariant-loop : tie.invariant-loop
+abbrev invariant-loop : tie.invariant-loop-f
 invariant-loop desk pending₀ f₀ pending f = (f ≤ 60) × (length pending ≡ 60) × (take f pending ≡ each (is_set desk) f)
 
-abbrev decreases-loop : tie.decreases-loop
+abbrev decreases-loop : tie.decreases-loop-f
 decreases-loop desk pending₀ f₀ pending f = 60 - f
 
-loop-holds : tie.Need-loop-init invariant-loop decreases-loop
+loop-holds : tie.Need-loop-f-init invariant-loop decreases-loop
 unfolding pending_on
 loop-holds c = (omega arith, refl, taken_none _)
 
-loop-again : tie.Need-loop-preserved invariant-loop decreases-loop
+loop-again : tie.Need-loop-f-preserved invariant-loop decreases-loop
 unfolding pending_on
 loop-again c =
-    let c3 = c.before.before.before in
-    (omega arith, simp length-set c.before.before.loop.invariant.1, taken_next (is_set c3.args.desk.now) _ _ _ (omega arith) c.before.before.loop.invariant.2 refl)
+    let c3 = c in
+    (omega arith, simp length-set c.before.before.before.loop-f.invariant.1, taken_next (is_set c3.before.before.before.before.args.desk.now) _ _ _ (omega arith) c.before.before.before.loop-f.invariant.2 refl)
 
 returns : tie.Need-returns invariant-loop decreases-loop
 unfolding pending_on
-returns c = taken_all (is_set c.before.before.args.desk.now) _ _ _ (omega arith) (omega arith) c.before.loop.invariant.2
+returns c = taken_all (is_set c.before.before.args.desk.now) _ _ _ (omega arith) (omega arith) c.before.loop-f.invariant.2
 
-pub pending-spec : {M : Type 1} → statement M
-pending-spec =
+pub pending_spec : {M : Type 1} → statement M
+pending_spec =
     tie.close
     (tie.spec invariant-loop decreases-loop loop-holds (λ c. search rules) (λ c. search rules) (λ c. search rules)
     (λ c. search rules) (λ c. search rules) loop-again returns)

@@ -6,8 +6,8 @@ use Rattle.desk.proofs.state.plan.Tie as tie
 returns : tie.Need-returns
 returns c = rw (c.before.before.before.before.word.ensures, c.before.before.current.ensures, c.requested.ensures)
 
-pub plan-spec : {M : Type 1} → statement M
-plan-spec =
+pub plan_spec : {M : Type 1} → statement M
+plan_spec =
     tie.close
     (tie.spec (λ c. search rules) (λ c κs. search rules) (λ c. search rules) (λ c κs. search rules)
     (λ c. search rules) (λ c κs. search rules) returns)

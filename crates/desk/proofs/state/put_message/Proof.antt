@@ -3,20 +3,20 @@ use borrow.Author.Rules.{rules}
 use Rattle.desk.proofs.state.put_message.Statement.{statement}
 use Rattle.desk.proofs.state.put_message.Tie as tie
 
-returns : tie.Need-returns
-returns c = rw c.enum_told.given.1
+returns : tie.Need-returns-in-None
+returns c = rw c.before.in-None.is
 
-returns-2 : tie.Need-returns-2
-returns-2 c = rw c.before.before.before.message.given.1 c.put-sending.ensures
+returns-2 : tie.Need-returns-in-Sending
+returns-2 c = rw c.before.before.in-Sending.is c.put_sending.ensures
 
-returns-3 : tie.Need-returns-3
-returns-3 c = rw c.enum-told2.given.1
+returns-3 : tie.Need-returns-in-Completed
+returns-3 c = rw c.before.in-Completed.is
 
-returns-4 : tie.Need-returns-4
-returns-4 c = rw c.enum-told3.given.1
+returns-4 : tie.Need-returns-in-Failed
+returns-4 c = rw c.before.in-Failed.is
 
-pub put-message-spec : {M : Type 1} → statement M
-put-message-spec =
+pub put_message_spec : {M : Type 1} → statement M
+put_message_spec =
     tie.close
     (tie.spec (λ c. search rules) (λ c. search rules) (λ c. search rules) (λ c κs. search rules)
     (λ c. search rules) (λ c. search rules) (λ c. search rules) (λ c. search rules) returns returns-2 returns-3

@@ -9,29 +9,29 @@ use borrow.Author.Rules.{rules}
 use Rattle.desk.proofs.state.put_nine.Statement.{statement}
 use Rattle.desk.proofs.state.put_nine.Tie as tie
 
-abbrev invariant-loop : tie.invariant-loop
+abbrev invariant-loop : tie.invariant-loop-i
 invariant-loop desk₀ bytes i₀ desk i = (i ≤ 9) × (desk ≡ with_each (λ k. get_or bytes k 0) 65 i desk₀)
 
-abbrev decreases-loop : tie.decreases-loop
+abbrev decreases-loop : tie.decreases-loop-i
 decreases-loop desk₀ bytes i₀ desk i = 9 - i
 
-loop-holds : tie.Need-loop-init invariant-loop decreases-loop
+loop-holds : tie.Need-loop-i-init invariant-loop decreases-loop
 unfolding with_nine
 loop-holds c = (omega arith, put_none _ _ _)
 
-loop-again : tie.Need-loop-preserved invariant-loop decreases-loop
+loop-again : tie.Need-loop-i-preserved invariant-loop decreases-loop
 unfolding with_nine
 loop-again c =
-    let c3 = c.before.before.before in
-    let c4 = c3.before in
-    (omega arith, put_next (λ k. get_or c4.args.bytes.now k 0) 65 c4.args.desk.now _ _ _ c3.loop.invariant.1 c.wide.ensures)
+    let c3 = c in
+    let c4 = c3 in
+    (omega arith, put_next (λ k. get_or c4.before.before.before.before.before.before.args.bytes.now k 0) 65 c4.before.before.before.before.before.before.args.desk.now _ _ _ c3.before.before.before.before.before.loop-i.invariant.1 c.before.wide.ensures)
 
 returns : tie.Need-returns invariant-loop decreases-loop
 unfolding with_nine
-returns c = put_all (λ k. get_or c.before.before.args.bytes.now k 0) 65 c.before.before.args.desk.now (omega arith) c.before.loop.invariant.1
+returns c = put_all (λ k. get_or c.before.before.args.bytes.now k 0) 65 c.before.before.args.desk.now (omega arith) c.before.loop-i.invariant.1
 
-pub put-nine-spec : {M : Type 1} → statement M
-put-nine-spec =
+pub put_nine_spec : {M : Type 1} → statement M
+put_nine_spec =
     tie.close
     (tie.spec invariant-loop decreases-loop loop-holds (λ c. search rules) (λ c κs. search rules) (λ c. search rules)
     (λ c. search rules) (λ c. search rules) (λ c. search rules) (λ c. search rules) loop-again returns)

@@ -4,10 +4,10 @@ use Rattle.desk.proofs.state.put_plan.Statement.{statement}
 use Rattle.desk.proofs.state.put_plan.Tie as tie
 
 returns : tie.Need-returns
-returns c = rw (c.before.entry-number.ensures, c.schedule-number.ensures)
+returns c = rw (c.before.entry_number.ensures, c.schedule_number.ensures)
 
-pub put-plan-spec : {M : Type 1} → statement M
-put-plan-spec =
+pub put_plan_spec : {M : Type 1} → statement M
+put_plan_spec =
     tie.close
     (tie.spec (λ c. search rules) (λ c. search rules) (λ c κs. search rules) (λ c. search rules)
     (λ c κs. search rules) (λ c. search rules) returns)

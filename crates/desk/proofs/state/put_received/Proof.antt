@@ -10,27 +10,27 @@ use borrow.Author.Rules.{rules}
 use Rattle.desk.proofs.state.put_received.Statement.{statement}
 use Rattle.desk.proofs.state.put_received.Tie as tie
 
-abbrev invariant-loop : tie.invariant-loop
+abbrev invariant-loop : tie.invariant-loop-s
 invariant-loop desk₀ received s₀ desk s = (s ≤ 256) × (desk ≡ with_each (λ i. reception_number (get_or received i never_received).last) 128 s desk₀)
 
-abbrev decreases-loop : tie.decreases-loop
+abbrev decreases-loop : tie.decreases-loop-s
 decreases-loop desk₀ received s₀ desk s = 256 - s
 
-loop-holds : tie.Need-loop-init invariant-loop decreases-loop
+loop-holds : tie.Need-loop-s-init invariant-loop decreases-loop
 loop-holds c = (omega arith, put_none _ _ _)
 
-loop-again : tie.Need-loop-preserved invariant-loop decreases-loop
+loop-again : tie.Need-loop-s-preserved invariant-loop decreases-loop
 loop-again c =
-    let d = c.before.before.before.before in
-    let loop = c.before.before.before.loop in
-    (omega arith, put_next (λ i. reception_number (get_or d.args.t2 i never_received).last) 128 d.args.desk.now _ loop.s _ loop.invariant.1 c.reception-number.ensures)
+    let d = c in
+    let loop = c.before.before.before.before.loop-s in
+    (omega arith, put_next (λ i. reception_number (get_or d.before.before.before.before.before.args.received i never_received).last) 128 d.before.before.before.before.before.args.desk.now _ loop.s _ loop.invariant.1 c.before.reception_number.ensures)
 
 returns : tie.Need-returns invariant-loop decreases-loop
 unfolding with_received
-returns c = put_all (λ i. reception_number (get_or c.before.before.args.t2 i never_received).last) 128 c.before.before.args.desk.now (omega arith) c.before.loop.invariant.1
+returns c = put_all (λ i. reception_number (get_or c.before.before.args.received i never_received).last) 128 c.before.before.args.desk.now (omega arith) c.before.loop-s.invariant.1
 
-pub put-received-spec : {M : Type 1} → statement M
-put-received-spec =
+pub put_received_spec : {M : Type 1} → statement M
+put_received_spec =
     tie.close
     (tie.spec invariant-loop decreases-loop loop-holds (λ c. search rules) (λ c. search rules) (λ c κs. search rules) (λ c. search rules)
     (λ c. search rules) (λ c. search rules) (λ c. search rules) (λ c. search rules) loop-again returns)

@@ -4,10 +4,10 @@ use Rattle.desk.proofs.state.put_status.Statement.{statement}
 use Rattle.desk.proofs.state.put_status.Tie as tie
 
 returns : tie.Need-returns
-returns c = rw (c.before.before.before.bit.ensures, c.before.before.bit2.ensures, c.before.bit3.ensures)
+returns c = rw (c.before.before.before.before.bit.ensures, c.before.before.bit-2.ensures, c.before.bit-3.ensures)
 
-pub put-status-spec : {M : Type 1} → statement M
-put-status-spec =
+pub put_status_spec : {M : Type 1} → statement M
+put_status_spec =
     tie.close
     (tie.spec (λ c κs. search rules) (λ c. search rules) (λ c κs. search rules) (λ c. search rules)
     (λ c κs. search rules) (λ c. search rules) (λ c. search rules) (λ c. search rules) returns)

@@ -5,10 +5,10 @@ use Rattle.desk.proofs.state.put_transfer.Statement.{statement}
 use Rattle.desk.proofs.state.put_transfer.Tie as tie
 
 returns : tie.Need-returns
-returns c = c.put-nine.ensures ∙ rw (c.before.before.before.bit.ensures, c.before.before.before.before.before.open-number.ensures)
+returns c = c.put_nine.ensures ∙ rw (c.before.before.before.bit.ensures, c.before.before.before.before.before.before.open_number.ensures)
 
-pub put-transfer-spec : {M : Type 1} → statement M
-put-transfer-spec =
+pub put_transfer_spec : {M : Type 1} → statement M
+put_transfer_spec =
     tie.close
     (tie.spec (λ c κs. search rules) (λ c. search rules) (λ c. search rules) (λ c. search rules)
     (λ c κs. search rules) (λ c. search rules) (λ c κs. search rules) returns)

@@ -15,27 +15,27 @@ use Rattle.desk.proofs.state.received.Tie as tie
 abbrev on : List ℕ → ℕ → Reception
 on d i = reception_of (at d (128 + i))
 
-abbrev invariant-loop : tie.invariant-loop
+abbrev invariant-loop : tie.invariant-loop-s
 invariant-loop desk received₀ s₀ received s = (s ≤ 256) × (length received ≡ 256) × (take s received ≡ each (on desk) s)
 
-abbrev decreases-loop : tie.decreases-loop
+abbrev decreases-loop : tie.decreases-loop-s
 decreases-loop desk received₀ s₀ received s = 256 - s
 
-loop-holds : tie.Need-loop-init invariant-loop decreases-loop
+loop-holds : tie.Need-loop-s-init invariant-loop decreases-loop
 loop-holds c = (omega arith, search rules, taken_none _)
 
-loop-again : tie.Need-loop-preserved invariant-loop decreases-loop
+loop-again : tie.Need-loop-s-preserved invariant-loop decreases-loop
 loop-again c =
-    let d = c.before.before.before.before.before in
-    let loop = c.before.before.before.loop in
-    (omega arith, simp length-set loop.invariant.1, taken_next (on d.args.desk.now) _ _ _ (omega arith) loop.invariant.2 c.reception.ensures)
+    let d = c in
+    let loop = c.before.before.before.before.loop-s in
+    (omega arith, simp length-set loop.invariant.1, taken_next (on d.before.before.before.before.before.before.args.desk.now) _ _ _ (omega arith) loop.invariant.2 c.reception.ensures)
 
 returns : tie.Need-returns invariant-loop decreases-loop
 unfolding received_on
-returns c = taken_all (on c.before.before.before.args.desk.now) _ _ _ (omega arith) (omega arith) c.before.loop.invariant.2
+returns c = taken_all (on c.before.before.before.args.desk.now) _ _ _ (omega arith) (omega arith) c.before.loop-s.invariant.2
 
-pub received-spec : {M : Type 1} → statement M
-received-spec =
+pub received_spec : {M : Type 1} → statement M
+received_spec =
     tie.close
     (tie.spec invariant-loop decreases-loop (λ c κs. search rules) loop-holds (λ c. search rules) (λ c. search rules) (λ c. search rules) (λ c κs. search rules)
     (λ c. search rules) (λ c. search rules) (λ c. search rules) (λ c. search rules) loop-again returns)

@@ -5,13 +5,13 @@ use borrow.Author.Rules.{rules}
 use Rattle.desk.proofs.state.reception.Statement.{statement}
 use Rattle.desk.proofs.state.reception.Tie as tie
 
-returns : tie.Need-returns
+returns : tie.Need-returns-then-n-eq-NONE
 unfolding reception_of
-returns c = rw (c.never.ensures, eq-eqb _ _ c.before.if1.true)
+returns c = rw (c.never.ensures, eq-eqb _ _ c.before.if-n-eq-NONE.true)
 
-returns-2 : tie.Need-returns-2
+returns-2 : tie.Need-returns-else-n-eq-NONE
 unfolding reception_of
-returns-2 c = rw c.word.ensures (simp (ne_eqb _ _ c.before.if1.false))
+returns-2 c = rw c.word.ensures (simp (ne_eqb _ _ c.before.if-n-eq-NONE.false))
 
-pub reception-spec : {M : Type 1} → statement M
-reception-spec = tie.close (tie.spec (λ c κs. search rules) (λ c κs. search rules) returns returns-2)
+pub reception_spec : {M : Type 1} → statement M
+reception_spec = tie.close (tie.spec (λ c κs. search rules) (λ c κs. search rules) returns returns-2)

@@ -5,15 +5,15 @@ use borrow.Author.Rules.{rules}
 use Rattle.desk.proofs.state.requested.Statement.{statement}
 use Rattle.desk.proofs.state.requested.Tie as tie
 
-returns : tie.Need-returns
+returns : tie.Need-returns-then-n-eq-NONE
 unfolding requested_of
-returns c = simp (eq-eqb _ _ c.if1.true)
+returns c = simp (eq-eqb _ _ c.if-n-eq-NONE.true)
 
-returns-2 : tie.Need-returns-2
+returns-2 : tie.Need-returns-else-n-eq-NONE
 unfolding requested_of
-returns-2 c = rw c.word.ensures (simp (ne_eqb _ _ c.before.if1.false))
+returns-2 c = rw c.word.ensures (simp (ne_eqb _ _ c.before.if-n-eq-NONE.false))
 
-pub requested-spec : {M : Type 1} → statement M
-requested-spec =
+pub requested_spec : {M : Type 1} → statement M
+requested_spec =
     tie.close
     (tie.spec (λ c κs. search rules) returns returns-2)

@@ -6,8 +6,8 @@ use Rattle.desk.proofs.state.status.Tie as tie
 returns : tie.Need-returns
 returns c = rw c.byte.ensures
 
-pub status-spec : {M : Type 1} → statement M
-status-spec =
+pub status_spec : {M : Type 1} → statement M
+status_spec =
     tie.close
     (tie.spec (λ c. search rules) (λ c. search rules) (λ c. search rules) (λ c. search rules)
     (λ c κs. search rules) returns)

@@ -5,14 +5,14 @@ use Rattle.desk.proofs.state.take.Tie as tie
 
 returns : tie.Need-returns
 returns c =
-    let d = c.before in
+    let d = c in
     rw (
       c.received.ensures,
-      d.status.ensures,
-      d.before.message.ensures,
-      d.before.before.transfer.ensures,
-      d.before.before.before.plan.ensures,
-      d.before.before.before.before.pending.ensures,
+      d.before.status.ensures,
+      d.before.before.message.ensures,
+      d.before.before.before.transfer.ensures,
+      d.before.before.before.before.plan.ensures,
+      d.before.before.before.before.before.pending.ensures,
     )
 
 pub take_spec : {M : Type 1} → statement M

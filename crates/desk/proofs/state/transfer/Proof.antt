@@ -6,8 +6,8 @@ use Rattle.desk.proofs.state.transfer.Tie as tie
 returns : tie.Need-returns
 returns c = rw (c.before.nine.ensures, c.before.before.byte.ensures, c.before.before.before.before.opened.ensures)
 
-pub transfer-spec : {M : Type 1} → statement M
-transfer-spec =
+pub transfer_spec : {M : Type 1} → statement M
+transfer_spec =
     tie.close
     (tie.spec (λ c. search rules) (λ c κs. search rules) (λ c. search rules) (λ c κs. search rules)
     (λ c κs. search rules) (λ c. search rules) returns)

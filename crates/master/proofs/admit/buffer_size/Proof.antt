@@ -8,5 +8,5 @@ returns : tie.Need-returns
 unfolding buffer_size
 returns c = rw c.count.ensures
 
-pub buffer-size-spec : {M : Type 1} → statement M
-buffer-size-spec = tie.close (tie.spec (λ c κs. search rules) (λ c. search rules) (λ c. search rules) returns)
+pub buffer_size_spec : {M : Type 1} → statement M
+buffer_size_spec = tie.close (tie.spec (λ c κs. search rules) (λ c. search rules) (λ c. search rules) returns)

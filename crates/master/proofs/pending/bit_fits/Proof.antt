@@ -5,19 +5,19 @@ use Rattle.master.specs.Fits.{bit_fits}
 use Rattle.master.proofs.pending.bit_fits.Statement.{statement}
 use Rattle.master.proofs.pending.bit_fits.Tie as tie
 
-returns : tie.Need-returns
+returns : tie.Need-returns-then-not-bit
 unfolding bit_fits
-returns c = rw (not-true c.before.before.args.bit c.if1.true)
+returns c = rw (not-true c.before.before.args.bit c.if-not-bit.true-raw)
 
-returns-2 : tie.Need-returns-2
+returns-2 : tie.Need-returns-then-count-f
 unfolding bit_fits
-returns-2 c = rw (not-false c.before.before.before.before.args.bit c.before.before.if1.false, ← c.before.count.ensures, le-ltb _ _ c.if2.true)
+returns-2 c = rw (not-false c.before.before.before.before.args.bit c.before.before.if-not-bit.false-raw, ← c.before.count.ensures, le-ltb _ _ c.if-count-f.true)
 
-returns-3 : tie.Need-returns-3
+returns-3 : tie.Need-returns
 unfolding bit_fits
 returns-3 c =
     let a = c.before.before.before.before.before.args in
-    rw (not-false a.bit c.before.before.before.if1.false, ← c.before.before.count.ensures, lt-ltb _ _ c.before.if2.false, c.published.ensures)
+    rw (not-false a.bit c.before.before.before.if-not-bit.false-raw, ← c.before.before.count.ensures, lt-ltb _ _ c.before.if-count-f.false, c.published.ensures)
 
-pub bit-fits-spec : {M : Type 1} → statement M
-bit-fits-spec = tie.close (tie.spec returns (λ c κs. search rules) returns-2 (λ c κs. search rules) returns-3)
+pub bit_fits_spec : {M : Type 1} → statement M
+bit_fits_spec = tie.close (tie.spec returns (λ c κs. search rules) returns-2 (λ c κs. search rules) returns-3)

@@ -4,13 +4,13 @@ use Rattle.master.specs.Closing.{cleared_bit}
 use Rattle.master.proofs.pending.cleared.Statement.{statement}
 use Rattle.master.proofs.pending.cleared.Tie as tie
 
-returns : tie.Need-returns
+returns : tie.Need-returns-then-written
 unfolding cleared_bit
-returns c = rw c.if1.true
+returns c = rw c.if-written.true
 
-returns-2 : tie.Need-returns-2
+returns-2 : tie.Need-returns
 unfolding cleared_bit
-returns-2 c = rw c.if1.false
+returns-2 c = rw c.if-written.false
 
-pub cleared-spec : {M : Type 1} → statement M
-cleared-spec = tie.close (tie.spec returns (λ c. search rules) returns-2)
+pub cleared_spec : {M : Type 1} → statement M
+cleared_spec = tie.close (tie.spec returns (λ c. search rules) returns-2)

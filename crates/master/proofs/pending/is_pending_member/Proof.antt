@@ -7,20 +7,20 @@ use Rattle.cluster.proofs.MemberLaws.{member_frame_below}
 use Rattle.master.proofs.pending.is_pending_member.Statement.{statement}
 use Rattle.master.proofs.pending.is_pending_member.Tie as tie
 
-array-read-result : tie.Need-array-read-result
+array-read-result : tie.Need-bounds-pending-frame
 array-read-result c =
     let a = c.before.before.before.before.args in
     let asked = c.before.before.before.before.requires in
     omega (arith, c.frame.ensures, member_frame_below a.t.now asked.0 a.m asked.1, frame_count_lem a.t.now asked.0)
 
-returns : tie.Need-returns
-returns c = rw (← c.before.before.list.ensures, eq-eqb _ _ c.before.if1.true, c.frame.ensures)
+returns : tie.Need-returns-then-list-l
+returns c = rw (← c.before.before.list.ensures, eq-eqb _ _ c.before.if-list-l.true, c.frame.ensures)
 
-returns-2 : tie.Need-returns-2
-returns-2 c = rw (← c.before.list.ensures, ne_eqb _ _ c.if1.false)
+returns-2 : tie.Need-returns
+returns-2 c = rw (← c.before.list.ensures, ne_eqb _ _ c.if-list-l.false)
 
-pub is-pending-member-spec : {M : Type 1} → statement M
-is-pending-member-spec =
+pub is_pending_member_spec : {M : Type 1} → statement M
+is_pending_member_spec =
     tie.close
     (tie.spec (λ c κs. search rules) (λ c κs. search rules) (λ c. search rules) array-read-result returns
     returns-2)

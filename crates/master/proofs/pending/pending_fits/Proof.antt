@@ -10,42 +10,42 @@ use Rattle.master.specs.Fits.{pending_fits}
 use Rattle.master.proofs.pending.pending_fits.Statement.{statement}
 use Rattle.master.proofs.pending.pending_fits.Tie as tie
 
-abbrev invariant-loop : tie.invariant-loop
+abbrev invariant-loop : tie.invariant-loop-f
 invariant-loop t pending f₀ f = (f ≤ 60) × (pending_fits t 0 pending ≡ pending_fits t f (drop f pending))
 
-abbrev decreases-loop : tie.decreases-loop
+abbrev decreases-loop : tie.decreases-loop-f
 decreases-loop t pending f₀ f = 60 - f
 
-loop-holds : tie.Need-loop-init invariant-loop decreases-loop
+loop-holds : tie.Need-loop-f-init invariant-loop decreases-loop
 loop-holds c = (omega arith, refl)
 
-returns : tie.Need-returns invariant-loop decreases-loop
+returns : tie.Need-returns-then-not-bit_fits invariant-loop decreases-loop
 returns c =
     let a = c.before.before.before.before.before.args in
-    let at = c.before.before.before.loop in
+    let at = c.before.before.before.loop-f in
     let l : length a.t2 ≡ 60 = search rules in
-    sym (at.invariant.1 ∙ bits_wrong a.t.now at.f a.t2 (omega (arith, l, c.before.before.loop-test.true))
-    (sym c.before.bit-fits.ensures ∙ not-true c.before.bit-fits.result c.if1.true))
+    sym (at.invariant.1 ∙ bits_wrong a.t.now at.f a.t2 (omega (arith, l, c.before.before.loop-f-test.true))
+    (sym c.before.bit_fits.ensures ∙ not-true c.before.bit_fits.result c.if-not-bit_fits.true-raw))
 
-loop-again : tie.Need-loop-preserved invariant-loop decreases-loop
+loop-again : tie.Need-loop-f-preserved invariant-loop decreases-loop
 loop-again c =
     let a = c.before.before.before.before.before.args in
-    let at = c.before.before.before.loop in
-    let test = c.before.before.loop-test in
+    let at = c.before.before.before.loop-f in
+    let test = c.before.before.loop-f-test in
     let l : length a.t2 ≡ 60 = search rules in (
       omega (arith, test.true),
       at.invariant.1 ∙ bits_right a.t.now at.f a.t2 (omega (arith, l, test.true))
-          (sym c.before.bit-fits.ensures ∙ not-false c.before.bit-fits.result c.if1.false),
+          (sym c.before.bit_fits.ensures ∙ not-false c.before.bit_fits.result c.if-not-bit_fits.false-raw),
     )
 
-returns-2 : tie.Need-returns-2 invariant-loop decreases-loop
+returns-2 : tie.Need-returns invariant-loop decreases-loop
 returns-2 c =
     let a = c.before.before.before.args in
     let l : length a.t2 ≡ 60 = search rules in
-    sym (c.before.loop.invariant.1 ∙ bits_end a.t.now c.before.loop.f a.t2 (omega (arith, l, c.loop-test.false)))
+    sym (c.before.loop-f.invariant.1 ∙ bits_end a.t.now c.before.loop-f.f a.t2 (omega (arith, l, c.loop-f-test.false)))
 
-pub pending-fits-spec : {M : Type 1} → statement M
-pending-fits-spec =
+pub pending_fits_spec : {M : Type 1} → statement M
+pending_fits_spec =
     tie.close
     (tie.spec invariant-loop decreases-loop loop-holds (λ c. search rules) (λ c. search rules) (λ c κs. search rules) returns
     (λ c. search rules) (λ c. search rules) loop-again returns-2)

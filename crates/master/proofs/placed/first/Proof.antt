@@ -9,30 +9,30 @@ use Rattle.cluster.proofs.Together.{first_high, lower_before, higher_behind}
 use Rattle.master.proofs.placed.first.Statement.{statement}
 use Rattle.master.proofs.placed.first.Tie as tie
 
-abbrev invariant-loop : tie.invariant-loop
+abbrev invariant-loop : tie.invariant-loop-low
 invariant-loop t s low₀ high₀ low high = (low ≤ first_placement t s) × (first_placement t s ≤ high) × (high ≤ placement_count t)
 
-abbrev decreases-loop : tie.decreases-loop
+abbrev decreases-loop : tie.decreases-loop-low
 decreases-loop t s low₀ high₀ low high = high - low
 
-loop-holds : tie.Need-loop-init invariant-loop decreases-loop
+loop-holds : tie.Need-loop-low-init invariant-loop decreases-loop
 loop-holds c = let a = c.before.before.args in (omega arith, omega (arith, first_high a.t.now a.s), omega arith)
 
-add-middle : tie.Need-overflow-add-middle invariant-loop decreases-loop
+add-middle : tie.Need-overflow_add-middle invariant-loop decreases-loop
 add-middle c = omega (arith, placement_count_lem _ c.before.before.before.before.requires)
 
-loop-again : tie.Need-loop-preserved invariant-loop decreases-loop
+loop-again : tie.Need-loop-low-preserved-then-signal-s invariant-loop decreases-loop
 loop-again c =
-    let start = c.before.before.before.before.before.before in
-    let at = c.before.before.before.loop in
-    let before = lower_before _ start.requires start.args.s ((at.low + at.high) / 2) (omega arith) (omega arith) in
+    let start = c in
+    let at = c.before.before.before.loop-low in
+    let before = lower_before _ start.before.before.before.before.before.before.requires start.before.before.before.before.before.before.args.s ((at.low + at.high) / 2) (omega arith) (omega arith) in
     (omega arith, at.invariant.1, at.invariant.2)
 
-loop-again-2 : tie.Need-loop-preserved-2 invariant-loop decreases-loop
+loop-again-2 : tie.Need-loop-low-preserved invariant-loop decreases-loop
 loop-again-2 c =
-    let start = c.before.before.before.before.before.before in
-    let at = c.before.before.before.loop in
-    let behind = higher_behind _ start.requires start.args.s ((at.low + at.high) / 2) (omega arith) (omega arith) in
+    let start = c in
+    let at = c.before.before.before.loop-low in
+    let behind = higher_behind _ start.before.before.before.before.before.before.requires start.before.before.before.before.before.before.args.s ((at.low + at.high) / 2) (omega arith) (omega arith) in
     (at.invariant.0, behind, omega arith)
 
 returns : tie.Need-returns invariant-loop decreases-loop

@@ -11,42 +11,42 @@ use Rattle.master.proofs.PlacedTurns.{stands_yes, stands_no}
 use Rattle.master.proofs.placed.mark.Statement.{statement}
 use Rattle.master.proofs.placed.mark.Tie as tie
 
-abbrev invariant-loop : tie.invariant-loop
+abbrev invariant-loop : tie.invariant-loop-pending
 invariant-loop t s pending₀ k₀ pending k = Walk t s (λ m. Set t s m pending₀ pending) k
 
-abbrev decreases-loop : tie.decreases-loop
+abbrev decreases-loop : tie.decreases-loop-pending
 decreases-loop t s pending₀ k₀ pending k = placement_count t - k
 
-loop-holds : tie.Need-loop-init invariant-loop decreases-loop
-loop-holds c = let start = c.before.before.before in rw c.first.ensures (marks_begin _ start.requires _ _)
+loop-holds : tie.Need-loop-pending-init invariant-loop decreases-loop
+loop-holds c = let start = c in rw c.first-k.ensures (marks_begin _ start.before.before.before.requires _ _)
 
-add-k : tie.Need-overflow-add-k invariant-loop decreases-loop
+add-k : tie.Need-overflow_add-k invariant-loop decreases-loop
 add-k c =
-    let d = c.before.before.before.before.before in
-    let most = placement_count_lem _ d.before.before.before.before.before.before.requires in
-    omega (arith, (stands_yes _ _ _ d.before.stands.ensures d.if1.true).there)
+    let d = c in
+    let most = placement_count_lem _ d.before.before.before.before.before.before.before.before.before.before.before.requires in
+    omega (arith, (stands_yes _ _ _ d.before.before.before.before.before.before.stands.ensures d.before.before.before.before.before.loop-pending-test.true).there)
 
-loop-less : tie.Need-loop-smaller invariant-loop decreases-loop
+loop-less : tie.Need-loop-pending-smaller invariant-loop decreases-loop
 loop-less c =
-    let d = c.before.before.before.before.before in
-    omega (arith, (stands_yes _ _ _ d.before.stands.ensures d.if1.true).there)
+    let d = c in
+    omega (arith, (stands_yes _ _ _ d.before.before.before.before.before.before.stands.ensures d.before.before.before.before.before.loop-pending-test.true).there)
 
-loop-again : tie.Need-loop-preserved invariant-loop decreases-loop
+loop-again : tie.Need-loop-pending-preserved invariant-loop decreases-loop
 loop-again c =
-    let d = c.before.before.before.before.before in
-    let at = d.before.before.loop in
-    let start = d.before.before.before.before.before.before in
-    marks_on _ start.requires _ _ at.k at.pending at.invariant (stands_yes _ _ _ d.before.stands.ensures d.if1.true) _
+    let d = c in
+    let at = d.before.before.before.before.before.before.before.loop-pending in
+    let start = d in
+    marks_on _ start.before.before.before.before.before.before.before.before.before.before.before.requires _ _ at.k at.pending at.invariant (stands_yes _ _ _ d.before.before.before.before.before.before.stands.ensures d.before.before.before.before.before.loop-pending-test.true) _
     (c.before.before.set.ensures ∙ rw c.before.before.before.frame.ensures)
 
-same_length : tie.Need-same-length invariant-loop decreases-loop
-same_length c = c.before.before.loop.invariant.holds.same_length
+same_length : tie.Need-shape_of-pending invariant-loop decreases-loop
+same_length c = c.before.before.loop-pending.invariant.holds.same_length
 
 returns : tie.Need-returns invariant-loop decreases-loop
 returns c =
-    let start = c.before.before.before.before.before.before in
-    let at = c.before.before.loop in
-    marks_end _ start.requires _ _ at.k at.pending at.invariant (stands_no _ _ _ c.before.stands.ensures c.if1.false)
+    let start = c in
+    let at = c.before.before.loop-pending in
+    marks_end _ start.before.before.before.before.before.before.requires _ _ at.k at.pending at.invariant (stands_no _ _ _ c.before.stands.ensures c.loop-pending-test.false)
 
 pub mark_spec : {M : Type 1} → statement M
 mark_spec =

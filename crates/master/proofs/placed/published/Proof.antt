@@ -8,5 +8,5 @@ returns : tie.Need-returns
 unfolding signal_published
 returns c = cc
 
-pub published-spec : {M : Type 1} → statement M
-published-spec = tie.close (tie.spec (λ c κs. search rules) (λ c κs. search rules) (λ c κs. search rules) returns)
+pub published_spec : {M : Type 1} → statement M
+published_spec = tie.close (tie.spec (λ c κs. search rules) (λ c κs. search rules) (λ c κs. search rules) returns)

@@ -12,49 +12,49 @@ use Rattle.master.proofs.PlacedTurns.{stands_yes, stands_no, Left, each_begins, 
 use Rattle.master.proofs.placed.put_array.Statement.{statement}
 use Rattle.master.proofs.placed.put_array.Tie as tie
 
-abbrev invariant-loop : tie.invariant-loop
+abbrev invariant-loop : tie.invariant-loop-bytes
 invariant-loop t bytes₀ s values k₀ bytes k =
     Walk t s (Left t s (λ m cs. with_array_at t cs m values) (with_array t bytes₀ s values) bytes) k × (length bytes ≡ length bytes₀)
 
-abbrev decreases-loop : tie.decreases-loop
+abbrev decreases-loop : tie.decreases-loop-bytes
 decreases-loop t bytes₀ s values k₀ bytes k = placement_count t - k
 
-loop-holds : tie.Need-loop-init invariant-loop decreases-loop
+loop-holds : tie.Need-loop-bytes-init invariant-loop decreases-loop
 unfolding with_array
-loop-holds c = let start = c.before.before.before.before in (rw c.first.ensures (each_begins _ start.requires _ _ _ _ refl), refl)
+loop-holds c = let start = c in (rw c.first-k.ensures (each_begins _ start.before.before.before.before.requires _ _ _ _ refl), refl)
 
-add-k : tie.Need-overflow-add-k invariant-loop decreases-loop
+add-k : tie.Need-overflow_add-k invariant-loop decreases-loop
 add-k c =
-    let d = c.before.before.before.before in
-    let most = placement_count_lem _ d.before.before.before.before.before.before.before.requires in
-    omega (arith, (stands_yes _ _ _ d.before.stands.ensures d.if1.true).there)
+    let d = c in
+    let most = placement_count_lem _ d.before.before.before.before.before.before.before.before.before.before.before.requires in
+    omega (arith, (stands_yes _ _ _ d.before.before.before.before.before.stands.ensures d.before.before.before.before.loop-bytes-test.true).there)
 
-loop-less : tie.Need-loop-smaller invariant-loop decreases-loop
+loop-less : tie.Need-loop-bytes-smaller invariant-loop decreases-loop
 loop-less c =
-    let d = c.before.before.before.before in
-    omega (arith, (stands_yes _ _ _ d.before.stands.ensures d.if1.true).there)
+    let d = c in
+    omega (arith, (stands_yes _ _ _ d.before.before.before.before.before.stands.ensures d.before.before.before.before.loop-bytes-test.true).there)
 
-loop-again : tie.Need-loop-preserved invariant-loop decreases-loop
+loop-again : tie.Need-loop-bytes-preserved invariant-loop decreases-loop
 loop-again c =
-    let d = c.before.before.before.before in
-    let at = d.before.before.loop in
-    let start = d.before.before.before.before.before.before.before in
-    let put = c.before.before.put-array-at in (
-      each_on _ start.requires _ _ _ at.k at.bytes _ at.invariant.0 (stands_yes _ _ _ d.before.stands.ensures d.if1.true) put.ensures,
+    let d = c in
+    let at = d.before.before.before.before.before.before.loop-bytes in
+    let start = d in
+    let put = c.before.before.put_array_at in (
+      each_on _ start.before.before.before.before.before.before.before.before.before.before.before.requires _ _ _ at.k at.bytes _ at.invariant.0 (stands_yes _ _ _ d.before.before.before.before.before.stands.ensures d.before.before.before.before.loop-bytes-test.true) put.ensures,
       put.auto.1.0 ∙ at.invariant.1,
     )
 
-same_length : tie.Need-same-length invariant-loop decreases-loop
-same_length c = c.before.before.loop.invariant.1
+same_length : tie.Need-shape_of-bytes invariant-loop decreases-loop
+same_length c = c.before.before.loop-bytes.invariant.1
 
 returns : tie.Need-returns invariant-loop decreases-loop
 returns c =
-    let start = c.before.before.before.before.before.before.before in
-    let at = c.before.before.loop in
-    each_ends _ start.requires _ _ _ at.k at.bytes at.invariant.0 (stands_no _ _ _ c.before.stands.ensures c.if1.false)
+    let start = c in
+    let at = c.before.before.loop-bytes in
+    each_ends _ start.before.before.before.before.before.before.before.requires _ _ _ at.k at.bytes at.invariant.0 (stands_no _ _ _ c.before.stands.ensures c.loop-bytes-test.false)
 
-pub put-array-spec : {M : Type 1} → statement M
-put-array-spec =
+pub put_array_spec : {M : Type 1} → statement M
+put_array_spec =
     tie.close
     (tie.spec invariant-loop decreases-loop (λ c κs. search rules) loop-holds (λ c κs. search rules) (λ c κs. search rules) add-k loop-less loop-again
     same_length returns)

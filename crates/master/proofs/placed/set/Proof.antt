@@ -5,11 +5,11 @@ use Rattle.master.proofs.Marking.{set_none}
 use Rattle.master.proofs.placed.set.Statement.{statement}
 use Rattle.master.proofs.placed.set.Tie as tie
 
-returns : tie.Need-returns
+returns : tie.Need-returns-then-f-pending
 returns c = refl
 
-returns-2 : tie.Need-returns-2
-returns-2 c = sym (set_none _ _ _ c.if1.false)
+returns-2 : tie.Need-returns-else-f-pending
+returns-2 c = sym (set_none _ _ _ c.if-f-pending.false)
 
 pub set_spec : {M : Type 1} → statement M
 set_spec = tie.close (tie.spec (λ c. search rules) (λ c. search rules) returns returns-2)

@@ -4,11 +4,11 @@ use borrow.Author.Tests.{le-ltb, lt-ltb}
 use Rattle.master.proofs.placed.stands.Statement.{statement}
 use Rattle.master.proofs.placed.stands.Tie as tie
 
-returns : tie.Need-returns
-returns c = rw (← c.before.count.ensures, le-ltb _ _ c.if1.true)
+returns : tie.Need-returns-then-count-k
+returns c = rw (← c.before.count.ensures, le-ltb _ _ c.if-count-k.true)
 
-returns-2 : tie.Need-returns-2
-returns-2 c = rw (← c.before.before.count.ensures, lt-ltb _ _ c.before.if1.false, c.signal.ensures)
+returns-2 : tie.Need-returns
+returns-2 c = rw (← c.before.before.count.ensures, lt-ltb _ _ c.before.if-count-k.false, c.signal.ensures)
 
-pub stands-spec : {M : Type 1} → statement M
-stands-spec = tie.close (tie.spec (λ c κs. search rules) returns (λ c κs. search rules) returns-2)
+pub stands_spec : {M : Type 1} → statement M
+stands_spec = tie.close (tie.spec (λ c κs. search rules) returns (λ c κs. search rules) returns-2)

@@ -9,47 +9,47 @@ use Rattle.master.proofs.PlacedTurns.{stands_yes, stands_no, Unmet, touch_begins
 use Rattle.master.proofs.placed.touches.Statement.{statement}
 use Rattle.master.proofs.placed.touches.Tie as tie
 
-abbrev invariant-loop : tie.invariant-loop
+abbrev invariant-loop : tie.invariant-loop-s
 invariant-loop t s f k₀ k = Walk t s (Unmet t s f) k
 
-abbrev decreases-loop : tie.decreases-loop
+abbrev decreases-loop : tie.decreases-loop-s
 decreases-loop t s f k₀ k = placement_count t - k
 
-loop-holds : tie.Need-loop-init invariant-loop decreases-loop
-loop-holds c = let start = c.before.before in rw c.first.ensures (touch_begins _ start.requires _ _)
+loop-holds : tie.Need-loop-s-init invariant-loop decreases-loop
+loop-holds c = let start = c in rw c.first-k.ensures (touch_begins _ start.before.before.requires _ _)
 
-returns : tie.Need-returns invariant-loop decreases-loop
+returns : tie.Need-returns-then-frame-f invariant-loop decreases-loop
 returns c =
-    let d = c.before.before in
-    let start = d.before.before.before.before.before in
-    touch_found _ start.requires _ start.args.f _ (stands_yes _ _ _ d.before.stands.ensures d.if1.true) (omega arith)
+    let d = c in
+    let start = d in
+    touch_found _ start.before.before.before.before.before.before.before.requires _ start.before.before.before.before.before.before.before.args.f _ (stands_yes _ _ _ d.before.before.before.stands.ensures d.before.before.loop-s-test.true) (omega arith)
 
-add-k : tie.Need-overflow-add-k invariant-loop decreases-loop
+add-k : tie.Need-overflow_add-k invariant-loop decreases-loop
 add-k c =
-    let d = c.before.before in
-    let most = placement_count_lem _ d.before.before.before.before.before.requires in
-    omega (arith, (stands_yes _ _ _ d.before.stands.ensures d.if1.true).there)
+    let d = c in
+    let most = placement_count_lem _ d.before.before.before.before.before.before.before.requires in
+    omega (arith, (stands_yes _ _ _ d.before.before.before.stands.ensures d.before.before.loop-s-test.true).there)
 
-loop-less : tie.Need-loop-smaller invariant-loop decreases-loop
+loop-less : tie.Need-loop-s-smaller invariant-loop decreases-loop
 loop-less c =
-    let d = c.before.before in
-    omega (arith, (stands_yes _ _ _ d.before.stands.ensures d.if1.true).there)
+    let d = c in
+    omega (arith, (stands_yes _ _ _ d.before.before.before.stands.ensures d.before.before.loop-s-test.true).there)
 
-loop-again : tie.Need-loop-preserved invariant-loop decreases-loop
+loop-again : tie.Need-loop-s-preserved invariant-loop decreases-loop
 loop-again c =
-    let d = c.before.before in
-    let at = d.before.before.loop in
-    let start = d.before.before.before.before.before in
-    touch_on _ start.requires _ start.args.f at.k at.invariant (stands_yes _ _ _ d.before.stands.ensures d.if1.true)
+    let d = c in
+    let at = d.before.before.before.before.loop-s in
+    let start = d in
+    touch_on _ start.before.before.before.before.before.before.before.requires _ start.before.before.before.before.before.before.before.args.f at.k at.invariant (stands_yes _ _ _ d.before.before.before.stands.ensures d.before.before.loop-s-test.true)
     (λ e. omega arith)
 
-returns-2 : tie.Need-returns-2 invariant-loop decreases-loop
+returns-2 : tie.Need-returns invariant-loop decreases-loop
 returns-2 c =
-    let at = c.before.before.loop in
-    let start = c.before.before.before.before.before in
-    touch_ends _ start.requires _ _ at.k at.invariant (stands_no _ _ _ c.before.stands.ensures c.if1.false)
+    let at = c.before.before.loop-s in
+    let start = c in
+    touch_ends _ start.before.before.before.before.before.requires _ _ at.k at.invariant (stands_no _ _ _ c.before.stands.ensures c.loop-s-test.false)
 
-pub touches-spec : {M : Type 1} → statement M
-touches-spec =
+pub touches_spec : {M : Type 1} → statement M
+touches_spec =
     tie.close
     (tie.spec invariant-loop decreases-loop (λ c κs. search rules) loop-holds (λ c κs. search rules) (λ c κs. search rules) returns add-k loop-less loop-again returns-2)

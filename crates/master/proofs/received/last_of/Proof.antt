@@ -9,16 +9,16 @@ use Rattle.master.specs.Received.{last_of}
 use Rattle.master.proofs.received.last_of.Statement.{statement}
 use Rattle.master.proofs.received.last_of.Tie as tie
 
-returns : tie.Need-returns
+returns : tie.Need-returns-then-s-lt-SIGNALS
 unfolding last_of
 returns c = refl
 
-returns-2 : tie.Need-returns-2
+returns-2 : tie.Need-returns-else-s-lt-SIGNALS
 unfolding last_of
 returns-2 c =
     let a = c.before.args in
     let l : length a.t1 ≡ 256 = search rules in
-    sym (ap (λ (r : Reception). r.last) (get_or-eq_default a.t1 never_received {n = a.s} (omega (arith, l, c.if1.false))))
+    sym (ap (λ (r : Reception). r.last) (get_or-eq_default a.t1 never_received {n = a.s} (omega (arith, l, c.if-s-lt-SIGNALS.false))))
 
-pub last-of-spec : {M : Type 1} → statement M
-last-of-spec = tie.close (tie.spec (λ c. search rules) (λ c. search rules) returns returns-2)
+pub last_of_spec : {M : Type 1} → statement M
+last_of_spec = tie.close (tie.spec (λ c. search rules) (λ c. search rules) returns returns-2)

@@ -8,51 +8,51 @@ use Rattle.master.specs.Received.{last_fits}
 use Rattle.master.proofs.received.placed.Statement.{statement}
 use Rattle.master.proofs.received.placed.Tie as tie
 
-returns : tie.Need-returns
+returns : tie.Need-returns-then-count-s
 unfolding last_fits
 returns c =
     let a = c.before.before.before.args in
-    rw (le-ltb a.s (signal_count a.t.now) (omega (arith, c.before.count.ensures, c.if1.true)))
+    rw (le-ltb a.s (signal_count a.t.now) (omega (arith, c.before.count.ensures, c.if-count-s.true)))
 
-returns-2 : tie.Need-returns-2
+returns-2 : tie.Need-returns-then-count-k
 unfolding last_fits
 returns-2 c =
-    let d1 = c.before.before in
-    let a = d1.before.before.before.args in
+    let d1 = c in
+    let a = d1.before.before.before.before.before.args in
     rw (
-      lt-ltb a.s (signal_count a.t.now) (omega (arith, d1.before.count.ensures, d1.if1.false)),
-      le-ltb a.k (placement_count a.t.now) (omega (arith, c.before.count2.ensures, c.if2.true)),
+      lt-ltb a.s (signal_count a.t.now) (omega (arith, d1.before.before.before.count.ensures, d1.before.before.if-count-s.false)),
+      le-ltb a.k (placement_count a.t.now) (omega (arith, c.before.count-2.ensures, c.if-count-k.true)),
     )
 
-returns-3 : tie.Need-returns-3
+returns-3 : tie.Need-returns-then-signal-s
 unfolding last_fits
 returns-3 c =
-    let d2 = c.before.before in
-    let d1 = d2.before.before in
-    let a = d1.before.before.before.args in
+    let d2 = c in
+    let d1 = d2 in
+    let a = d1.before.before.before.before.before.before.before.args in
     rw (
-      lt-ltb a.s (signal_count a.t.now) (omega (arith, d1.before.count.ensures, d1.if1.false)),
-      lt-ltb a.k (placement_count a.t.now) (omega (arith, d2.before.count2.ensures, d2.if2.false)),
-      ne_eqb _ _ (λ e. c.if3.true (c.before.signal.ensures ∙ e)),
+      lt-ltb a.s (signal_count a.t.now) (omega (arith, d1.before.before.before.before.before.count.ensures, d1.before.before.before.before.if-count-s.false)),
+      lt-ltb a.k (placement_count a.t.now) (omega (arith, d2.before.before.before.count-2.ensures, d2.before.before.if-count-k.false)),
+      ne_eqb _ _ (λ e. c.if-signal-s.true (c.before.signal.ensures ∙ e)),
     )
 
-returns-4 : tie.Need-returns-4
+returns-4 : tie.Need-returns
 unfolding last_fits
 returns-4 c =
-    let d3 = c.before.before in
-    let d2 = d3.before.before in
-    let d1 = d2.before.before in
-    let a = d1.before.before.before.args in
+    let d3 = c in
+    let d2 = d3 in
+    let d1 = d2 in
+    let a = d1.before.before.before.before.before.before.before.before.before.args in
     rw (
-      lt-ltb a.s (signal_count a.t.now) (omega (arith, d1.before.count.ensures, d1.if1.false)),
-      lt-ltb a.k (placement_count a.t.now) (omega (arith, d2.before.count2.ensures, d2.if2.false)),
-      eq-eqb _ _ (sym d3.before.signal.ensures ∙ d3.if3.false),
+      lt-ltb a.s (signal_count a.t.now) (omega (arith, d1.before.before.before.before.before.before.before.count.ensures, d1.before.before.before.before.before.before.if-count-s.false)),
+      lt-ltb a.k (placement_count a.t.now) (omega (arith, d2.before.before.before.before.before.count-2.ensures, d2.before.before.before.before.if-count-k.false)),
+      eq-eqb _ _ (sym d3.before.before.before.signal.ensures ∙ d3.before.before.if-signal-s.false),
       c.published.ensures,
       c.before.frame.ensures,
     )
 
-pub placed-spec : {M : Type 1} → statement M
-placed-spec =
+pub placed_spec : {M : Type 1} → statement M
+placed_spec =
     tie.close
     (tie.spec (λ c κs. search rules) returns (λ c κs. search rules) returns-2 (λ c κs. search rules) returns-3 (λ c κs. search rules)
     (λ c κs. search rules) returns-4)

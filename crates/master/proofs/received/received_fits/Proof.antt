@@ -10,42 +10,42 @@ use Rattle.master.specs.Received.{received_fits}
 use Rattle.master.proofs.received.received_fits.Statement.{statement}
 use Rattle.master.proofs.received.received_fits.Tie as tie
 
-abbrev invariant-loop : tie.invariant-loop
+abbrev invariant-loop : tie.invariant-loop-s
 invariant-loop t received s₀ s = (s ≤ 256) × (received_fits t 0 received ≡ received_fits t s (drop s received))
 
-abbrev decreases-loop : tie.decreases-loop
+abbrev decreases-loop : tie.decreases-loop-s
 decreases-loop t received s₀ s = 256 - s
 
-loop-holds : tie.Need-loop-init invariant-loop decreases-loop
+loop-holds : tie.Need-loop-s-init invariant-loop decreases-loop
 loop-holds c = (omega arith, refl)
 
-returns : tie.Need-returns invariant-loop decreases-loop
+returns : tie.Need-returns-then-not-fits invariant-loop decreases-loop
 returns c =
     let a = c.before.before.before.before.before.before.args in
-    let at = c.before.before.before.before.loop in
+    let at = c.before.before.before.before.loop-s in
     let l : length a.t2 ≡ 256 = search rules in
-    sym (at.invariant.1 ∙ receptions_wrong a.t.now at.s a.t2 (omega (arith, l, c.before.before.before.loop-test.true))
-    (sym c.before.fits2.ensures ∙ not-true c.before.fits2.result c.if1.true))
+    sym (at.invariant.1 ∙ receptions_wrong a.t.now at.s a.t2 (omega (arith, l, c.before.before.before.loop-s-test.true))
+    (sym c.before.fits.ensures ∙ not-true c.before.fits.result c.if-not-fits.true-raw))
 
-loop-again : tie.Need-loop-preserved invariant-loop decreases-loop
+loop-again : tie.Need-loop-s-preserved invariant-loop decreases-loop
 loop-again c =
     let a = c.before.before.before.before.before.before.args in
-    let at = c.before.before.before.before.loop in
-    let test = c.before.before.before.loop-test in
+    let at = c.before.before.before.before.loop-s in
+    let test = c.before.before.before.loop-s-test in
     let l : length a.t2 ≡ 256 = search rules in (
       omega (arith, test.true),
       at.invariant.1 ∙ receptions_right a.t.now at.s a.t2 (omega (arith, l, test.true))
-          (sym c.before.fits2.ensures ∙ not-false c.before.fits2.result c.if1.false),
+          (sym c.before.fits.ensures ∙ not-false c.before.fits.result c.if-not-fits.false-raw),
     )
 
-returns-2 : tie.Need-returns-2 invariant-loop decreases-loop
+returns-2 : tie.Need-returns invariant-loop decreases-loop
 returns-2 c =
     let a = c.before.before.before.args in
     let l : length a.t2 ≡ 256 = search rules in
-    sym (c.before.loop.invariant.1 ∙ receptions_end a.t.now c.before.loop.s a.t2 (omega (arith, l, c.loop-test.false)))
+    sym (c.before.loop-s.invariant.1 ∙ receptions_end a.t.now c.before.loop-s.s a.t2 (omega (arith, l, c.loop-s-test.false)))
 
-pub received-fits-spec : {M : Type 1} → statement M
-received-fits-spec =
+pub received_fits_spec : {M : Type 1} → statement M
+received_fits_spec =
     tie.close
     (tie.spec invariant-loop decreases-loop loop-holds (λ c. search rules) (λ c. search rules) (λ c. search rules) (λ c κs. search rules) returns
     (λ c. search rules) (λ c. search rules) loop-again returns-2)

@@ -11,21 +11,21 @@ use Rattle.master.proofs.ReceivedSteps.{up_to_here, up_to_not}
 use Rattle.master.proofs.received.received_in.Statement.{statement}
 use Rattle.master.proofs.received.received_in.Tie as tie
 
-abbrev invariant-loop : tie.invariant-loop
+abbrev invariant-loop : tie.invariant-loop-k
 invariant-loop t f n next₀ k₀ next k = (n ≡ placement_count t) × (k ≤ n) × (length next ≡ 256) × (next ≡ received_up_to t f k next₀)
 
-abbrev decreases-loop : tie.decreases-loop
+abbrev decreases-loop : tie.decreases-loop-k
 decreases-loop t f n next₀ k₀ next k = n - k
 
-loop-holds : tie.Need-loop-init invariant-loop decreases-loop
+loop-holds : tie.Need-loop-k-init invariant-loop decreases-loop
 unfolding received_up_to
-loop-holds c = (c.count.ensures, omega arith, search rules, refl)
+loop-holds c = (c.count-n.ensures, omega arith, search rules, refl)
 
-loop-again : tie.Need-loop-preserved invariant-loop decreases-loop
+loop-again : tie.Need-loop-k-preserved invariant-loop decreases-loop
 loop-again c =
-    let loop = c.before.before.before.loop in
-    let is = c.before.receiver.ensures in
-    let more = c.before.before.loop-test.true in
+    let loop = c.before.before.before.loop-k in
+    let is = c.before.receiver-s.ensures in
+    let more = c.before.before.loop-k-test.true in
     ⊎_elim
     (λ w. (
       loop.invariant.0,
@@ -34,15 +34,15 @@ loop-again c =
       w.1 ∙ up_to_here _ _ loop.k _ _ loop.invariant.3 loop.invariant.2 _ is w.0.taken,
     ))
     (λ w. (loop.invariant.0, omega arith, rw w.1 loop.invariant.2, w.1 ∙ up_to_not _ _ loop.k _ _ loop.invariant.3 loop.invariant.2 _ is w.0.left))
-    c.if1.branch
+    c.if-s-lt-SIGNALS.branch
 
 returns : tie.Need-returns invariant-loop decreases-loop
 returns c =
-    let e : c.before.loop.k ≡ placement_count c.before.before.before.before.args.t.now = omega (arith, c.loop-test.false, c.before.loop.invariant) in
-    rw e at c.before.loop.invariant.3
+    let e : c.before.loop-k.k ≡ placement_count c.before.before.before.before.args.t.now = omega (arith, c.loop-k-test.false, c.before.loop-k.invariant) in
+    rw e at c.before.loop-k.invariant.3
 
-pub received-in-spec : {M : Type 1} → statement M
-received-in-spec =
+pub received_in_spec : {M : Type 1} → statement M
+received_in_spec =
     tie.close
     (tie.spec invariant-loop decreases-loop (λ c κs. search rules) loop-holds (λ c κs. search rules) (λ c. search rules) (λ c. search rules)
     (λ c. search rules) (λ c. search rules) loop-again returns)

@@ -10,48 +10,48 @@ use Rattle.master.proofs.RowTurns.{puts_from, first_turn, first_end}
 use Rattle.master.proofs.row.first_bad.Statement.{statement}
 use Rattle.master.proofs.row.first_bad.Tie as tie
 
-abbrev invariant-loop : tie.invariant-loop
+abbrev invariant-loop : tie.invariant-loop-i
 invariant-loop t signals values i₀ i = (i ≤ length signals) × (first_bad t 0 (puts signals values) ≡ first_bad t i (puts_from i signals values))
 
-abbrev decreases-loop : tie.decreases-loop
+abbrev decreases-loop : tie.decreases-loop-i
 decreases-loop t signals values i₀ i = length signals - i
 
-loop-holds : tie.Need-loop-init invariant-loop decreases-loop
+loop-holds : tie.Need-loop-i-init invariant-loop decreases-loop
 loop-holds c = (omega arith, refl)
 
-shared-slice-read-scalar-fits : tie.Need-shared-slice-read-scalar-fits invariant-loop decreases-loop
-shared-slice-read-scalar-fits c = omega (arith, c.before.before.before.before.before.before.before.requires.1, c.before.before.loop-test.true)
+shared-slice-read-scalar-fits : tie.Need-bounds-values-i invariant-loop decreases-loop
+shared-slice-read-scalar-fits c = omega (arith, c.before.before.before.before.before.before.before.requires.1, c.before.before.loop-i-test.true)
 
-returns : tie.Need-returns invariant-loop decreases-loop
+returns : tie.Need-returns-in-Refused invariant-loop decreases-loop
 returns c =
-    let start = c.before.before.before.before.before.before.before.before.before.before.before.before.before in
-    let a = start.args in
-    let at = c.before.before.before.before.before.before.before.before.before.loop in
-    let below = c.before.before.before.before.before.before.before.before.loop-test.true in
+    let start = c in
+    let a = start.before.before.before.before.before.before.before.before.before.before.before.args in
+    let at = c.before.before.before.before.before.before.before.loop-i in
+    let below = c.before.before.before.before.before.before.loop-i-test.true in
     sym
     (at.invariant.1
-    ∙ first_turn a.t.now a.signals.now a.values.now start.requires.1 at.i below
-    ∙ rw (← c.before.before.before.before.before.scalar-fits.ensures, ← c.before.before.before.before.writable.ensures, c.before.before.refusal.given.1, c.at.ensures))
+    ∙ first_turn a.t.now a.signals.now a.values.now start.before.before.before.before.before.before.before.before.before.before.before.requires.1 at.i below
+    ∙ rw (← c.before.before.before.scalar_fits-fits.ensures, ← c.before.before.writable.ensures, c.before.in-Refused.is, c.at.ensures))
 
-loop-again : tie.Need-loop-preserved invariant-loop decreases-loop
+loop-again : tie.Need-loop-i-preserved invariant-loop decreases-loop
 loop-again c =
-    let start = c.before.before.before.before.before.before.before.before.before.before.before in
-    let a = start.args in
-    let at = c.before.before.before.before.before.before.before.loop in
-    let below = c.before.before.before.before.before.before.loop-test.true in (
+    let start = c in
+    let a = start.before.before.before.before.before.before.before.before.before.before.args in
+    let at = c.before.before.before.before.before.before.loop-i in
+    let below = c.before.before.before.before.before.loop-i-test.true in (
       omega (arith, below),
-      at.invariant.1 ∙ first_turn a.t.now a.signals.now a.values.now start.requires.1 at.i below
-          ∙ rw (← c.before.before.before.scalar-fits.ensures, ← c.before.before.writable.ensures, c.enum_told.given.1),
+      at.invariant.1 ∙ first_turn a.t.now a.signals.now a.values.now start.before.before.before.before.before.before.before.before.before.before.requires.1 at.i below
+          ∙ rw (← c.before.before.scalar_fits-fits.ensures, ← c.before.writable.ensures, c.in_default.is),
     )
 
-returns-2 : tie.Need-returns-2 invariant-loop decreases-loop
+returns-2 : tie.Need-returns invariant-loop decreases-loop
 returns-2 c =
     let a = c.before.before.before.before.before.args in
-    let at = c.before.loop in
-    sym (at.invariant.1 ∙ first_end a.t.now a.signals.now a.values.now c.before.before.before.before.before.requires.1 at.i c.loop-test.false at.invariant.0)
+    let at = c.before.loop-i in
+    sym (at.invariant.1 ∙ first_end a.t.now a.signals.now a.values.now c.before.before.before.before.before.requires.1 at.i c.loop-i-test.false at.invariant.0)
 
-pub first-bad-spec : {M : Type 1} → statement M
-first-bad-spec =
+pub first_bad_spec : {M : Type 1} → statement M
+first_bad_spec =
     tie.close
     (tie.spec invariant-loop decreases-loop loop-holds (λ c. search rules) (λ c. search rules) (λ c. search rules) shared-slice-read-scalar-fits
     (λ c κs. search rules) (λ c κs. search rules) (λ c. search rules) (λ c κs. search rules) returns (λ c. search rules) (λ c. search rules)

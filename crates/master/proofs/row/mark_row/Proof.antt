@@ -10,38 +10,38 @@ use Rattle.master.proofs.RowTurns.{marks_turn, marks_end}
 use Rattle.master.proofs.row.mark_row.Statement.{statement}
 use Rattle.master.proofs.row.mark_row.Tie as tie
 
-abbrev invariant-loop : tie.invariant-loop
+abbrev invariant-loop : tie.invariant-loop-i
 invariant-loop t signals pending₀ i₀ pending i =
     (i ≤ length signals) × (marked_bits t signals pending₀ ≡ marked_bits t (drop i signals) pending) × (length pending ≡ length pending₀)
 
-abbrev decreases-loop : tie.decreases-loop
+abbrev decreases-loop : tie.decreases-loop-i
 decreases-loop t signals pending₀ i₀ pending i = length signals - i
 
-loop-holds : tie.Need-loop-init invariant-loop decreases-loop
+loop-holds : tie.Need-loop-i-init invariant-loop decreases-loop
 loop-holds c = (omega arith, refl, refl)
 
-loop-again : tie.Need-loop-preserved invariant-loop decreases-loop
+loop-again : tie.Need-loop-i-preserved invariant-loop decreases-loop
 loop-again c =
     let a = c.before.before.before.before.before.before.before.before.before.before.args in
-    let at = c.before.before.before.before.before.before.loop in
-    let below = c.before.before.before.before.before.loop-test.true in
+    let at = c.before.before.before.before.before.before.loop-i in
+    let below = c.before.before.before.before.before.loop-i-test.true in
     let marked = c.before.before.mark.ensures in (
       omega (arith, below),
       at.invariant.1 ∙ marks_turn a.t.now a.signals.now at.i below at.pending ∙ rw marked,
       rw marked (marked_length a.t.now _ 0 at.pending) ∙ at.invariant.2,
     )
 
-same_length : tie.Need-same-length invariant-loop decreases-loop
-same_length c = c.before.loop.invariant.2
+same_length : tie.Need-shape_of-pending invariant-loop decreases-loop
+same_length c = c.before.loop-i.invariant.2
 
 returns : tie.Need-returns invariant-loop decreases-loop
 returns c =
     let a = c.before.before.before.before.before.args in
-    let at = c.before.loop in
-    sym (at.invariant.1 ∙ marks_end a.t.now a.signals.now at.i c.loop-test.false at.invariant.0 at.pending)
+    let at = c.before.loop-i in
+    sym (at.invariant.1 ∙ marks_end a.t.now a.signals.now at.i c.loop-i-test.false at.invariant.0 at.pending)
 
-pub mark-row-spec : {M : Type 1} → statement M
-mark-row-spec =
+pub mark_row_spec : {M : Type 1} → statement M
+mark_row_spec =
     tie.close
     (tie.spec invariant-loop decreases-loop loop-holds (λ c. search rules) (λ c. search rules) (λ c κs. search rules) (λ c. search rules) (λ c. search rules)
     loop-again same_length returns)

@@ -12,60 +12,60 @@ use Rattle.master.proofs.RowTurns.{puts_from, put_turn, put_end, good_turn, good
 use Rattle.master.proofs.row.put_row.Statement.{statement}
 use Rattle.master.proofs.row.put_row.Tie as tie
 
-abbrev invariant-loop : tie.invariant-loop
+abbrev invariant-loop : tie.invariant-loop-i
 invariant-loop t bytes₀ signals values i₀ bytes i =
     (i ≤ length signals)
     × (length bytes ≡ length bytes₀)
     × (first_bad t i (puts_from i signals values) ≡ Accepted)
     × (with_row t bytes₀ (puts signals values) ≡ with_row t bytes (puts_from i signals values))
 
-abbrev decreases-loop : tie.decreases-loop
+abbrev decreases-loop : tie.decreases-loop-i
 decreases-loop t bytes₀ signals values i₀ bytes i = length signals - i
 
-loop-holds : tie.Need-loop-init invariant-loop decreases-loop
+loop-holds : tie.Need-loop-i-init invariant-loop decreases-loop
 loop-holds c = (omega arith, refl, c.before.before.before.before.requires.2, refl)
 
-shared-slice-read-put-scalar-2 : tie.Need-shared-slice-read-put-scalar-2 invariant-loop decreases-loop
-shared-slice-read-put-scalar-2 c = omega (arith, c.before.before.before.before.before.before.before.before.before.requires.1, c.before.before.before.loop-test.true)
+shared-slice-read-put-scalar-2 : tie.Need-bounds-values-i invariant-loop decreases-loop
+shared-slice-read-put-scalar-2 c = omega (arith, c.before.before.before.before.before.before.before.before.before.requires.1, c.before.before.before.loop-i-test.true)
 
-cast-put-scalar : tie.Need-overflow-cast-put-scalar invariant-loop decreases-loop
+cast-put-scalar : tie.Need-overflow_cast-values invariant-loop decreases-loop
 cast-put-scalar c =
-    let start = c.before.before.before.before.before.before.before.before.before in
-    let a = start.args in
-    let at = c.before.before.before.before.loop in
-    let below = c.before.before.before.loop-test.true in
+    let start = c in
+    let a = start.before.before.before.before.before.before.before.before.before.args in
+    let at = c.before.before.before.before.loop-i in
+    let below = c.before.before.before.loop-i-test.true in
     record {
       fits = omega (
         arith,
-        good_value a.t.now a.signals.now a.values.now start.requires.1 at.i below at.invariant.2 start.requires.0,
+        good_value a.t.now a.signals.now a.values.now start.before.before.before.before.before.before.before.before.before.requires.1 at.i below at.invariant.2 start.before.before.before.before.before.before.before.before.before.requires.0,
       );
     }
 
-loop-again : tie.Need-loop-preserved invariant-loop decreases-loop
+loop-again : tie.Need-loop-i-preserved invariant-loop decreases-loop
 loop-again c =
     let a = c.before.before.before.before.before.before.before.before.before.before.before.before.args in
     let pre = c.before.before.before.before.before.before.before.before.before.before.before.before.requires in
-    let at = c.before.before.before.before.before.before.before.loop in
-    let below = c.before.before.before.before.before.before.loop-test.true in
-    let put = c.before.before.put-scalar.ensures in (
+    let at = c.before.before.before.before.before.before.before.loop-i in
+    let below = c.before.before.before.before.before.before.loop-i-test.true in
+    let put = c.before.before.put_scalar.ensures in (
       omega (arith, below),
       rw put (value_length a.t.now at.bytes _ (scalar _)) ∙ at.invariant.1,
       good_turn a.t.now a.signals.now a.values.now pre.1 at.i below at.invariant.2,
       at.invariant.3 ∙ put_turn a.t.now a.signals.now a.values.now pre.1 at.i below at.bytes ∙ rw put,
     )
 
-same_length : tie.Need-same-length invariant-loop decreases-loop
-same_length c = c.before.loop.invariant.1
+same_length : tie.Need-shape_of-bytes invariant-loop decreases-loop
+same_length c = c.before.loop-i.invariant.1
 
 returns : tie.Need-returns invariant-loop decreases-loop
 returns c =
     let a = c.before.before.before.before.before.before.args in
-    let at = c.before.loop in
+    let at = c.before.loop-i in
     sym
-    (at.invariant.3 ∙ put_end a.t.now a.signals.now a.values.now c.before.before.before.before.before.before.requires.1 at.i c.loop-test.false at.invariant.0 at.bytes)
+    (at.invariant.3 ∙ put_end a.t.now a.signals.now a.values.now c.before.before.before.before.before.before.requires.1 at.i c.loop-i-test.false at.invariant.0 at.bytes)
 
-pub put-row-spec : {M : Type 1} → statement M
-put-row-spec =
+pub put_row_spec : {M : Type 1} → statement M
+put_row_spec =
     tie.close
     (tie.spec invariant-loop decreases-loop loop-holds (λ c. search rules) (λ c. search rules) (λ c. search rules) shared-slice-read-put-scalar-2 cast-put-scalar
     (λ c κs. search rules) (λ c. search rules) (λ c. search rules) loop-again same_length returns)

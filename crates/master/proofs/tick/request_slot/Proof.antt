@@ -3,11 +3,11 @@ use borrow.Author.Rules.{rules}
 use Rattle.master.proofs.tick.request_slot.Statement.{statement}
 use Rattle.master.proofs.tick.request_slot.Tie as tie
 
-returns : tie.Need-returns
-returns c = rw (← c.before.is-sending.ensures, c.if1.true)
+returns : tie.Need-returns-then-is_sending
+returns c = rw (← c.before.is_sending.ensures, c.if-is_sending.true)
 
-returns-2 : tie.Need-returns-2
-returns-2 c = rw (← c.before.is-sending.ensures, c.if1.false)
+returns-2 : tie.Need-returns-else-is_sending
+returns-2 c = rw (← c.before.is_sending.ensures, c.if-is_sending.false)
 
-pub request-slot-spec : {M : Type 1} → statement M
-request-slot-spec = tie.close (tie.spec (λ c κs. search rules) returns returns-2)
+pub request_slot_spec : {M : Type 1} → statement M
+request_slot_spec = tie.close (tie.spec (λ c κs. search rules) returns returns-2)

@@ -5,41 +5,41 @@ use Rattle.master.specs.Tick.{slot_opens}
 use Rattle.master.proofs.tick.slot_opens.Statement.{statement}
 use Rattle.master.proofs.tick.slot_opens.Tie as tie
 
-returns : tie.Need-returns
+returns : tie.Need-returns-then-kind-eq0
 unfolding slot_opens
-returns c = rw (← c.before.before.kind.ensures, ← c.before.target.ensures, eq-eqb _ _ c.if1.true)
+returns c = rw (← c.before.before.kind-kind.ensures, ← c.before.target-target.ensures, eq-eqb _ _ c.if-kind-eq0.true)
 
-returns-2 : tie.Need-returns-2
+returns-2 : tie.Need-returns-then-kind-eq1
 unfolding slot_opens
 returns-2 c = rw (
-  ← c.before.before.before.before.kind.ensures,
-  ← c.before.before.before.target.ensures,
+  ← c.before.before.before.before.kind-kind.ensures,
+  ← c.before.before.before.target-target.ensures,
   ne_eqb _ _
-      c.before.before.if1.false,
-  eq-eqb _ _ c.before.if2.true,
-  c.first-pending.ensures,
+      c.before.before.if-kind-eq0.false,
+  eq-eqb _ _ c.before.if-kind-eq1.true,
+  c.first_pending.ensures,
 )
 
-returns-3 : tie.Need-returns-3
+returns-3 : tie.Need-returns-then-kind-eq2
 unfolding slot_opens
 returns-3 c =
-    let kind = c.before.before.before.before.before.kind in
-    let target = c.before.before.before.before.target in
-    rw (← kind.ensures, ← target.ensures, ne_eqb _ _ c.before.before.before.if1.false, ne_eqb _ _ c.before.before.if2.false, eq-eqb _ _ c.before.if3.true, c.request-slot.ensures)
+    let kind = c.before.before.before.before.before.kind-kind in
+    let target = c.before.before.before.before.target-target in
+    rw (← kind.ensures, ← target.ensures, ne_eqb _ _ c.before.before.before.if-kind-eq0.false, ne_eqb _ _ c.before.before.if-kind-eq1.false, eq-eqb _ _ c.before.if-kind-eq2.true, c.request_slot.ensures)
 
-returns-4 : tie.Need-returns-4
+returns-4 : tie.Need-returns
 unfolding slot_opens
 returns-4 c = rw (
-  ← c.before.before.before.before.kind.ensures,
-  ← c.before.before.before.target.ensures,
+  ← c.before.before.before.before.kind-kind.ensures,
+  ← c.before.before.before.target-target.ensures,
   ne_eqb _ _
-      c.before.before.if1.false,
-  ne_eqb _ _ c.before.if2.false,
-  ne_eqb _ _ c.if3.false,
+      c.before.before.if-kind-eq0.false,
+  ne_eqb _ _ c.before.if-kind-eq1.false,
+  ne_eqb _ _ c.if-kind-eq2.false,
 )
 
-pub slot-opens-spec : {M : Type 1} → statement M
-slot-opens-spec =
+pub slot_opens_spec : {M : Type 1} → statement M
+slot_opens_spec =
     tie.close
     (tie.spec (λ c κs. search rules) (λ c κs. search rules) returns (λ c κs. search rules) returns-2
     (λ c κs. search rules) returns-3 returns-4)

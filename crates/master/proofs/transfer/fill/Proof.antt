@@ -10,40 +10,40 @@ use Rattle.master.proofs.Nine.{filled_nine}
 use Rattle.master.proofs.transfer.fill.Statement.{statement}
 use Rattle.master.proofs.transfer.fill.Tie as tie
 
-abbrev invariant-loop : tie.invariant-loop
+abbrev invariant-loop : tie.invariant-loop-i
 invariant-loop part₀ nine i₀ part i = (i ≤ length part₀) × (length part ≡ length part₀) × (part ≡ take i nine ++ drop i part₀)
 
-abbrev decreases-loop : tie.decreases-loop
+abbrev decreases-loop : tie.decreases-loop-i
 decreases-loop part₀ nine i₀ part i = length part₀ - i
 
-loop-holds : tie.Need-loop-init invariant-loop decreases-loop
+loop-holds : tie.Need-loop-i-init invariant-loop decreases-loop
 loop-holds c = (omega arith, refl, refl)
 
-array-read-part : tie.Need-array-read-part invariant-loop decreases-loop
-array-read-part c = omega (arith, c.loop-test.true, c.before.loop.invariant.1, c.before.before.requires)
+array-read-part : tie.Need-bounds-nine-i invariant-loop decreases-loop
+array-read-part c = omega (arith, c.loop-i-test.true, c.before.loop-i.invariant.1, c.before.before.requires)
 
-loop-less : tie.Need-loop-smaller invariant-loop decreases-loop
-loop-less c = omega (arith, c.loop-test.true, c.before.loop.invariant.1)
+loop-less : tie.Need-loop-i-smaller invariant-loop decreases-loop
+loop-less c = omega (arith, c.loop-i-test.true, c.before.loop-i.invariant.1)
 
-loop-again : tie.Need-loop-preserved invariant-loop decreases-loop
+loop-again : tie.Need-loop-i-preserved invariant-loop decreases-loop
 loop-again c =
     let a = c.before.before.args in
-    let at = c.before.loop in
+    let at = c.before.loop-i in
     let l : length a.t2 ≡ 9 = search rules in (
-      omega (arith, c.loop-test.true, at.invariant.1),
+      omega (arith, c.loop-i-test.true, at.invariant.1),
       simp length-set at.invariant.1,
       copy_turn a.part.now a.t2 _ at.i
-          (omega (arith, c.loop-test.true, at.invariant.1, c.before.before.requires, l)) (omega (arith, c.loop-test.true, at.invariant.1)) at.invariant.2,
+          (omega (arith, c.loop-i-test.true, at.invariant.1, c.before.before.requires, l)) (omega (arith, c.loop-i-test.true, at.invariant.1)) at.invariant.2,
     )
 
-same_length : tie.Need-same-length invariant-loop decreases-loop
-same_length c = c.before.loop.invariant.1
+same_length : tie.Need-shape_of-part invariant-loop decreases-loop
+same_length c = c.before.loop-i.invariant.1
 
 returns : tie.Need-returns invariant-loop decreases-loop
 returns c =
     let a = c.before.before.args in
-    let at = c.before.loop in
-    filled_nine a.part.now a.t2 _ at.i (omega (arith, c.loop-test.false, at.invariant.0, at.invariant.1)) at.invariant.2
+    let at = c.before.loop-i in
+    filled_nine a.part.now a.t2 _ at.i (omega (arith, c.loop-i-test.false, at.invariant.0, at.invariant.1)) at.invariant.2
 
 pub fill_spec : {M : Type 1} → statement M
 fill_spec =

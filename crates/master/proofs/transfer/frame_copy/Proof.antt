@@ -10,8 +10,8 @@ use Rattle.master.specs.declared.state.Opened.TheVariants.{Frame}
 use Rattle.master.proofs.transfer.frame_copy.Statement.{statement}
 use Rattle.master.proofs.transfer.frame_copy.Tie as tie
 
-returns : tie.Need-returns
-returns c = rw (← c.before.published.ensures, not-true c.before.published.result c.if1.true)
+returns : tie.Need-returns-then-not-published
+returns c = rw (← c.before.published.ensures, not-true c.before.published.result c.if-not-published.true-raw)
 
 part-copied-end : tie.Need-slice-bounds-copied-end
 part-copied-end c =
@@ -31,18 +31,18 @@ copied-requires c κs =
           asked.2 told.result told.ensures,
     )
 
-returns-2 : tie.Need-returns-2
+returns-2 : tie.Need-returns
 returns-2 c =
     let a = c.before.before.before.before.before.before.before.args in
     let asked = c.before.before.before.before.before.before.before.requires in
     let published = c.before.before.before.before.published in
     let told = c.before.before.length in
-    rw (← published.ensures, not-false published.result c.before.before.before.if1.false, c.copied.ensures)
+    rw (← published.ensures, not-false published.result c.before.before.before.if-not-published.false-raw, c.copied.ensures)
     (ap (copied a.t.now (Frame a.f)) (part_data a.t.now asked.0 a.bytes.now asked.1 a.f asked.2
     told.result told.ensures))
 
-pub frame-copy-spec : {M : Type 1} → statement M
-frame-copy-spec =
+pub frame_copy_spec : {M : Type 1} → statement M
+frame_copy_spec =
     tie.close
     (tie.spec (λ c κs. search rules) returns (λ c. search rules) (λ c κs. search rules) (λ c. search rules)
     (λ c. search rules) (λ c. search rules) (λ c. search rules) part-copied-end copied-requires returns-2)

@@ -10,39 +10,39 @@ use Rattle.master.proofs.Nine.{nine_bytes}
 use Rattle.master.proofs.transfer.nine.Statement.{statement}
 use Rattle.master.proofs.transfer.nine.Tie as tie
 
-abbrev invariant-loop : tie.invariant-loop
+abbrev invariant-loop : tie.invariant-loop-i
 invariant-loop bytes checksum all₀ n i₀ all i = (i ≤ n) × (n ≡ length bytes) × (all ≡ take i bytes ++ drop i (replicate 9 255))
 
-abbrev decreases-loop : tie.decreases-loop
+abbrev decreases-loop : tie.decreases-loop-i
 decreases-loop bytes checksum all₀ n i₀ all i = n - i
 
-loop-holds : tie.Need-loop-init invariant-loop decreases-loop
+loop-holds : tie.Need-loop-i-init invariant-loop decreases-loop
 loop-holds c = (omega arith, refl, refl)
 
-array-write-all : tie.Need-array-write-all invariant-loop decreases-loop
-array-write-all c = omega (arith, c.before.loop-test.true, c.before.before.before.requires)
+array-write-all : tie.Need-bounds-all-i invariant-loop decreases-loop
+array-write-all c = omega (arith, c.before.loop-i-test.true, c.before.before.before.requires)
 
-loop-again : tie.Need-loop-preserved invariant-loop decreases-loop
+loop-again : tie.Need-loop-i-preserved invariant-loop decreases-loop
 loop-again c =
-    let at = c.before.before.loop in
-    let test = c.before.loop-test in (
+    let at = c.before.before.loop-i in
+    let test = c.before.loop-i-test in (
       omega (arith, test.true),
       refl,
       copy_turn (replicate 9 255) c.before.before.before.args.bytes.now _ at.i
           test.true (omega (arith, test.true, c.before.before.before.requires)) at.invariant.2,
     )
 
-array-write-all-2 : tie.Need-array-write-all-2 invariant-loop decreases-loop
+array-write-all-2 : tie.Need-bounds-all-n invariant-loop decreases-loop
 array-write-all-2 c = omega (arith, c.before.before.requires)
 
 returns : tie.Need-returns invariant-loop decreases-loop
 returns c =
     let a = c.before.before.args in
-    let at = c.before.loop in
-    nine_bytes a.bytes.now a.checksum _ at.i (omega (arith, c.loop-test.false, at.invariant.0)) c.before.before.requires at.invariant.2
+    let at = c.before.loop-i in
+    nine_bytes a.bytes.now a.checksum _ at.i (omega (arith, c.loop-i-test.false, at.invariant.0)) c.before.before.requires at.invariant.2
 
-pub nine-spec : {M : Type 1} → statement M
-nine-spec =
+pub nine_spec : {M : Type 1} → statement M
+nine_spec =
     tie.close
     (tie.spec invariant-loop decreases-loop loop-holds (λ c. search rules) array-write-all (λ c. search rules)
     (λ c. search rules) loop-again array-write-all-2 returns)

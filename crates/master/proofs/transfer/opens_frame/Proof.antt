@@ -5,26 +5,26 @@ use Rattle.master.specs.Fits.{entry_opens}
 use Rattle.master.proofs.transfer.opens_frame.Statement.{statement}
 use Rattle.master.proofs.transfer.opens_frame.Tie as tie
 
-returns : tie.Need-returns
+returns : tie.Need-returns-then-kind-eq0
 unfolding entry_opens
-returns c = rw (← c.before.before.kind.ensures, ← c.before.target.ensures, eq-eqb _ _ c.if1.true)
+returns c = rw (← c.before.before.kind-kind.ensures, ← c.before.target-target.ensures, eq-eqb _ _ c.if-kind-eq0.true)
 
-returns-2 : tie.Need-returns-2
+returns-2 : tie.Need-returns-then-kind-eq1
 unfolding entry_opens
 returns-2 c = rw (
-  ← c.before.before.before.before.kind.ensures,
-  ← c.before.before.before.target.ensures,
+  ← c.before.before.before.before.kind-kind.ensures,
+  ← c.before.before.before.target-target.ensures,
   ne_eqb _ _
-      c.before.before.if1.false,
-  eq-eqb _ _ c.before.if2.true,
+      c.before.before.if-kind-eq0.false,
+  eq-eqb _ _ c.before.if-kind-eq1.true,
   c.has.ensures,
 )
 
-returns-3 : tie.Need-returns-3
+returns-3 : tie.Need-returns
 unfolding entry_opens
-returns-3 c = rw (← c.before.before.before.kind.ensures, ← c.before.before.target.ensures, ne_eqb _ _ c.before.if1.false, ne_eqb _ _ c.if2.false)
+returns-3 c = rw (← c.before.before.before.kind-kind.ensures, ← c.before.before.target-target.ensures, ne_eqb _ _ c.before.if-kind-eq0.false, ne_eqb _ _ c.if-kind-eq1.false)
 
-pub opens-frame-spec : {M : Type 1} → statement M
-opens-frame-spec =
+pub opens_frame_spec : {M : Type 1} → statement M
+opens_frame_spec =
     tie.close
     (tie.spec (λ c κs. search rules) (λ c κs. search rules) returns (λ c κs. search rules) returns-2 returns-3)

@@ -5,13 +5,13 @@ use Rattle.master.specs.Fits.{entry_opens}
 use Rattle.master.proofs.transfer.opens_request.Statement.{statement}
 use Rattle.master.proofs.transfer.opens_request.Tie as tie
 
-returns : tie.Need-returns
+returns : tie.Need-returns-then-kind-eq2
 unfolding entry_opens
-returns c = rw (← c.before.before.kind.ensures, eq-eqb _ _ c.before.if1.true, c.is-sending.ensures)
+returns c = rw (← c.before.before.kind.ensures, eq-eqb _ _ c.before.if-kind-eq2.true, c.is_sending.ensures)
 
-returns-2 : tie.Need-returns-2
+returns-2 : tie.Need-returns
 unfolding entry_opens
-returns-2 c = rw (← c.before.kind.ensures, ne_eqb _ _ c.if1.false)
+returns-2 c = rw (← c.before.kind.ensures, ne_eqb _ _ c.if-kind-eq2.false)
 
-pub opens-request-spec : {M : Type 1} → statement M
-opens-request-spec = tie.close (tie.spec (λ c κs. search rules) (λ c κs. search rules) returns returns-2)
+pub opens_request_spec : {M : Type 1} → statement M
+opens_request_spec = tie.close (tie.spec (λ c κs. search rules) (λ c κs. search rules) returns returns-2)

@@ -5,14 +5,14 @@ use Rattle.wire.proofs.AnswerLaws.{built, not_refused}
 use Rattle.master.proofs.transfer.protected_byte.Statement.{statement}
 use Rattle.master.proofs.transfer.protected_byte.Tie as tie
 
-returns : tie.Need-returns
-returns c = built c.before.before.before.before.args.id c.before.byte.given.0.0
-    c.before.before.before.before.requires (sym c.before.before.before.build.ensures.0 ∙ c.before.byte.given.1)
+returns : tie.Need-returns-in-Byte
+returns c = built c.before.before.args.id c.in-Byte.byte
+    c.before.before.requires (sym c.before.build.ensures.0 ∙ c.in-Byte.is)
 
-returns-2 : tie.Need-returns-2
-returns-2 c = absurd (not_refused c.before.before.before.before.args.id c.before.refusal.given.0.0
-    c.before.before.before.before.requires (sym c.before.before.before.build.ensures.0 ∙ c.before.refusal.given.1))
+returns-2 : tie.Need-returns-in-Refused
+returns-2 c = absurd (not_refused c.before.before.args.id c.in-Refused.refusal
+    c.before.before.requires (sym c.before.build.ensures.0 ∙ c.in-Refused.is))
 
-pub protected-byte-spec : {M : Type 1} → statement M
-protected-byte-spec =
+pub protected_byte_spec : {M : Type 1} → statement M
+protected_byte_spec =
     tie.close (tie.spec (λ c κs. search rules) (λ c. search rules) (λ c. search rules) returns returns-2)

@@ -13,19 +13,19 @@ use Rattle.master.proofs.transfer.request_copy.Tie as tie
 copied-requires : tie.Need-copied-requires
 unfolding format_of
 copied-requires c κs =
-    let l : length c.before.before.request-data.result ≡ 8 = search rules in
-    let k = first_length_lem c.before.before.request-data.result 8 (omega (arith, l)) in
+    let l : length c.before.request_data-bytes.result ≡ 8 = search rules in
+    let k = first_length_lem c.before.request_data-bytes.result 8 (omega (arith, l)) in
     (omega arith, omega (arith, k), omega (arith, k))
 
 returns : tie.Need-returns
 returns c =
-    let a = c.before.before.before.before.before.before.args in
-    let request-data = c.before.before.before.request-data in
+    let a = c.before.before.before.before.before.args in
+    let request-data = c.before.before.request_data-bytes in
     let l : length request-data.result ≡ 8 = search rules in
     c.copied.ensures ∙ ap (copied a.t.now Request) (first_all request-data.result 8 l ∙ request-data.ensures)
 
-pub request-copy-spec : {M : Type 1} → statement M
-request-copy-spec =
+pub request_copy_spec : {M : Type 1} → statement M
+request_copy_spec =
     tie.close
     (tie.spec (λ c κs. search rules) (λ c. search rules) (λ c. search rules) (λ c. search rules) copied-requires
     returns)

@@ -3,20 +3,20 @@ use borrow.Author.Rules.{rules}
 use Rattle.master.proofs.transfer.request_data.Statement.{statement}
 use Rattle.master.proofs.transfer.request_data.Tie as tie
 
-returns : tie.Need-returns
-returns c = rw c.enum_told.given.1
+returns : tie.Need-returns-in-None
+returns c = rw c.in-None.is
 
-returns-2 : tie.Need-returns-2
-returns-2 c = rw (c.before.before.before.message.given.1, c.before.frame.ensures.0)
+returns-2 : tie.Need-returns-in-Sending
+returns-2 c = rw (c.before.before.in-Sending.is, c.before.frame.ensures.0)
 
-returns-3 : tie.Need-returns-3
-returns-3 c = rw c.enum-told2.given.1
+returns-3 : tie.Need-returns-in-Completed
+returns-3 c = rw c.in-Completed.is
 
-returns-4 : tie.Need-returns-4
-returns-4 c = rw c.enum-told3.given.1
+returns-4 : tie.Need-returns-in-Failed
+returns-4 c = rw c.in-Failed.is
 
-pub request-data-spec : {M : Type 1} → statement M
-request-data-spec =
+pub request_data_spec : {M : Type 1} → statement M
+request_data_spec =
     tie.close
     (tie.spec (λ c. search rules) (λ c. search rules) (λ c κs. search rules) (λ c. search rules)
     (λ c. search rules) returns returns-2 returns-3 returns-4)

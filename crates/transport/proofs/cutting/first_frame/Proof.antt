@@ -7,11 +7,11 @@ use Rattle.transport.proofs.cutting.first_frame.Tie as tie
 returns : tie.Need-returns
 unfolding first_frame data_bytes
 returns c =
-    let d = c.before.before.before in
-    simp (d.before.data-byte.ensures, d.data-byte2.ensures, c.before.before.data-byte3.ensures, c.before.data-byte4.ensures, c.data-byte5.ensures)
+    let d = c in
+    simp (d.before.before.before.before.data_byte.ensures, d.before.before.before.data_byte-2.ensures, c.before.before.data_byte-3.ensures, c.before.data_byte-4.ensures, c.data_byte-5.ensures)
 
-pub first-frame-spec : {M : Type 1} → statement M
-first-frame-spec =
+pub first_frame_spec : {M : Type 1} → statement M
+first_frame_spec =
     tie.close
     (tie.spec (λ c. search rules) (λ c. search rules) (λ c. search rules) (λ c κs. search rules)
     (λ c κs. search rules) (λ c κs. search rules) (λ c κs. search rules) (λ c κs. search rules) returns)

@@ -7,21 +7,21 @@ use Rattle.transport.proofs.CuttingLaws.{frame_single, frame_first}
 use Rattle.transport.proofs.cutting.frame_bytes.Statement.{statement}
 use Rattle.transport.proofs.cutting.frame_bytes.Tie as tie
 
-returns : tie.Need-returns
-returns c = later_frame _ _ _ _ c.before.if1.true c.next-frame.ensures
+returns : tie.Need-returns-then-k-gt0
+returns c = later_frame _ _ _ _ c.before.if-k-gt0.true c.next_frame.ensures
 
-returns-2 : tie.Need-returns-2
+returns-2 : tie.Need-returns-then-message-le6
 returns-2 c =
     let e : c.before.before.before.before.args.k ≡ 0 = omega arith in
-    rw e (c.single-frame.ensures ∙ sym (frame_single _ _ c.before.if2.true))
+    rw e (c.single_frame.ensures ∙ sym (frame_single _ _ c.before.if-message-le6.true))
 
-returns-3 : tie.Need-returns-3
+returns-3 : tie.Need-returns
 returns-3 c =
     let e : c.before.before.before.before.args.k ≡ 0 = omega arith in
-    rw e (c.first_frame.ensures ∙ sym (frame_first _ _ c.before.if2.false))
+    rw e (c.first_frame.ensures ∙ sym (frame_first _ _ c.before.if-message-le6.false))
 
-pub frame-bytes-spec : {M : Type 1} → statement M
-frame-bytes-spec =
+pub frame_bytes_spec : {M : Type 1} → statement M
+frame_bytes_spec =
     tie.close
     (tie.spec (λ c. search rules) (λ c κs. search rules) returns (λ c κs. search rules) returns-2
     (λ c κs. search rules) returns-3)

@@ -5,11 +5,11 @@ use Rattle.transport.proofs.CuttingLaws.{frames_one, frames_more}
 use Rattle.transport.proofs.cutting.frames.Statement.{statement}
 use Rattle.transport.proofs.cutting.frames.Tie as tie
 
-returns : tie.Need-returns
-returns c = sym (frames_one _ c.if1.true)
+returns : tie.Need-returns-then-length-le6
+returns c = sym (frames_one _ c.if-length-le6.true)
 
-returns-2 : tie.Need-returns-2
-returns-2 c = sym (frames_more _ c.if1.false)
+returns-2 : tie.Need-returns-else-length-le6
+returns-2 c = sym (frames_more _ c.if-length-le6.false)
 
-pub frames-spec : {M : Type 1} → statement M
-frames-spec = tie.close (tie.spec (λ c. search rules) (λ c. search rules) returns returns-2)
+pub frames_spec : {M : Type 1} → statement M
+frames_spec = tie.close (tie.spec (λ c. search rules) (λ c. search rules) returns returns-2)

@@ -6,10 +6,10 @@ use Rattle.transport.proofs.cutting.next_frame.Tie as tie
 
 returns : tie.Need-returns
 unfolding next_frame
-returns c = c.with-six.ensures
+returns c = c.with_six.ensures
 
-pub next-frame-spec : {M : Type 1} → statement M
-next-frame-spec =
+pub next_frame_spec : {M : Type 1} → statement M
+next_frame_spec =
     tie.close
     (tie.spec (λ c. search rules) (λ c. search rules) (λ c. search rules) (λ c. search rules) (λ c. search rules)
     (λ c κs. search rules) returns)

@@ -6,7 +6,7 @@ use Rattle.transport.proofs.cutting.single_frame.Tie as tie
 
 returns : tie.Need-returns
 unfolding single_frame
-returns c = c.with-six.ensures
+returns c = c.with_six.ensures
 
-pub single-frame-spec : {M : Type 1} → statement M
-single-frame-spec = tie.close (tie.spec (λ c. search rules) (λ c κs. search rules) returns)
+pub single_frame_spec : {M : Type 1} → statement M
+single_frame_spec = tie.close (tie.spec (λ c. search rules) (λ c κs. search rules) returns)

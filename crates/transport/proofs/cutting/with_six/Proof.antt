@@ -6,19 +6,19 @@ use Rattle.transport.proofs.cutting.with_six.Tie as tie
 
 returns : tie.Need-returns
 returns c =
-    let d = c.before.before.before in
+    let d = c in
     simp (
       six,
-      d.before.before.data-byte.ensures,
-      d.before.data-byte2.ensures,
-      d.data-byte3.ensures,
-      c.before.before.data-byte4.ensures,
-      c.before.data-byte5.ensures,
-      c.data-byte6.ensures,
+      d.before.before.before.before.before.data_byte.ensures,
+      d.before.before.before.before.data_byte-2.ensures,
+      d.before.before.before.data_byte-3.ensures,
+      c.before.before.data_byte-4.ensures,
+      c.before.data_byte-5.ensures,
+      c.data_byte-6.ensures,
     )
 
-pub with-six-spec : {M : Type 1} → statement M
-with-six-spec =
+pub with_six_spec : {M : Type 1} → statement M
+with_six_spec =
     tie.close
     (tie.spec (λ c κs. search rules) (λ c. search rules) (λ c κs. search rules) (λ c. search rules)
     (λ c κs. search rules) (λ c. search rules) (λ c κs. search rules) (λ c. search rules) (λ c κs. search rules)

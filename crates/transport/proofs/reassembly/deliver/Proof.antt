@@ -6,12 +6,12 @@ use Rattle.transport.proofs.reassembly.deliver.Tie as tie
 
 returns : tie.Need-returns
 returns c =
-    let d = c.before.before.before.before.before.before.before in
-    let a = d.args in
-    delivered a.buffer.now a.frame.now _ a.place a.from a.n d.requires.0 c.before.before.copy.ensures
+    let d = c in
+    let a = d.before.before.before.before.before.before.before.args in
+    delivered a.buffer.now a.frame.now _ a.place a.from a.n d.before.before.before.before.before.before.before.requires.0 c.before.before.copy.ensures
 
-pub deliver-spec : {M : Type 1} → statement M
-deliver-spec =
+pub deliver_spec : {M : Type 1} → statement M
+deliver_spec =
     tie.close
     (tie.spec (λ c. search rules) (λ c. search rules) (λ c. search rules) (λ c. search rules) (λ c. search rules)
     (λ c. search rules) (λ c. search rules) (λ c. search rules) (λ c κs. search rules) (λ c. search rules)

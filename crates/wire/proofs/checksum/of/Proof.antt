@@ -11,7 +11,7 @@ use Rattle.wire.proofs.AnswerLaws.{sum_told}
 use Rattle.wire.proofs.checksum.of.Statement.{statement}
 use Rattle.wire.proofs.checksum.of.Tie as tie
 
-returns : tie.Need-returns
+returns : tie.Need-returns-then-data-le8
 unfolding checksum_of checksum_byte inverted
 returns c =
     let a = c.before.before.before.before.before.before.args in
@@ -24,7 +24,7 @@ returns c =
       ← (sum_covered (model_of a.id a.wish)),
     ))
 
-returns-2 : tie.Need-returns-2
+returns-2 : tie.Need-returns-else-id-lt64
 unfolding checksum_of
 returns-2 c =
     let a = c.before.before.before.args in
@@ -32,7 +32,7 @@ returns-2 c =
     (⊎_elim (λ w. simp (lt-ltb _ _ w.0.taken, w.1.taken, w.2.left, c.refused.ensures))
     (⊎_elim (λ w. simp (lt-ltb _ _ w.0.taken, w.1.left, c.refused.ensures))
     (λ w. simp (le-ltb _ _ w.left, c.refused.ensures)))
-    c.before.if1.branch)
+    c.before.else-id-lt64.branch)
 
 pub of_spec : {M : Type 1} → statement M
 of_spec = tie.close (tie.spec (λ c κs. search rules) (λ c κs. search rules) (λ c. search rules) (λ c κs. search rules) returns

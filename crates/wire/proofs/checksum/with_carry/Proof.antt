@@ -1,15 +1,20 @@
--- `wire::checksum::with_carry` meets its contract: the byte has no room where the sum is 256 or more.
+-- `wire::checksum::with_carry` meets its contract: each arm is a case of the definition's test.
+use Prim.Native.Nat.{◌+◌}
 use native.Mathlib.Omega.{arith}
 use borrow.Author.Rules.{rules}
-use Rattle.wire.proofs.Sums.{no_carry, carry}
+use borrow.Author.Tests.{lt-ltb, le-ltb}
+use Rattle.wire.specs.Checksum.{with_carry}
 use Rattle.wire.proofs.checksum.with_carry.Statement.{statement}
 use Rattle.wire.proofs.checksum.with_carry.Tie as tie
 
-returns : tie.Need-returns
-returns c = omega (arith, carry c.before.args.sum c.before.args.byte (omega arith))
+returns : tie.Need-returns-then-added-gt255
+unfolding with_carry
+returns c = simp (le-ltb (c.before.args.sum + c.before.args.byte) 256 (omega arith))
 
-returns-2 : tie.Need-returns-2
-returns-2 c = omega (arith, no_carry c.before.args.sum c.before.args.byte (omega arith))
+returns-2 : tie.Need-returns-else-added-gt255
+unfolding with_carry
+returns-2 c = simp (lt-ltb (c.before.args.sum + c.before.args.byte) 256 (omega arith))
 
-pub with-carry-spec : {M : Type 1} → statement M
-with-carry-spec = tie.close (tie.spec (λ c. search rules) (λ c. search rules) (λ c. search rules) returns returns-2)
+pub with_carry_spec : {M : Type 1} → statement M
+with_carry_spec =
+    tie.close (tie.spec (λ c. search rules) (λ c. search rules) (λ c. search rules) (λ c. search rules) returns returns-2)

@@ -11,19 +11,19 @@ use Rattle.wire.proofs.ListLaws.{right_at, listed}
 use Rattle.wire.proofs.identifier.build.Statement.{statement}
 use Rattle.wire.proofs.identifier.build.Tie as tie
 
-protected-in-requires : tie.Need-protected-in-requires
+protected-in-requires : tie.Need-protected_in-requires
 unfolding right_at protected_byte p0 p1 bit xor
-protected-in-requires c κs = (listed _ refl refl, c.before.if1.true)
+protected-in-requires c κs = (listed _ refl refl, c.before.before.if-id-lt64.true)
 
-returns : tie.Need-returns
+returns : tie.Need-returns-then-id-lt64
 unfolding protected_of
 returns c =
-    let id = c.before.before.before.args.id in
-    build_told id _ (simp (lt-ltb id 64 (omega arith), c.protected-in.ensures))
+    let id = c.before.before.before.before.args.id in
+    build_told id _ (simp (lt-ltb id 64 (omega arith), c.protected_in.ensures))
 
-returns-2 : tie.Need-returns-2
+returns-2 : tie.Need-returns-else-id-lt64
 unfolding protected_of
 returns-2 c = build_told c.before.before.args.id _ (simp (le-ltb c.before.before.args.id 64 (omega arith), c.refused.ensures))
 
-pub build-spec : {M : Type 1} → statement M
-build-spec = tie.close (tie.spec (λ c. search rules) protected-in-requires (λ c κs. search rules) returns returns-2)
+pub build_spec : {M : Type 1} → statement M
+build_spec = tie.close (tie.spec (λ c. search rules) protected-in-requires (λ c κs. search rules) returns returns-2)

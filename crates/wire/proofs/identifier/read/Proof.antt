@@ -13,23 +13,23 @@ use Rattle.wire.proofs.ListLaws.{right_at, listed}
 use Rattle.wire.proofs.identifier.read.Statement.{statement}
 use Rattle.wire.proofs.identifier.read.Tie as tie
 
-protected-in-requires : tie.Need-protected-in-requires
+protected-in-requires : tie.Need-protected_in-requires
 unfolding right_at protected_byte p0 p1 bit xor
 protected-in-requires c κs = (listed _ refl refl, omega arith)
 
-returns : tie.Need-returns
+returns : tie.Need-returns-then-protected_in-protected
 unfolding read_of
 returns c =
-    let b : c.before.before.before.args.protected < 256 = omega arith in
-    read_told_lem _ _ (simp (parity_built _ b, eq-eqb _ _ (sym c.before.protected-in.ensures ∙ c.if1.true)))
+    let b : c.before.before.before.before.args.protected < 256 = omega arith in
+    read_told_lem _ _ (simp (parity_built _ b, eq-eqb _ _ (sym c.before.protected_in.ensures ∙ c.if-protected_in-protected.true)))
 
-returns-2 : tie.Need-returns-2
+returns-2 : tie.Need-returns-else-protected_in-protected
 unfolding read_of
 returns-2 c =
-    let b : c.before.before.before.before.args.protected < 256 = omega arith in
+    let b : c.before.before.before.before.before.args.protected < 256 = omega arith in
     read_told_lem _ _ (simp (
       parity_built _ b,
-      ne_eqb _ _ (λ e. c.before.if1.false (c.before.before.protected-in.ensures ∙ e)),
+      ne_eqb _ _ (λ e. c.before.if-protected_in-protected.false (c.before.before.protected_in.ensures ∙ e)),
       c.refused.ensures,
     ))
 

@@ -4,24 +4,24 @@ use Rattle.master.specs.Fits.{message_fits}
 use Rattle.master.proofs.state.Message.fits.Statement.{statement}
 use Rattle.master.proofs.state.Message.fits.Tie as tie
 
-returns : tie.Need-returns
+returns : tie.Need-returns-in-None
 unfolding message_fits
-returns c = rw c.enum_told.given.1
+returns c = rw c.in-None.is
 
-returns-2 : tie.Need-returns-2
+returns-2 : tie.Need-returns-in-Sending
 unfolding message_fits
-returns-2 c = rw (c.before.before.self.given.1, c.fits2.ensures)
+returns-2 c = rw (c.before.in-Sending.is, c.fits.ensures)
 
-returns-3 : tie.Need-returns-3
+returns-3 : tie.Need-returns-in-Completed
 unfolding message_fits
-returns-3 c = rw c.enum-told2.given.1
+returns-3 c = rw c.in-Completed.is
 
-returns-4 : tie.Need-returns-4
+returns-4 : tie.Need-returns-in-Failed
 unfolding message_fits
-returns-4 c = rw c.enum-told3.given.1
+returns-4 c = rw c.in-Failed.is
 
-pub fits-spec : {M : Type 1} → statement M
-fits-spec =
+pub fits_spec : {M : Type 1} → statement M
+fits_spec =
     tie.close
     (tie.spec (λ c. search rules) (λ c. search rules) (λ c κs. search rules) (λ c. search rules)
     (λ c. search rules) returns returns-2 returns-3 returns-4)

@@ -10,27 +10,27 @@ use Rattle.master.specs.Byte.{checksum_right}
 use Rattle.master.proofs.state.Opened.checksum_right.Statement.{statement}
 use Rattle.master.proofs.state.Opened.checksum_right.Tie as tie
 
-array-read-result : tie.Need-array-read-result
-array-read-result c = omega (arith, c.length.ensures, c.before.before.requires.2)
+array-read-result : tie.Need-bounds-nine-n
+array-read-result c = omega (arith, c.length-n.ensures, c.before.before.requires.2)
 
 part-checksum-end : tie.Need-slice-bounds-checksum-end
 part-checksum-end c = omega (arith, c.before.length.ensures, c.before.before.before.requires.2)
 
 checksum-requires : tie.Need-checksum-requires
 checksum-requires c κs =
-    let a = c.before.before.before.before.args in
-    let asked = c.before.before.before.before.requires in
-    let told = c.before.before.length in
+    let a = c.before.before.before.args in
+    let asked = c.before.before.before.requires in
+    let told = c.before.length-n in
     let l : length a.t3 ≡ 9 = search rules in
     let k = first_length_lem a.t3 told.result (omega (arith, l, told.ensures, asked.2)) in
     (asked.0, omega (arith, k, told.ensures, asked.1), omega (arith, k, told.ensures, asked.2))
 
 returns : tie.Need-returns
 unfolding checksum_right
-returns c = rw (c.checksum.ensures, c.before.before.before.length.ensures, sub-zero)
+returns c = rw (c.checksum.ensures, c.before.before.length-n.ensures, sub-zero)
 
-pub checksum-right-spec : {M : Type 1} → statement M
-checksum-right-spec =
+pub checksum_right_spec : {M : Type 1} → statement M
+checksum_right_spec =
     tie.close
     (tie.spec (λ c κs. search rules) (λ c. search rules) array-read-result (λ c. search rules)
     (λ c. search rules) part-checksum-end checksum-requires returns)

@@ -8,5 +8,5 @@ returns : tie.Need-returns
 unfolding copied
 returns c = rw (c.nine.ensures, c.before.checksum.ensures)
 
-pub copied-spec : {M : Type 1} → statement M
-copied-spec = tie.close (tie.spec (λ c κs. search rules) (λ c κs. search rules) returns)
+pub copied_spec : {M : Type 1} → statement M
+copied_spec = tie.close (tie.spec (λ c κs. search rules) (λ c κs. search rules) returns)

@@ -4,28 +4,28 @@ use Rattle.master.specs.Transfers.{format_of}
 use Rattle.master.proofs.state.Opened.format.Statement.{statement}
 use Rattle.master.proofs.state.Opened.format.Tie as tie
 
-returns : tie.Need-returns
+returns : tie.Need-returns-in-Nothing
 unfolding format_of
-returns c = rw (c.before.enum_told.given.1, c.of.ensures)
+returns c = rw (c.before.in-Nothing.is, c.of.ensures)
 
-returns-2 : tie.Need-returns-2
+returns-2 : tie.Need-returns-in-Frame
 unfolding format_of
 returns-2 c =
     let length = c.before.before.before.length in
     let identifier = c.before.before.before.before.identifier in
-    let opened = c.before.before.before.before.before.before.self in
-    rw (opened.given.1, c.of2.ensures, c.before.published.ensures, c.before.before.model.ensures, length.ensures, identifier.ensures)
+    let opened = c.before.before.before.before.before.in-Frame in
+    rw (opened.is, c.of-in-Frame.ensures, c.before.published.ensures, c.before.before.model.ensures, length.ensures, identifier.ensures)
 
-returns-3 : tie.Need-returns-3
+returns-3 : tie.Need-returns-in-Request
 unfolding format_of
-returns-3 c = rw (c.before.enum-told2.given.1, c.of3.ensures)
+returns-3 c = rw (c.before.in-Request.is, c.of-in-Request.ensures)
 
-returns-4 : tie.Need-returns-4
+returns-4 : tie.Need-returns-in-Response
 unfolding format_of
-returns-4 c = rw (c.before.enum-told3.given.1, c.of4.ensures)
+returns-4 c = rw (c.before.in-Response.is, c.of-in-Response.ensures)
 
-pub format-spec : {M : Type 1} → statement M
-format-spec =
+pub format_spec : {M : Type 1} → statement M
+format_spec =
     tie.close
     (tie.spec (λ c. search rules) (λ c κs. search rules) (λ c. search rules) (λ c κs. search rules) (λ c κs. search rules)
     (λ c κs. search rules) (λ c κs. search rules) (λ c κs. search rules) (λ c. search rules) (λ c κs. search rules)

@@ -4,24 +4,24 @@ use Rattle.master.specs.Fits.{entry_opens}
 use Rattle.master.proofs.state.Opened.of_entry.Statement.{statement}
 use Rattle.master.proofs.state.Opened.of_entry.Tie as tie
 
-returns : tie.Need-returns
+returns : tie.Need-returns-in-Nothing
 unfolding entry_opens
-returns c = rw c.enum_told.given.1
+returns c = rw c.in-Nothing.is
 
-returns-2 : tie.Need-returns-2
+returns-2 : tie.Need-returns-in-Frame
 unfolding entry_opens
-returns-2 c = rw (c.before.before.self.given.1, c.opens-frame.ensures)
+returns-2 c = rw (c.before.in-Frame.is, c.opens_frame.ensures)
 
-returns-3 : tie.Need-returns-3
+returns-3 : tie.Need-returns-in-Request
 unfolding entry_opens
-returns-3 c = rw (c.before.enum-told2.given.1, c.opens-request.ensures)
+returns-3 c = rw (c.before.in-Request.is, c.opens_request.ensures)
 
-returns-4 : tie.Need-returns-4
+returns-4 : tie.Need-returns-in-Response
 unfolding entry_opens
-returns-4 c = rw (c.before.enum-told3.given.1, c.kind.ensures)
+returns-4 c = rw (c.before.in-Response.is, c.kind.ensures)
 
-pub of-entry-spec : {M : Type 1} → statement M
-of-entry-spec =
+pub of_entry_spec : {M : Type 1} → statement M
+of_entry_spec =
     tie.close
     (tie.spec (λ c. search rules) (λ c. search rules) (λ c κs. search rules) (λ c. search rules)
     (λ c κs. search rules) (λ c. search rules) (λ c κs. search rules) returns returns-2 returns-3 returns-4)

@@ -6,7 +6,7 @@ use Rattle.master.proofs.state.Opened.opening.Tie as tie
 
 returns : tie.Need-returns
 unfolding opening
-returns c = rw c.first-bytes.ensures
+returns c = rw c.first_bytes.ensures
 
-pub opening-spec : {M : Type 1} → statement M
-opening-spec = tie.close (tie.spec (λ c κs. search rules) returns)
+pub opening_spec : {M : Type 1} → statement M
+opening_spec = tie.close (tie.spec (λ c κs. search rules) returns)

@@ -4,24 +4,24 @@ use Rattle.master.specs.Received.{received_by}
 use Rattle.master.proofs.state.Opened.received_by.Statement.{statement}
 use Rattle.master.proofs.state.Opened.received_by.Tie as tie
 
-returns : tie.Need-returns
+returns : tie.Need-returns-in-Nothing
 unfolding received_by
-returns c = rw c.enum_told.given.1
+returns c = rw c.in-Nothing.is
 
-returns-2 : tie.Need-returns-2
+returns-2 : tie.Need-returns-in-Frame
 unfolding received_by
-returns-2 c = rw (c.before.before.self.given.1, c.received-in.ensures)
+returns-2 c = rw (c.before.in-Frame.is, c.received_in.ensures)
 
-returns-3 : tie.Need-returns-3
+returns-3 : tie.Need-returns-in-Request
 unfolding received_by
-returns-3 c = rw c.enum-told2.given.1
+returns-3 c = rw c.in-Request.is
 
-returns-4 : tie.Need-returns-4
+returns-4 : tie.Need-returns-in-Response
 unfolding received_by
-returns-4 c = rw c.enum-told3.given.1
+returns-4 c = rw c.in-Response.is
 
-pub received-by-spec : {M : Type 1} → statement M
-received-by-spec =
+pub received_by_spec : {M : Type 1} → statement M
+received_by_spec =
     tie.close
     (tie.spec (λ c. search rules) (λ c. search rules) (λ c κs. search rules) (λ c. search rules) (λ c. search rules)
     returns returns-2 returns-3 returns-4)

@@ -6,5 +6,5 @@ use Rattle.master.proofs.state.Opened.sends.Tie as tie
 returns : tie.Need-returns
 returns c = rw c.format.ensures
 
-pub sends-spec : {M : Type 1} → statement M
-sends-spec = tie.close (tie.spec (λ c κs. search rules) returns)
+pub sends_spec : {M : Type 1} → statement M
+sends_spec = tie.close (tie.spec (λ c κs. search rules) returns)

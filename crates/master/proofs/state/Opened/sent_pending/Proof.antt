@@ -10,28 +10,28 @@ use Rattle.master.proofs.state.Opened.sent_pending.Tie as tie
 
 cleared-requires : tie.Need-cleared-requires
 cleared-requires c κs =
-    let a = c.before.before.before.before.args in
-    let asked = c.before.before.before.before.requires in
-    omega (arith, frame_below a.t.now asked.0 c.before.self.given.0.0 (rw c.before.self.given.1 at asked.1), frame_count_lem a.t.now asked.0)
+    let a = c.before.before.args in
+    let asked = c.before.before.requires in
+    omega (arith, frame_below a.t.now asked.0 c.in-Frame.f (rw c.in-Frame.is at asked.1), frame_count_lem a.t.now asked.0)
 
-returns : tie.Need-returns
+returns : tie.Need-returns-in-Nothing
 unfolding pending_sent
-returns c = rw c.enum_told.given.1
+returns c = rw c.in-Nothing.is
 
-returns-2 : tie.Need-returns-2
+returns-2 : tie.Need-returns-in-Frame
 unfolding pending_sent
-returns-2 c = rw (c.before.before.self.given.1, c.cleared.ensures)
+returns-2 c = rw (c.before.in-Frame.is, c.cleared.ensures)
 
-returns-3 : tie.Need-returns-3
+returns-3 : tie.Need-returns-in-Request
 unfolding pending_sent
-returns-3 c = rw c.enum-told2.given.1
+returns-3 c = rw c.in-Request.is
 
-returns-4 : tie.Need-returns-4
+returns-4 : tie.Need-returns-in-Response
 unfolding pending_sent
-returns-4 c = rw c.enum-told3.given.1
+returns-4 c = rw c.in-Response.is
 
-pub sent-pending-spec : {M : Type 1} → statement M
-sent-pending-spec =
+pub sent_pending_spec : {M : Type 1} → statement M
+sent_pending_spec =
     tie.close
     (tie.spec (λ c. search rules) (λ c. search rules) cleared-requires (λ c. search rules) (λ c. search rules)
     returns returns-2 returns-3 returns-4)

@@ -3,20 +3,20 @@ use borrow.Author.Rules.{rules}
 use Rattle.master.proofs.state.Opened.touched.Statement.{statement}
 use Rattle.master.proofs.state.Opened.touched.Tie as tie
 
-returns : tie.Need-returns
-returns c = rw c.enum_told.given.1
+returns : tie.Need-returns-in-Nothing
+returns c = rw c.in-Nothing.is
 
-returns-2 : tie.Need-returns-2
-returns-2 c = rw (c.before.before.self.given.1, c.touches.ensures)
+returns-2 : tie.Need-returns-in-Frame
+returns-2 c = rw (c.before.in-Frame.is, c.touches.ensures)
 
-returns-3 : tie.Need-returns-3
-returns-3 c = rw c.enum-told2.given.1
+returns-3 : tie.Need-returns-in-Request
+returns-3 c = rw c.in-Request.is
 
-returns-4 : tie.Need-returns-4
-returns-4 c = rw c.enum-told3.given.1
+returns-4 : tie.Need-returns-in-Response
+returns-4 c = rw c.in-Response.is
 
-pub touched-spec : {M : Type 1} → statement M
-touched-spec =
+pub touched_spec : {M : Type 1} → statement M
+touched_spec =
     tie.close
     (tie.spec (λ c. search rules) (λ c. search rules) (λ c κs. search rules) (λ c. search rules)
     (λ c. search rules) returns returns-2 returns-3 returns-4)

@@ -6,5 +6,5 @@ use Rattle.master.proofs.state.Plan.begun.Tie as tie
 returns : tie.Need-returns
 returns c = rw c.delay.ensures
 
-pub begun-spec : {M : Type 1} → statement M
-begun-spec = tie.close (tie.spec (λ c κs. search rules) returns)
+pub begun_spec : {M : Type 1} → statement M
+begun_spec = tie.close (tie.spec (λ c κs. search rules) returns)

@@ -8,5 +8,5 @@ returns : tie.Need-returns
 unfolding wait_fits
 returns c = rw c.before.delay.ensures
 
-pub wait-fits-spec : {M : Type 1} → statement M
-wait-fits-spec = tie.close (tie.spec (λ c κs. search rules) returns)
+pub wait_fits_spec : {M : Type 1} → statement M
+wait_fits_spec = tie.close (tie.spec (λ c κs. search rules) returns)

@@ -4,12 +4,12 @@ use Rattle.master.specs.Received.{last_fits}
 use Rattle.master.proofs.state.Reception.fits.Statement.{statement}
 use Rattle.master.proofs.state.Reception.fits.Tie as tie
 
-returns : tie.Need-returns
+returns : tie.Need-returns-in-Never
 unfolding last_fits
-returns c = rw c.enum_told.given.1
+returns c = rw c.in-Never.is
 
-returns-2 : tie.Need-returns-2
-returns-2 c = rw c.before.before.last.given.1 c.placed.ensures
+returns-2 : tie.Need-returns-in-Placement
+returns-2 c = rw c.before.in-Placement.is c.placed.ensures
 
-pub fits-spec : {M : Type 1} → statement M
-fits-spec = tie.close (tie.spec (λ c. search rules) (λ c. search rules) (λ c κs. search rules) returns returns-2)
+pub fits_spec : {M : Type 1} → statement M
+fits_spec = tie.close (tie.spec (λ c. search rules) (λ c. search rules) (λ c κs. search rules) returns returns-2)

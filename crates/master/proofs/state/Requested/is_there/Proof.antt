@@ -3,13 +3,13 @@ use borrow.Author.Rules.{rules}
 use Rattle.master.proofs.state.Requested.is_there.Statement.{statement}
 use Rattle.master.proofs.state.Requested.is_there.Tie as tie
 
-returns : tie.Need-returns
-returns c = rw c.enum_told.given.1
+returns : tie.Need-returns-in-None
+returns c = rw c.in-None.is
 
-returns-2 : tie.Need-returns-2
-returns-2 c = rw (c.before.before.self.given.1, c.schedules.ensures.0)
+returns-2 : tie.Need-returns-in-Schedule
+returns-2 c = rw (c.before.in-Schedule.is, c.schedules.ensures.0)
 
-pub is-there-spec : {M : Type 1} → statement M
-is-there-spec =
+pub is_there_spec : {M : Type 1} → statement M
+is_there_spec =
     tie.close (tie.spec (λ c. search rules) (λ c. search rules) (λ c. search rules) (λ c κs. search rules) returns
     returns-2)

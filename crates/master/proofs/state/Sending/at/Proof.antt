@@ -3,11 +3,11 @@ use borrow.Author.Tests.{le-ltb, lt-ltb}
 use Rattle.master.proofs.state.Sending.at.Statement.{statement}
 use Rattle.master.proofs.state.Sending.at.Tie as tie
 
-returns : tie.Need-returns
-returns c = rw (lt-ltb _ _ c.if1.true)
+returns : tie.Need-returns-then-next-frames
+returns c = rw (lt-ltb _ _ c.if-next-frames.true)
 
-returns-2 : tie.Need-returns-2
-returns-2 c = rw (le-ltb _ _ c.if1.false)
+returns-2 : tie.Need-returns-else-next-frames
+returns-2 c = rw (le-ltb _ _ c.if-next-frames.false)
 
-pub at-spec : {M : Type 1} → statement M
-at-spec = tie.close (tie.spec returns returns-2)
+pub at_spec : {M : Type 1} → statement M
+at_spec = tie.close (tie.spec returns returns-2)

@@ -5,20 +5,20 @@ use Rattle.master.proofs.Counted.{counted_frames, counted_refused}
 use Rattle.master.proofs.state.Sending.fits.Statement.{statement}
 use Rattle.master.proofs.state.Sending.fits.Tie as tie
 
-returns : tie.Need-returns
+returns : tie.Need-returns-in-Frames
 returns c =
-    let a = c.before.before.before.before.before.before.args in
-    let count = c.before.before.before.before.count in
-    let frames = c.before.before.frames in
-    counted_frames a.self.length a.self.next frames.given.0.0 (sym count.ensures.0 ∙ frames.given.1)
+    let a = c.before.before.before.before.args in
+    let count = c.before.before.count in
+    let frames = c.before.in-Frames in
+    counted_frames a.self.length a.self.next frames.frames (sym count.ensures.0 ∙ frames.is)
 
-returns-2 : tie.Need-returns-2
+returns-2 : tie.Need-returns-in-Refused
 returns-2 c =
-    let a = c.before.before.before.before.before.args in
-    counted_refused a.self.length a.self.next c.before.refusal.given.0.0 (sym c.before.before.before.count.ensures.0 ∙ c.before.refusal.given.1)
+    let a = c.before.before.before.args in
+    counted_refused a.self.length a.self.next c.in-Refused.refusal (sym c.before.count.ensures.0 ∙ c.in-Refused.is)
 
-pub fits-spec : {M : Type 1} → statement M
-fits-spec =
+pub fits_spec : {M : Type 1} → statement M
+fits_spec =
     tie.close
     (tie.spec (λ c. search rules) (λ c κs. search rules) (λ c. search rules) (λ c. search rules) returns
     returns-2)

@@ -7,26 +7,26 @@ use Rattle.master.specs.Message.{moved}
 use Rattle.master.proofs.state.Sending.moved.Statement.{statement}
 use Rattle.master.proofs.state.Sending.moved.Tie as tie
 
-add-next : tie.Need-overflow-add-next
+add-next : tie.Need-overflow_add-next
 add-next c = omega (arith, next_high c.before.args.self c.before.requires)
 
-returns : tie.Need-returns
+returns : tie.Need-returns-in-Frames
 unfolding moved
 returns c =
-    let a = c.before.before.before.before.before.before.before.args in
-    let count = c.before.before.before.before.count in
-    let frames = c.before.before.frames in
-    rw (c.at.ensures, frames_counted a.self.length frames.given.0.0 (sym count.ensures.0 ∙ frames.given.1))
+    let a = c.before.before.before.before.before.args in
+    let count = c.before.before.count in
+    let frames = c.before.in-Frames in
+    rw (c.at.ensures, frames_counted a.self.length frames.frames (sym count.ensures.0 ∙ frames.is))
 
-returns-2 : tie.Need-returns-2
+returns-2 : tie.Need-returns-in-Refused
 unfolding moved
 returns-2 c =
-    let a = c.before.before.before.before.before.before.args in
-    let asked = c.before.before.before.before.before.before.requires in
-    absurd (never_refused a.self asked c.before.refusal.given.0.0 (sym c.before.before.before.count.ensures.0 ∙ c.before.refusal.given.1))
+    let a = c.before.before.before.before.args in
+    let asked = c.before.before.before.before.requires in
+    absurd (never_refused a.self asked c.in-Refused.refusal (sym c.before.count.ensures.0 ∙ c.in-Refused.is))
 
-pub moved-spec : {M : Type 1} → statement M
-moved-spec =
+pub moved_spec : {M : Type 1} → statement M
+moved_spec =
     tie.close
     (tie.spec add-next (λ c. search rules) (λ c κs. search rules) (λ c. search rules) (λ c κs. search rules)
     (λ c. search rules) returns returns-2)

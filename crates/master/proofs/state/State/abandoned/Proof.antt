@@ -4,13 +4,13 @@ use Rattle.master.specs.Tick.{abandoned}
 use Rattle.master.proofs.state.State.abandoned.Statement.{statement}
 use Rattle.master.proofs.state.State.abandoned.Tie as tie
 
-returns : tie.Need-returns
+returns : tie.Need-returns-then-is_open
 unfolding abandoned
-returns c = rw (← c.before.before.before.is_open.ensures, c.before.before.if1.true, c.failed.ensures)
+returns c = rw (← c.before.before.before.is_open.ensures, c.before.before.if-is_open.true, c.failed.ensures)
 
-returns-2 : tie.Need-returns-2
+returns-2 : tie.Need-returns
 unfolding abandoned
-returns-2 c = rw (← c.before.is_open.ensures, c.if1.false)
+returns-2 c = rw (← c.before.is_open.ensures, c.if-is_open.false)
 
-pub abandoned-spec : {M : Type 1} → statement M
-abandoned-spec = tie.close (tie.spec (λ c κs. search rules) (λ c κs. search rules) returns returns-2)
+pub abandoned_spec : {M : Type 1} → statement M
+abandoned_spec = tie.close (tie.spec (λ c κs. search rules) (λ c κs. search rules) returns returns-2)

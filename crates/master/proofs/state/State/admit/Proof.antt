@@ -6,51 +6,51 @@ use Rattle.master.proofs.ToldLaws.{head_told}
 use Rattle.master.proofs.state.State.admit.Statement.{statement}
 use Rattle.master.proofs.state.State.admit.Tie as tie
 
-returns : tie.Need-returns
+returns : tie.Need-returns-in-Refused
 unfolding admitted
-returns c = head_told _ _ _ _ (rw (← c.before.before.before.taken.ensures.0, c.before.refusal.given.1))
+returns c = head_told _ _ _ _ (rw (← c.before.taken.ensures.0, c.in-Refused.is))
 
-returns-2 : tie.Need-returns-2
+returns-2 : tie.Need-returns-then-size-buffer_size
 unfolding admitted
 returns-2 c =
-    let taken = c.before.before.before.before.before.taken in
-    head_told _ _ _ _ (rw (← taken.ensures.0, c.before.before.before.enum_told.given.1, ← c.before.before.buffer-size.ensures, ne_eqb _ _ c.before.if1.true, c.refused.ensures))
+    let taken = c.before.before.before.before.taken in
+    head_told _ _ _ _ (rw (← taken.ensures.0, c.before.before.before.in_default.is, ← c.before.before.buffer_size.ensures, ne_eqb _ _ c.before.if-size-buffer_size.true, c.refused.ensures))
 
-returns-3 : tie.Need-returns-3
+returns-3 : tie.Need-returns-then-not-fits
 unfolding admitted
 returns-3 c =
-    let taken = c.before.before.before.before.before.before.before.taken in
-    let enum_told = c.before.before.before.before.before.enum_told in
-    let buffer-size = c.before.before.before.before.buffer-size in
-    let fits2 = c.before.before.fits2 in
+    let taken = c.before.before.before.before.before.before.taken in
+    let enum_told = c.before.before.before.before.before.in_default in
+    let buffer-size = c.before.before.before.before.buffer_size in
+    let fits2 = c.before.before.fits in
     head_told _ _ _ _ (rw (
       ← taken.ensures.0,
-      enum_told.given.1,
+      enum_told.is,
       ← buffer-size.ensures,
-      eq-eqb _ _ c.before.before.before.if1.false,
+      eq-eqb _ _ c.before.before.before.if-size-buffer_size.false,
       ←
           fits2.ensures,
-      not-true fits2.result c.before.if2.true,
-      c.refused2.ensures,
+      not-true fits2.result c.before.if-not-fits.true-raw,
+      c.refused-then-not-fits.ensures,
     ))
 
-returns-4 : tie.Need-returns-4
+returns-4 : tie.Need-returns
 unfolding admitted
 returns-4 c =
-    let taken = c.before.before.before.before.before.before.taken in
-    let enum_told = c.before.before.before.before.enum_told in
+    let taken = c.before.before.before.before.before.taken in
+    let enum_told = c.before.before.before.before.in_default in
     head_told _ _ _ _ (rw (
       ← taken.ensures.0,
-      enum_told.given.1,
-      ← c.before.before.before.buffer-size.ensures,
+      enum_told.is,
+      ← c.before.before.before.buffer_size.ensures,
       eq-eqb _ _
-          c.before.before.if1.false,
-      ← c.before.fits2.ensures,
-      not-false c.before.fits2.result c.if2.false,
+          c.before.before.if-size-buffer_size.false,
+      ← c.before.fits.ensures,
+      not-false c.before.fits.result c.if-not-fits.false-raw,
     ))
 
-pub admit-spec : {M : Type 1} → statement M
-admit-spec =
+pub admit_spec : {M : Type 1} → statement M
+admit_spec =
     tie.close
     (tie.spec (λ c κs. search rules) (λ c. search rules) returns (λ c. search rules) (λ c κs. search rules)
     (λ c κs. search rules) returns-2 (λ c κs. search rules) (λ c κs. search rules) returns-3 returns-4)

@@ -4,57 +4,57 @@ use borrow.Author.Tests.{not-false, not-true}
 use Rattle.master.proofs.state.State.base_fits.Statement.{statement}
 use Rattle.master.proofs.state.State.base_fits.Tie as tie
 
-returns : tie.Need-returns
-returns c = rw (← c.before.is-there.ensures, not-true c.before.is-there.result c.if1.true)
+returns : tie.Need-returns-then-not-is_there
+returns c = rw (← c.before.is_there.ensures, not-true c.before.is_there.result c.if-not-is_there.true-raw)
 
-returns-2 : tie.Need-returns-2
+returns-2 : tie.Need-returns-then-not-is_there-2
 returns-2 c =
-    let is-there = c.before.before.before.is-there in
-    let is-there2 = c.before.is-there2 in
-    rw (← is-there.ensures, not-false is-there.result c.before.before.if1.false, ← is-there2.ensures, not-true is-there2.result c.if2.true)
+    let is-there = c.before.before.before.is_there in
+    let is-there2 = c.before.is_there-2 in
+    rw (← is-there.ensures, not-false is-there.result c.before.before.if-not-is_there.false-raw, ← is-there2.ensures, not-true is-there2.result c.if-not-is_there-2.true-raw)
 
-returns-3 : tie.Need-returns-3
+returns-3 : tie.Need-returns-then-not-wait_fits
 returns-3 c =
-    let is-there = c.before.before.before.before.before.is-there in
-    let is-there2 = c.before.before.before.is-there2 in
-    let wait-fits = c.before.wait-fits in
+    let is-there = c.before.before.before.before.before.is_there in
+    let is-there2 = c.before.before.before.is_there-2 in
+    let wait-fits = c.before.wait_fits in
     rw (
       ← is-there.ensures,
-      not-false is-there.result c.before.before.before.before.if1.false,
+      not-false is-there.result c.before.before.before.before.if-not-is_there.false-raw,
       ← is-there2.ensures,
-      not-false is-there2.result c.before.before.if2.false,
+      not-false is-there2.result c.before.before.if-not-is_there-2.false-raw,
       ← wait-fits.ensures,
-      not-true wait-fits.result c.if3.true,
+      not-true wait-fits.result c.if-not-wait_fits.true-raw,
     )
 
-returns-4 : tie.Need-returns-4
+returns-4 : tie.Need-returns-then-not-pending_fits
 returns-4 c =
-    let is-there = c.before.before.before.before.before.before.before.is-there in
-    let if1 = c.before.before.before.before.before.before.if1 in
-    let is-there2 = c.before.before.before.before.before.is-there2 in
-    let wait-fits = c.before.before.before.wait-fits in
-    let pending-fits = c.before.pending-fits in
+    let is-there = c.before.before.before.before.before.before.before.is_there in
+    let if1 = c.before.before.before.before.before.before.if-not-is_there in
+    let is-there2 = c.before.before.before.before.before.is_there-2 in
+    let wait-fits = c.before.before.before.wait_fits in
+    let pending-fits = c.before.pending_fits in
     rw (
       ← is-there.ensures,
       not-false is-there.result if1.false,
       ← is-there2.ensures,
       not-false is-there2.result
-          c.before.before.before.before.if2.false,
+          c.before.before.before.before.if-not-is_there-2.false-raw,
       ← wait-fits.ensures,
       not-false wait-fits.result
-          c.before.before.if3.false,
+          c.before.before.if-not-wait_fits.false-raw,
       ← pending-fits.ensures,
-      not-true pending-fits.result c.if4.true,
+      not-true pending-fits.result c.if-not-pending_fits.true-raw,
     )
 
-returns-5 : tie.Need-returns-5
+returns-5 : tie.Need-returns-then-not-can_open
 returns-5 c =
-    let is-there = c.before.before.before.before.before.before.before.before.before.is-there in
-    let if1 = c.before.before.before.before.before.before.before.before.if1 in
-    let is-there2 = c.before.before.before.before.before.before.before.is-there2 in
-    let if2 = c.before.before.before.before.before.before.if2 in
-    let wait-fits = c.before.before.before.before.before.wait-fits in
-    let pending-fits = c.before.before.before.pending-fits in
+    let is-there = c.before.before.before.before.before.before.before.before.before.is_there in
+    let if1 = c.before.before.before.before.before.before.before.before.if-not-is_there in
+    let is-there2 = c.before.before.before.before.before.before.before.is_there-2 in
+    let if2 = c.before.before.before.before.before.before.if-not-is_there-2 in
+    let wait-fits = c.before.before.before.before.before.wait_fits in
+    let pending-fits = c.before.before.before.pending_fits in
     rw (
       ← is-there.ensures,
       not-false is-there.result if1.false,
@@ -62,24 +62,24 @@ returns-5 c =
       not-false is-there2.result
           if2.false,
       ← wait-fits.ensures,
-      not-false wait-fits.result c.before.before.before.before.if3.false,
+      not-false wait-fits.result c.before.before.before.before.if-not-wait_fits.false-raw,
       ←
           pending-fits.ensures,
-      not-false pending-fits.result c.before.before.if4.false,
-      ← c.before.can-open.ensures,
-      not-true c.before.can-open.result c.if5.true,
+      not-false pending-fits.result c.before.before.if-not-pending_fits.false-raw,
+      ← c.before.can_open.ensures,
+      not-true c.before.can_open.result c.if-not-can_open.true-raw,
     )
 
-returns-6 : tie.Need-returns-6
+returns-6 : tie.Need-returns-then-not-count_fits
 returns-6 c =
-    let is-there = c.before.before.before.before.before.before.before.before.before.before.before.is-there in
-    let if1 = c.before.before.before.before.before.before.before.before.before.before.if1 in
-    let is-there2 = c.before.before.before.before.before.before.before.before.before.is-there2 in
-    let if2 = c.before.before.before.before.before.before.before.before.if2 in
-    let wait-fits = c.before.before.before.before.before.before.before.wait-fits in
-    let if3 = c.before.before.before.before.before.before.if3 in
-    let pending-fits = c.before.before.before.before.before.pending-fits in
-    let can-open = c.before.before.before.can-open in
+    let is-there = c.before.before.before.before.before.before.before.before.before.before.before.is_there in
+    let if1 = c.before.before.before.before.before.before.before.before.before.before.if-not-is_there in
+    let is-there2 = c.before.before.before.before.before.before.before.before.before.is_there-2 in
+    let if2 = c.before.before.before.before.before.before.before.before.if-not-is_there-2 in
+    let wait-fits = c.before.before.before.before.before.before.before.wait_fits in
+    let if3 = c.before.before.before.before.before.before.if-not-wait_fits in
+    let pending-fits = c.before.before.before.before.before.pending_fits in
+    let can-open = c.before.before.before.can_open in
     let count_fits = c.before.count_fits in
     rw (
       ← is-there.ensures,
@@ -91,25 +91,25 @@ returns-6 c =
       not-false wait-fits.result if3.false,
       ← pending-fits.ensures,
       not-false
-          pending-fits.result c.before.before.before.before.if4.false,
+          pending-fits.result c.before.before.before.before.if-not-pending_fits.false-raw,
       ← can-open.ensures,
       not-false can-open.result
-          c.before.before.if5.false,
+          c.before.before.if-not-can_open.false-raw,
       ← count_fits.ensures,
-      not-true count_fits.result c.if6.true,
+      not-true count_fits.result c.if-not-count_fits.true-raw,
     )
 
-returns-7 : tie.Need-returns-7
+returns-7 : tie.Need-returns
 returns-7 c =
-    let is-there = c.before.before.before.before.before.before.before.before.before.before.before.before.is-there in
-    let if1 = c.before.before.before.before.before.before.before.before.before.before.before.if1 in
-    let is-there2 = c.before.before.before.before.before.before.before.before.before.before.is-there2 in
-    let if2 = c.before.before.before.before.before.before.before.before.before.if2 in
-    let wait-fits = c.before.before.before.before.before.before.before.before.wait-fits in
-    let if3 = c.before.before.before.before.before.before.before.if3 in
-    let pending-fits = c.before.before.before.before.before.before.pending-fits in
-    let if4 = c.before.before.before.before.before.if4 in
-    let can-open = c.before.before.before.before.can-open in
+    let is-there = c.before.before.before.before.before.before.before.before.before.before.before.before.is_there in
+    let if1 = c.before.before.before.before.before.before.before.before.before.before.before.if-not-is_there in
+    let is-there2 = c.before.before.before.before.before.before.before.before.before.before.is_there-2 in
+    let if2 = c.before.before.before.before.before.before.before.before.before.if-not-is_there-2 in
+    let wait-fits = c.before.before.before.before.before.before.before.before.wait_fits in
+    let if3 = c.before.before.before.before.before.before.before.if-not-wait_fits in
+    let pending-fits = c.before.before.before.before.before.before.pending_fits in
+    let if4 = c.before.before.before.before.before.if-not-pending_fits in
+    let can-open = c.before.before.before.before.can_open in
     let count_fits = c.before.before.count_fits in
     rw (
       ← is-there.ensures,
@@ -124,14 +124,14 @@ returns-7 c =
           pending-fits.result if4.false,
       ← can-open.ensures,
       not-false can-open.result
-          c.before.before.before.if5.false,
+          c.before.before.before.if-not-can_open.false-raw,
       ← count_fits.ensures,
-      not-false count_fits.result c.before.if6.false,
-      c.fits2.ensures,
+      not-false count_fits.result c.before.if-not-count_fits.false-raw,
+      c.fits.ensures,
     )
 
-pub base-fits-spec : {M : Type 1} → statement M
-base-fits-spec =
+pub base_fits_spec : {M : Type 1} → statement M
+base_fits_spec =
     tie.close
     (tie.spec (λ c κs. search rules) returns (λ c κs. search rules) returns-2 (λ c κs. search rules) returns-3
     (λ c κs. search rules) returns-4 (λ c κs. search rules) returns-5 (λ c κs. search rules) returns-6

@@ -9,47 +9,47 @@ use Rattle.master.proofs.ToldLaws.{byte_told_lem}
 use Rattle.master.proofs.state.State.byte_in.Statement.{statement}
 use Rattle.master.proofs.state.State.byte_in.Tie as tie
 
-returns : tie.Need-returns
+returns : tie.Need-returns-in-Refused
 unfolding byte_of byte_effect
 returns c =
-    let e = (sym c.before.before.before.before.judge-byte.ensures ∙ c.before.before.refusal.given.1) in
+    let e = (sym c.before.before.judge_byte.ensures ∙ c.before.in-Refused.is) in
     byte_told_lem _ _ _ _ _ _ (record { handed = rw (e, c.answering.ensures); kept = rw e })
 
-sent-byte-requires : tie.Need-sent-byte-requires
+sent-byte-requires : tie.Need-sent_byte-requires
 sent-byte-requires c κs =
-    let a = c.before.before.before.before.before.before.before.before.args in
-    let judge-byte = c.before.before.before.before.before.judge-byte in
-    let e = (sym judge-byte.ensures ∙ c.before.before.before.enum_told.given.1) in
+    let a = c.before.before.before.before.before.before.before.args in
+    let judge-byte = c.before.before.before.before.judge_byte in
+    let e = (sym judge-byte.ensures ∙ c.before.before.before.in_default.is) in
     rw (← byte_size a.t.now (length a.bytes.now) a.self e) e
 
-returns-2 : tie.Need-returns-2
+returns-2 : tie.Need-returns-then-sends
 unfolding byte_of byte_effect
 returns-2 c =
-    let judge-byte = c.before.before.before.before.before.before.judge-byte in
-    let enum_told = c.before.before.before.before.enum_told in
+    let judge-byte = c.before.before.before.before.before.judge_byte in
+    let enum_told = c.before.before.before.before.in_default in
     let sends = c.before.before.sends in
-    let e = (sym judge-byte.ensures ∙ enum_told.given.1) in
-    byte_told_lem _ _ _ _ _ _ (record { handed = rw (e, ← sends.ensures, c.before.if1.true, c.sent-byte.ensures); kept = rw (e, ← sends.ensures, c.before.if1.true) })
+    let e = (sym judge-byte.ensures ∙ enum_told.is) in
+    byte_told_lem _ _ _ _ _ _ (record { handed = rw (e, ← sends.ensures, c.before.if-sends.true, c.sent_byte.ensures); kept = rw (e, ← sends.ensures, c.before.if-sends.true) })
 
-received-byte-requires : tie.Need-received-byte-requires
+received-byte-requires : tie.Need-received_byte-requires
 received-byte-requires c κs =
-    let judge-byte = c.before.before.before.before.before.before.judge-byte in
-    let enum_told = c.before.before.before.before.enum_told in
-    (sym judge-byte.ensures ∙ enum_told.given.1)
+    let judge-byte = c.before.before.before.before.before.judge_byte in
+    let enum_told = c.before.before.before.before.in_default in
+    (sym judge-byte.ensures ∙ enum_told.is)
 
-returns-3 : tie.Need-returns-3
+returns-3 : tie.Need-returns
 unfolding byte_of byte_effect
 returns-3 c =
-    let judge-byte = c.before.before.before.before.before.before.before.before.before.judge-byte in
-    let enum_told = c.before.before.before.before.before.before.before.enum_told in
+    let judge-byte = c.before.before.before.before.before.before.before.before.judge_byte in
+    let enum_told = c.before.before.before.before.before.before.before.in_default in
     let sends = c.before.before.before.before.before.sends in
-    let if1 = c.before.before.before.before.if1 in
-    let e = (sym judge-byte.ensures ∙ enum_told.given.1) in
-    let l = c.before.before.received-byte.ensures in
+    let if1 = c.before.before.before.before.if-sends in
+    let e = (sym judge-byte.ensures ∙ enum_told.is) in
+    let l = c.before.before.received_byte.ensures in
     byte_told_lem _ _ _ _ _ _ (record { handed = rw (e, ← sends.ensures, if1.false) l.handed; kept = rw (e, ← sends.ensures, if1.false) l.kept })
 
-pub byte-in-spec : {M : Type 1} → statement M
-byte-in-spec =
+pub byte_in_spec : {M : Type 1} → statement M
+byte_in_spec =
     tie.close
     (tie.spec (λ c κs. search rules) (λ c. search rules) (λ c κs. search rules) returns (λ c. search rules)
     (λ c κs. search rules) sent-byte-requires returns-2 received-byte-requires (λ c. search rules) returns-3)

@@ -6,10 +6,10 @@ use Rattle.master.proofs.state.State.closed.Tie as tie
 returns : tie.Need-returns
 returns c =
     let none = c.before.before.before.before.none in
-    rw (c.with-status.ensures, c.before.after.ensures, c.before.before.protected.ensures, c.before.before.before.with-transfer.ensures, none.ensures)
+    rw (c.with_status.ensures, c.before.after.ensures, c.before.before.protected.ensures, c.before.before.before.with_transfer.ensures, none.ensures)
 
-pub closed-spec : {M : Type 1} → statement M
-closed-spec =
+pub closed_spec : {M : Type 1} → statement M
+closed_spec =
     tie.close
     (tie.spec (λ c κs. search rules) (λ c κs. search rules) (λ c κs. search rules) (λ c κs. search rules)
     (λ c κs. search rules) returns)

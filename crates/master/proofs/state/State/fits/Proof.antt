@@ -6,15 +6,15 @@ use Rattle.master.specs.Fits.{state_fits}
 use Rattle.master.proofs.state.State.fits.Statement.{statement}
 use Rattle.master.proofs.state.State.fits.Tie as tie
 
-returns : tie.Need-returns
+returns : tie.Need-returns-then-not-base_fits
 unfolding state_fits
-returns c = rw (sym c.before.base-fits.ensures ∙ not-true c.before.base-fits.result c.if1.true)
+returns c = rw (sym c.before.base_fits.ensures ∙ not-true c.before.base_fits.result c.if-not-base_fits.true-raw)
 
-returns-2 : tie.Need-returns-2
+returns-2 : tie.Need-returns
 unfolding state_fits
 returns-2 c =
-    let d = c.before.before in
-    rw (sym d.before.base-fits.ensures ∙ not-false d.before.base-fits.result d.if1.false, c.received-fits.ensures)
+    let d = c in
+    rw (sym d.before.before.before.base_fits.ensures ∙ not-false d.before.before.before.base_fits.result d.before.before.if-not-base_fits.false-raw, c.received_fits.ensures)
 
-pub fits-spec : {M : Type 1} → statement M
-fits-spec = tie.close (tie.spec (λ c κs. search rules) returns (λ c κs. search rules) returns-2)
+pub fits_spec : {M : Type 1} → statement M
+fits_spec = tie.close (tie.spec (λ c κs. search rules) returns (λ c κs. search rules) returns-2)

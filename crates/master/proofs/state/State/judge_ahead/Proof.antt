@@ -5,38 +5,38 @@ use Rattle.master.specs.Ahead.{ahead_verdict}
 use Rattle.master.proofs.state.State.judge_ahead.Statement.{statement}
 use Rattle.master.proofs.state.State.judge_ahead.Tie as tie
 
-returns : tie.Need-returns
+returns : tie.Need-returns-in-Refused
 unfolding ahead_verdict
 returns c =
-    let buffer-size = c.before.before.before.before.buffer-size in
-    rw (← buffer-size.ensures, ← c.before.before.before.admit.ensures.0, c.before.refusal.given.1)
+    let buffer-size = c.before.before.buffer_size in
+    rw (← buffer-size.ensures, ← c.before.admit.ensures.0, c.in-Refused.is)
 
-returns-2 : tie.Need-returns-2
+returns-2 : tie.Need-returns-then-count-of_frame
 unfolding ahead_verdict
 returns-2 c =
-    let buffer-size = c.before.before.before.before.before.before.before.buffer-size in
-    let admit = c.before.before.before.before.before.before.admit in
-    let enum_told = c.before.before.before.before.enum_told in
+    let buffer-size = c.before.before.before.before.before.before.buffer_size in
+    let admit = c.before.before.before.before.before.admit in
+    let enum_told = c.before.before.before.before.in_default in
     rw (
       ← buffer-size.ensures,
       ← admit.ensures.0,
-      enum_told.given.1,
+      enum_told.is,
       ← c.before.before.before.count.ensures,
       ←
-          c.before.before.of-frame.ensures,
-      le-ltb _ _ c.before.if1.true,
+          c.before.before.of_frame.ensures,
+      le-ltb _ _ c.before.if-count-of_frame.true,
       c.refused.ensures,
     )
 
-returns-3 : tie.Need-returns-3
+returns-3 : tie.Need-returns
 unfolding ahead_verdict
 returns-3 c =
-    let buffer-size = c.before.before.before.before.before.before.buffer-size in
-    let admit = c.before.before.before.before.before.admit in
-    rw (← buffer-size.ensures, ← admit.ensures.0, c.before.before.before.enum_told.given.1, ← c.before.before.count.ensures, ← c.before.of-frame.ensures, lt-ltb _ _ c.if1.false)
+    let buffer-size = c.before.before.before.before.before.buffer_size in
+    let admit = c.before.before.before.before.admit in
+    rw (← buffer-size.ensures, ← admit.ensures.0, c.before.before.before.in_default.is, ← c.before.before.count.ensures, ← c.before.of_frame.ensures, lt-ltb _ _ c.if-count-of_frame.false)
 
-pub judge-ahead-spec : {M : Type 1} → statement M
-judge-ahead-spec =
+pub judge_ahead_spec : {M : Type 1} → statement M
+judge_ahead_spec =
     tie.close
     (tie.spec (λ c κs. search rules) (λ c κs. search rules) (λ c. search rules) returns (λ c. search rules)
     (λ c κs. search rules) (λ c κs. search rules) (λ c κs. search rules) returns-2 returns-3)

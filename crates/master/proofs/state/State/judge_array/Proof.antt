@@ -5,17 +5,17 @@ use Rattle.master.proofs.Admitted.{admitted_table}
 use Rattle.master.proofs.state.State.judge_array.Statement.{statement}
 use Rattle.master.proofs.state.State.judge_array.Tie as tie
 
-returns : tie.Need-returns
-returns c = rw (← c.before.before.before.admit.ensures.0, c.before.refusal.given.1)
+returns : tie.Need-returns-in-Refused
+returns c = rw (← c.before.admit.ensures.0, c.in-Refused.is)
 
 writable-requires : tie.Need-writable-requires
-writable-requires c κs = admitted_table _ _ _ (sym c.before.before.before.admit.ensures.0 ∙ c.before.enum_told.given.1)
+writable-requires c κs = admitted_table _ _ _ (sym c.before.before.admit.ensures.0 ∙ c.before.in_default.is)
 
-returns-2 : tie.Need-returns-2
-returns-2 c = rw (← c.before.before.before.before.admit.ensures.0, c.before.before.enum_told.given.1, c.writable.ensures, c.before.array-fits.ensures)
+returns-2 : tie.Need-returns
+returns-2 c = rw (← c.before.before.before.admit.ensures.0, c.before.before.in_default.is, c.writable.ensures, c.before.array_fits.ensures)
 
-pub judge-array-spec : {M : Type 1} → statement M
-judge-array-spec =
+pub judge_array_spec : {M : Type 1} → statement M
+judge_array_spec =
     tie.close
     (tie.spec (λ c κs. search rules) (λ c. search rules) returns (λ c. search rules) (λ c κs. search rules)
     writable-requires returns-2)

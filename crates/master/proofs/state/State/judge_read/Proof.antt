@@ -6,53 +6,53 @@ use Rattle.master.specs.Read.{read_verdict}
 use Rattle.master.proofs.state.State.judge_read.Statement.{statement}
 use Rattle.master.proofs.state.State.judge_read.Tie as tie
 
-returns : tie.Need-returns
+returns : tie.Need-returns-in-Refused
 unfolding read_verdict
-returns c = rw (← c.before.before.before.admit.ensures.0, c.before.refusal.given.1)
+returns c = rw (← c.before.admit.ensures.0, c.in-Refused.is)
 
-returns-2 : tie.Need-returns-2
+returns-2 : tie.Need-returns-then-count-s
 unfolding read_verdict
 returns-2 c =
-    let admit = c.before.before.before.before.before.admit in
-    rw (← admit.ensures.0, c.before.before.before.enum_told.given.1, ← c.before.before.count.ensures, le-ltb _ _ c.before.if1.true, c.refused.ensures)
+    let admit = c.before.before.before.before.admit in
+    rw (← admit.ensures.0, c.before.before.before.in_default.is, ← c.before.before.count.ensures, le-ltb _ _ c.before.if-count-s.true, c.refused.ensures)
 
-returns-3 : tie.Need-returns-3
+returns-3 : tie.Need-returns-then-is_array-array
 unfolding read_verdict
 returns-3 c =
-    let a = c.before.before.before.before.before.before.before.before.before.args in
-    let admit = c.before.before.before.before.before.before.before.admit in
-    let enum_told = c.before.before.before.before.before.enum_told in
-    let count = c.before.before.before.before.count in
-    let is-array = c.before.before.is-array in
-    rw (
-      ← admit.ensures.0,
-      enum_told.given.1,
-      ← count.ensures,
-      lt-ltb _ _ c.before.before.before.if1.false,
-      ←
-          is-array.ensures,
-      not-true (beq is-array.result a.array) c.before.if2.true,
-      c.refused2.ensures,
-    )
-
-returns-4 : tie.Need-returns-4
-unfolding read_verdict
-returns-4 c =
     let a = c.before.before.before.before.before.before.before.before.args in
     let admit = c.before.before.before.before.before.before.admit in
-    let enum_told = c.before.before.before.before.enum_told in
+    let enum_told = c.before.before.before.before.before.in_default in
+    let count = c.before.before.before.before.count in
+    let is-array = c.before.before.is_array in
     rw (
       ← admit.ensures.0,
-      enum_told.given.1,
-      ← c.before.before.before.count.ensures,
-      lt-ltb _ _
-          c.before.before.if1.false,
-      ← c.before.is-array.ensures,
-      not-false (beq c.before.is-array.result a.array) c.if2.false,
+      enum_told.is,
+      ← count.ensures,
+      lt-ltb _ _ c.before.before.before.if-count-s.false,
+      ←
+          is-array.ensures,
+      not-true (beq is-array.result a.array) c.before.if-is_array-array.true,
+      c.refused-then-is_array-array.ensures,
     )
 
-pub judge-read-spec : {M : Type 1} → statement M
-judge-read-spec =
+returns-4 : tie.Need-returns
+unfolding read_verdict
+returns-4 c =
+    let a = c.before.before.before.before.before.before.before.args in
+    let admit = c.before.before.before.before.before.admit in
+    let enum_told = c.before.before.before.before.in_default in
+    rw (
+      ← admit.ensures.0,
+      enum_told.is,
+      ← c.before.before.before.count.ensures,
+      lt-ltb _ _
+          c.before.before.if-count-s.false,
+      ← c.before.is_array.ensures,
+      not-false (beq c.before.is_array.result a.array) c.if-is_array-array.false,
+    )
+
+pub judge_read_spec : {M : Type 1} → statement M
+judge_read_spec =
     tie.close
     (tie.spec (λ c κs. search rules) (λ c. search rules) returns (λ c. search rules) (λ c κs. search rules)
     (λ c κs. search rules) returns-2 (λ c κs. search rules) (λ c κs. search rules) returns-3 returns-4)

@@ -7,22 +7,22 @@ use Rattle.master.proofs.Admitted.{admitted_table}
 use Rattle.master.proofs.state.State.judge_row.Statement.{statement}
 use Rattle.master.proofs.state.State.judge_row.Tie as tie
 
-returns : tie.Need-returns
+returns : tie.Need-returns-in-Refused
 unfolding row_verdict
-returns c = rw (← c.before.before.before.admit.ensures.0, c.before.refusal.given.1)
+returns c = rw (← c.before.admit.ensures.0, c.in-Refused.is)
 
-returns-2 : tie.Need-returns-2
+returns-2 : tie.Need-returns-then-signals-values
 unfolding row_verdict
-returns-2 c = rw (← c.before.before.before.before.admit.ensures.0, c.before.before.enum_told.given.1, ne_eqb _ _ c.before.if1.true, c.refused.ensures)
+returns-2 c = rw (← c.before.before.before.admit.ensures.0, c.before.before.in_default.is, ne_eqb _ _ c.before.if-signals-values.true, c.refused.ensures)
 
-first-bad-requires : tie.Need-first-bad-requires
-first-bad-requires c κs = (admitted_table _ _ _ (sym c.before.before.before.admit.ensures.0 ∙ c.before.enum_told.given.1), c.if1.false)
+first-bad-requires : tie.Need-first_bad-requires
+first-bad-requires c κs = (admitted_table _ _ _ (sym c.before.before.admit.ensures.0 ∙ c.before.in_default.is), c.if-signals-values.false)
 
-returns-3 : tie.Need-returns-3
+returns-3 : tie.Need-returns
 unfolding row_verdict
-returns-3 c = rw (← c.before.before.before.before.admit.ensures.0, c.before.before.enum_told.given.1, eq-eqb _ _ c.before.if1.false, c.first-bad.ensures)
+returns-3 c = rw (← c.before.before.before.admit.ensures.0, c.before.before.in_default.is, eq-eqb _ _ c.before.if-signals-values.false, c.first_bad.ensures)
 
-pub judge-row-spec : {M : Type 1} → statement M
-judge-row-spec =
+pub judge_row_spec : {M : Type 1} → statement M
+judge_row_spec =
     tie.close
     (tie.spec (λ c κs. search rules) (λ c. search rules) returns (λ c. search rules) (λ c κs. search rules) returns-2 first-bad-requires returns-3)

@@ -5,29 +5,29 @@ use Rattle.master.specs.Select.{select_verdict}
 use Rattle.master.proofs.state.State.judge_select.Statement.{statement}
 use Rattle.master.proofs.state.State.judge_select.Tie as tie
 
-returns : tie.Need-returns
+returns : tie.Need-returns-in-Refused
 unfolding select_verdict
 returns c =
-    let buffer-size = c.before.before.before.before.buffer-size in
-    rw (← buffer-size.ensures, ← c.before.before.before.admit.ensures.0, c.before.refusal.given.1)
+    let buffer-size = c.before.before.buffer_size in
+    rw (← buffer-size.ensures, ← c.before.admit.ensures.0, c.in-Refused.is)
 
-returns-2 : tie.Need-returns-2
+returns-2 : tie.Need-returns-then-schedules-n
 unfolding select_verdict
 returns-2 c =
-    let buffer-size = c.before.before.before.before.before.before.buffer-size in
-    let admit = c.before.before.before.before.before.admit in
-    let accepted = c.before.before.before.enum_told.given.1 in
-    rw (← buffer-size.ensures, ← admit.ensures.0, accepted, ← c.before.before.schedules.ensures.0, le-ltb _ _ c.before.if1.true, c.refused.ensures)
+    let buffer-size = c.before.before.before.before.before.buffer_size in
+    let admit = c.before.before.before.before.admit in
+    let accepted = c.before.before.before.in_default.is in
+    rw (← buffer-size.ensures, ← admit.ensures.0, accepted, ← c.before.before.schedules.ensures.0, le-ltb _ _ c.before.if-schedules-n.true, c.refused.ensures)
 
-returns-3 : tie.Need-returns-3
+returns-3 : tie.Need-returns
 unfolding select_verdict
 returns-3 c =
-    let buffer-size = c.before.before.before.before.before.buffer-size in
-    let admit = c.before.before.before.before.admit in
-    rw (← buffer-size.ensures, ← admit.ensures.0, c.before.before.enum_told.given.1, ← c.before.schedules.ensures.0, lt-ltb _ _ c.if1.false)
+    let buffer-size = c.before.before.before.before.buffer_size in
+    let admit = c.before.before.before.admit in
+    rw (← buffer-size.ensures, ← admit.ensures.0, c.before.before.in_default.is, ← c.before.schedules.ensures.0, lt-ltb _ _ c.if-schedules-n.false)
 
-pub judge-select-spec : {M : Type 1} → statement M
-judge-select-spec =
+pub judge_select_spec : {M : Type 1} → statement M
+judge_select_spec =
     tie.close
     (tie.spec (λ c κs. search rules) (λ c κs. search rules) (λ c. search rules) returns (λ c. search rules)
     (λ c κs. search rules) (λ c κs. search rules) returns-2 returns-3)

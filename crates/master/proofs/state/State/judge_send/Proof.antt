@@ -5,63 +5,63 @@ use Rattle.master.specs.Message.{send_verdict}
 use Rattle.master.proofs.state.State.judge_send.Statement.{statement}
 use Rattle.master.proofs.state.State.judge_send.Tie as tie
 
-returns : tie.Need-returns
+returns : tie.Need-returns-in-Refused
 unfolding send_verdict
 returns c =
-    let buffer-size = c.before.before.before.before.buffer-size in
-    rw (← buffer-size.ensures, ← c.before.before.before.admit.ensures.0, c.before.refusal.given.1)
+    let buffer-size = c.before.before.buffer_size in
+    rw (← buffer-size.ensures, ← c.before.admit.ensures.0, c.in-Refused.is)
 
-returns-2 : tie.Need-returns-2
+returns-2 : tie.Need-returns-then-size-lt1
 unfolding send_verdict
 returns-2 c =
-    let buffer-size = c.before.before.before.before.before.buffer-size in
-    let admit = c.before.before.before.before.admit in
-    rw (← buffer-size.ensures, ← admit.ensures.0, c.before.before.enum_told.given.1, lt-leb _ _ c.before.if1.true, c.refused.ensures)
+    let buffer-size = c.before.before.before.before.buffer_size in
+    let admit = c.before.before.before.admit in
+    rw (← buffer-size.ensures, ← admit.ensures.0, c.before.before.in_default.is, lt-leb _ _ c.before.if-size-lt1.true, c.refused.ensures)
 
-returns-3 : tie.Need-returns-3
+returns-3 : tie.Need-returns-then-size
 unfolding send_verdict
 returns-3 c =
-    let buffer-size = c.before.before.before.before.before.before.buffer-size in
-    let admit = c.before.before.before.before.before.admit in
-    let accepted = c.before.before.before.enum_told.given.1 in
-    rw (← buffer-size.ensures, ← admit.ensures.0, accepted, le-leb _ _ c.before.before.if1.false, lt-leb _ _ c.before.if2.true, c.refused2.ensures)
+    let buffer-size = c.before.before.before.before.before.buffer_size in
+    let admit = c.before.before.before.before.admit in
+    let accepted = c.before.before.before.in_default.is in
+    rw (← buffer-size.ensures, ← admit.ensures.0, accepted, le-leb _ _ c.before.before.if-size-lt1.false, lt-leb _ _ c.before.if-size.true, c.refused-then-size.ensures)
 
-returns-4 : tie.Need-returns-4
+returns-4 : tie.Need-returns-then-is_sending
 unfolding send_verdict
 returns-4 c =
-    let buffer-size = c.before.before.before.before.before.before.before.before.buffer-size in
-    let admit = c.before.before.before.before.before.before.before.admit in
-    let enum_told = c.before.before.before.before.before.enum_told in
+    let buffer-size = c.before.before.before.before.before.before.before.buffer_size in
+    let admit = c.before.before.before.before.before.before.admit in
+    let enum_told = c.before.before.before.before.before.in_default in
     rw (
       ← buffer-size.ensures,
       ← admit.ensures.0,
-      enum_told.given.1,
-      le-leb _ _ c.before.before.before.before.if1.false,
-      le-leb _ _ c.before.before.before.if2.false,
-      ← c.before.before.is-sending.ensures,
-      c.before.if3.true,
-      c.refused3.ensures,
+      enum_told.is,
+      le-leb _ _ c.before.before.before.before.if-size-lt1.false,
+      le-leb _ _ c.before.before.before.if-size.false,
+      ← c.before.before.is_sending.ensures,
+      c.before.if-is_sending.true,
+      c.refused-then-is_sending.ensures,
     )
 
-returns-5 : tie.Need-returns-5
+returns-5 : tie.Need-returns
 unfolding send_verdict
 returns-5 c =
-    let buffer-size = c.before.before.before.before.before.before.before.buffer-size in
-    let admit = c.before.before.before.before.before.before.admit in
-    let enum_told = c.before.before.before.before.enum_told in
+    let buffer-size = c.before.before.before.before.before.before.buffer_size in
+    let admit = c.before.before.before.before.before.admit in
+    let enum_told = c.before.before.before.before.in_default in
     rw (
       ← buffer-size.ensures,
       ← admit.ensures.0,
-      enum_told.given.1,
-      le-leb _ _ c.before.before.before.if1.false,
+      enum_told.is,
+      le-leb _ _ c.before.before.before.if-size-lt1.false,
       le-leb _
-          _ c.before.before.if2.false,
-      ← c.before.is-sending.ensures,
-      c.if3.false,
+          _ c.before.before.if-size.false,
+      ← c.before.is_sending.ensures,
+      c.if-is_sending.false,
     )
 
-pub judge-send-spec : {M : Type 1} → statement M
-judge-send-spec =
+pub judge_send_spec : {M : Type 1} → statement M
+judge_send_spec =
     tie.close
     (tie.spec (λ c κs. search rules) (λ c κs. search rules) (λ c. search rules) returns (λ c. search rules)
     (λ c κs. search rules) returns-2 (λ c. search rules) (λ c κs. search rules) returns-3 (λ c κs. search rules)

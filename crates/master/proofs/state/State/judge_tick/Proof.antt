@@ -5,26 +5,26 @@ use Rattle.master.specs.Tick.{tick_verdict}
 use Rattle.master.proofs.state.State.judge_tick.Statement.{statement}
 use Rattle.master.proofs.state.State.judge_tick.Tie as tie
 
-returns : tie.Need-returns
+returns : tie.Need-returns-in-Refused
 unfolding tick_verdict
-returns c = rw (← c.before.before.before.admit.ensures.0, c.before.refusal.given.1)
+returns c = rw (← c.before.admit.ensures.0, c.in-Refused.is)
 
-returns-2 : tie.Need-returns-2
+returns-2 : tie.Need-returns-then-not-lent_fits
 unfolding tick_verdict
 returns-2 c =
-    let admit = c.before.before.before.before.before.admit in
-    let lent-fits = c.before.before.lent-fits in
-    rw (← admit.ensures.0, c.before.before.before.enum_told.given.1, ← lent-fits.ensures, not-true lent-fits.result c.before.if1.true, c.refused.ensures)
+    let admit = c.before.before.before.before.admit in
+    let lent-fits = c.before.before.lent_fits in
+    rw (← admit.ensures.0, c.before.before.before.in_default.is, ← lent-fits.ensures, not-true lent-fits.result c.before.if-not-lent_fits.true-raw, c.refused.ensures)
 
-returns-3 : tie.Need-returns-3
+returns-3 : tie.Need-returns
 unfolding tick_verdict
 returns-3 c =
-    let admit = c.before.before.before.before.admit in
-    let lent-fits = c.before.lent-fits in
-    rw (← admit.ensures.0, c.before.before.enum_told.given.1, ← lent-fits.ensures, not-false lent-fits.result c.if1.false)
+    let admit = c.before.before.before.admit in
+    let lent-fits = c.before.lent_fits in
+    rw (← admit.ensures.0, c.before.before.in_default.is, ← lent-fits.ensures, not-false lent-fits.result c.if-not-lent_fits.false-raw)
 
-pub judge-tick-spec : {M : Type 1} → statement M
-judge-tick-spec =
+pub judge_tick_spec : {M : Type 1} → statement M
+judge_tick_spec =
     tie.close
     (tie.spec (λ c κs. search rules) (λ c. search rules) returns (λ c. search rules) (λ c κs. search rules)
     (λ c κs. search rules) returns-2 returns-3)

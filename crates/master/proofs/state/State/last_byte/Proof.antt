@@ -12,7 +12,7 @@ use Rattle.master.specs.Byte.{last_byte}
 use Rattle.master.proofs.state.State.last_byte.Statement.{statement}
 use Rattle.master.proofs.state.State.last_byte.Tie as tie
 
-checksum-right-requires : tie.Need-checksum-right-requires
+checksum-right-requires : tie.Need-checksum_right-requires
 checksum-right-requires c κs =
     let a = c.before.before.before.args in
     let asked = c.before.before.before.requires in (
@@ -28,11 +28,11 @@ failed-requires c κs =
     let asked = c.before.before.before.before.before.requires in
     byte_identifier a.t.now (length a.bytes.now) a.self asked
 
-returns : tie.Need-returns
+returns : tie.Need-returns-then-not-checksum_right
 unfolding last_byte
 returns c =
-    let checksum-right = c.before.before.before.checksum-right in
-    let if1 = c.before.before.if1 in
+    let checksum-right = c.before.before.before.checksum_right in
+    let if1 = c.before.before.if-not-checksum_right in
     record {
       handed = rw (
         ← checksum-right.ensures,
@@ -43,7 +43,7 @@ returns c =
       kept = rw (← checksum-right.ensures, not-true checksum-right.result if1.true);
     }
 
-received-requires : tie.Need-received-requires
+received-requires : tie.Need-received-closed-requires
 received-requires c κs =
     let a = c.before.before.before.before.before.args in
     let asked = c.before.before.before.before.before.requires in
@@ -51,58 +51,58 @@ received-requires c κs =
 
 store-requires : tie.Need-store-requires
 store-requires c κs =
-    let a = c.before.before.before.before.before.before.before.before.before.before.before.args in
-    let asked = c.before.before.before.before.before.before.before.before.before.before.before.requires in
-    let opened = c.before.before.before.opened in (
+    let a = c.before.before.before.before.before.before.before.before.before.args in
+    let asked = c.before.before.before.before.before.before.before.before.before.requires in
+    let opened = c.before.before.in-Frame in (
       frame_end a.t.now (byte_table a.t.now (length a.bytes.now) a.self asked) a.bytes.now
-          (byte_size a.t.now (length a.bytes.now) a.self asked) opened.given.0.0
-          (rw opened.given.1 at (byte_fits a.t.now (length a.bytes.now) a.self asked).frame-there) _ refl,
+          (byte_size a.t.now (length a.bytes.now) a.self asked) opened.f
+          (rw opened.is at (byte_fits a.t.now (length a.bytes.now) a.self asked).frame-there) _ refl,
       omega
-          (arith, c.length.ensures, rw opened.given.1 at (byte_length_high a.t.now (length a.bytes.now) a.self asked)),
+          (arith, c.length.ensures, rw opened.is at (byte_length_high a.t.now (length a.bytes.now) a.self asked)),
     )
 
-returns-2 : tie.Need-returns-2
+returns-2 : tie.Need-returns-in-Nothing
 unfolding last_byte
 returns-2 c =
-    let a = c.before.before.before.before.before.before.before.before.before.args in
-    let checksum-right = c.before.before.before.before.before.checksum-right in
+    let a = c.before.before.before.before.before.before.before.before.args in
+    let checksum-right = c.before.before.before.before.checksum_right in
     last_nothing a.t.now a.self a.nine a.bytes.now
-    (sym checksum-right.ensures ∙ not-false checksum-right.result c.before.before.before.before.if1.false) _ _
-    c.before.enum_told.given.1 (c.answering2.ensures ∙ rw c.before.before.before.received.ensures) refl
+    (sym checksum-right.ensures ∙ not-false checksum-right.result c.before.before.before.if-not-checksum_right.false-raw) _ _
+    c.before.in-Nothing.is (c.answering-in-Nothing.ensures ∙ rw c.before.before.received-closed.ensures) refl
 
-returns-3 : tie.Need-returns-3
+returns-3 : tie.Need-returns-in-Frame
 unfolding last_byte
 returns-3 c =
-    let a = c.before.before.before.before.before.before.before.before.before.before.before.before.before.before.before.args in
-    let checksum-right = c.before.before.before.before.before.before.before.before.before.before.before.checksum-right in
-    let if1 = c.before.before.before.before.before.before.before.before.before.before.if1 in
-    let received = c.before.before.before.before.before.before.before.before.before.received in
-    let opened = c.before.before.before.before.before.before.before.opened in
+    let a = c.before.before.before.before.before.before.before.before.before.before.before.before.before.args in
+    let checksum-right = c.before.before.before.before.before.before.before.before.before.checksum_right in
+    let if1 = c.before.before.before.before.before.before.before.before.if-not-checksum_right in
+    let received = c.before.before.before.before.before.before.before.received-closed in
+    let opened = c.before.before.before.before.before.before.in-Frame in
     let told = c.before.before.before.before.length in
     last_frame a.t.now a.self a.nine a.bytes.now
-    (sym checksum-right.ensures ∙ not-false checksum-right.result if1.false) _ _ opened.given.0.0 told.result
-    opened.given.1 (c.answering3.ensures ∙ rw received.ensures) told.ensures c.before.before.before.store.ensures
+    (sym checksum-right.ensures ∙ not-false checksum-right.result if1.false) _ _ opened.f told.result
+    opened.is (c.answering-in-Frame.ensures ∙ rw received.ensures) told.ensures c.before.before.before.store.ensures
 
-returns-4 : tie.Need-returns-4
+returns-4 : tie.Need-returns-in-Request
 unfolding last_byte
 returns-4 c =
-    let a = c.before.before.before.before.before.before.before.before.before.args in
-    let checksum-right = c.before.before.before.before.before.checksum-right in
+    let a = c.before.before.before.before.before.before.before.before.args in
+    let checksum-right = c.before.before.before.before.checksum_right in
     last_request a.t.now a.self a.nine a.bytes.now
-    (sym checksum-right.ensures ∙ not-false checksum-right.result c.before.before.before.before.if1.false) _ _
-    c.before.enum-told2.given.1 (c.answering4.ensures ∙ rw c.before.before.before.received.ensures) refl
+    (sym checksum-right.ensures ∙ not-false checksum-right.result c.before.before.before.if-not-checksum_right.false-raw) _ _
+    c.before.in-Request.is (c.answering-in-Request.ensures ∙ rw c.before.before.received-closed.ensures) refl
 
-returns-5 : tie.Need-returns-5
+returns-5 : tie.Need-returns-in-Response
 unfolding last_byte
 returns-5 c =
-    let a = c.before.before.before.before.before.before.before.before.before.args in
-    let checksum-right = c.before.before.before.before.before.checksum-right in
+    let a = c.before.before.before.before.before.before.before.before.args in
+    let checksum-right = c.before.before.before.before.checksum_right in
     last_response a.t.now a.self a.nine a.bytes.now
-    (sym checksum-right.ensures ∙ not-false checksum-right.result c.before.before.before.before.if1.false) _ _
-    c.before.enum-told3.given.1 (c.responding.ensures ∙ rw c.before.before.before.received.ensures) refl
+    (sym checksum-right.ensures ∙ not-false checksum-right.result c.before.before.before.if-not-checksum_right.false-raw) _ _
+    c.before.in-Response.is (c.responding.ensures ∙ rw c.before.before.received-closed.ensures) refl
 
-pub last-byte-spec : {M : Type 1} → statement M
-last-byte-spec =
+pub last_byte_spec : {M : Type 1} → statement M
+last_byte_spec =
     tie.close
     (tie.spec checksum-right-requires failed-requires (λ c κs. search rules) returns received-requires
     (λ c. search rules) (λ c κs. search rules) (λ c. search rules) (λ c κs. search rules) store-requires

@@ -7,8 +7,8 @@ use Rattle.master.proofs.state.State.marked.Tie as tie
 returns : tie.Need-returns
 unfolding marked
 returns c =
-    rw (c.with-transfer.ensures, c.before.rewritten.ensures, c.before.before.with-pending.ensures, c.before.before.before.before.mark.ensures)
+    rw (c.with_transfer.ensures, c.before.rewritten.ensures, c.before.before.with_pending.ensures, c.before.before.before.before.mark.ensures)
 
-pub marked-spec : {M : Type 1} → statement M
-marked-spec =
+pub marked_spec : {M : Type 1} → statement M
+marked_spec =
     tie.close (tie.spec (λ c. search rules) (λ c κs. search rules) (λ c κs. search rules) (λ c κs. search rules) (λ c κs. search rules) returns)

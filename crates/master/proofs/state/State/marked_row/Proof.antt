@@ -6,8 +6,8 @@ use Rattle.master.proofs.state.State.marked_row.Tie as tie
 
 returns : tie.Need-returns
 unfolding marked_row
-returns c = rw (c.with-transfer.ensures, c.before.rewritten-by.ensures, c.before.before.with-pending.ensures, c.before.before.before.before.mark-row.ensures)
+returns c = rw (c.with_transfer.ensures, c.before.rewritten_by.ensures, c.before.before.with_pending.ensures, c.before.before.before.before.mark_row.ensures)
 
-pub marked-row-spec : {M : Type 1} → statement M
-marked-row-spec =
+pub marked_row_spec : {M : Type 1} → statement M
+marked_row_spec =
     tie.close (tie.spec (λ c. search rules) (λ c κs. search rules) (λ c κs. search rules) (λ c κs. search rules) (λ c κs. search rules) returns)

@@ -5,20 +5,20 @@ use Rattle.master.proofs.ToldLaws.{message_told_lem}
 use Rattle.master.proofs.state.State.message_state.Statement.{statement}
 use Rattle.master.proofs.state.State.message_state.Tie as tie
 
-returns : tie.Need-returns
+returns : tie.Need-returns-in-Refused
 unfolding message_of
 returns c =
-    let buffer-size = c.before.before.before.before.buffer-size in
-    message_told_lem _ _ _ (rw (← buffer-size.ensures, ← c.before.before.before.admit.ensures.0, c.before.refusal.given.1))
+    let buffer-size = c.before.before.buffer_size in
+    message_told_lem _ _ _ (rw (← buffer-size.ensures, ← c.before.admit.ensures.0, c.in-Refused.is))
 
-returns-2 : tie.Need-returns-2
+returns-2 : tie.Need-returns
 unfolding message_of
 returns-2 c =
-    let buffer-size = c.before.before.before.before.buffer-size in
-    message_told_lem _ _ _ (rw (← buffer-size.ensures, ← c.before.before.before.admit.ensures.0, c.before.enum_told.given.1, c.told.ensures))
+    let buffer-size = c.before.before.before.buffer_size in
+    message_told_lem _ _ _ (rw (← buffer-size.ensures, ← c.before.before.admit.ensures.0, c.before.in_default.is, c.told.ensures))
 
-pub message-state-spec : {M : Type 1} → statement M
-message-state-spec =
+pub message_state_spec : {M : Type 1} → statement M
+message_state_spec =
     tie.close
     (tie.spec (λ c κs. search rules) (λ c κs. search rules) (λ c. search rules) returns (λ c. search rules)
     (λ c κs. search rules) returns-2)

@@ -10,26 +10,26 @@ use Rattle.master.proofs.ToldLaws.{ahead_told_lem}
 use Rattle.master.proofs.state.State.number_ahead.Statement.{statement}
 use Rattle.master.proofs.state.State.number_ahead.Tie as tie
 
-returns : tie.Need-returns
+returns : tie.Need-returns-in-Refused
 unfolding ahead_of frames_ahead
-returns c = ahead_told_lem _ _ _ _ (rw (← c.before.before.before.judge-ahead.ensures, c.before.refusal.given.1))
+returns c = ahead_told_lem _ _ _ _ (rw (← c.before.judge_ahead.ensures, c.in-Refused.is))
 
-count-pending-requires : tie.Need-count-pending-requires
+count-pending-requires : tie.Need-count_pending-requires
 count-pending-requires c κs =
-    let a = c.before.before.before.before.before.before.before.args in
-    let judge-ahead = c.before.before.before.before.before.judge-ahead in
-    let e = sym judge-ahead.ensures ∙ c.before.before.before.enum_told.given.1 in
-    (ahead_table a.t.now a.self a.f e, omega (arith, c.before.of-frame.ensures, ahead_member a.t.now a.self a.f e))
+    let a = c.before.before.before.before.before.before.args in
+    let judge-ahead = c.before.before.before.before.judge_ahead in
+    let e = sym judge-ahead.ensures ∙ c.before.before.before.in_default.is in
+    (ahead_table a.t.now a.self a.f e, omega (arith, c.before.of_frame-m.ensures, ahead_member a.t.now a.self a.f e))
 
-returns-2 : tie.Need-returns-2
+returns-2 : tie.Need-returns
 unfolding ahead_of frames_ahead
 returns-2 c =
-    let judge-ahead = c.before.before.before.before.before.before.judge-ahead in
-    let enum_told = c.before.before.before.before.enum_told in
-    ahead_told_lem _ _ _ _ (rw (← judge-ahead.ensures, enum_told.given.1, c.count-pending.ensures, c.before.list.ensures, c.before.before.of-frame.ensures))
+    let judge-ahead = c.before.before.before.before.before.judge_ahead in
+    let enum_told = c.before.before.before.before.in_default in
+    ahead_told_lem _ _ _ _ (rw (← judge-ahead.ensures, enum_told.is, c.count_pending.ensures, c.before.list-l.ensures, c.before.before.of_frame-m.ensures))
 
-pub number-ahead-spec : {M : Type 1} → statement M
-number-ahead-spec =
+pub number_ahead_spec : {M : Type 1} → statement M
+number_ahead_spec =
     tie.close
     (tie.spec (λ c κs. search rules) (λ c. search rules) returns (λ c. search rules) (λ c κs. search rules)
     (λ c κs. search rules) count-pending-requires returns-2)

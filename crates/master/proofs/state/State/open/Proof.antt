@@ -7,9 +7,9 @@ use Rattle.master.specs.Tick.{opens_or_silent}
 use Rattle.master.proofs.state.State.open.Statement.{statement}
 use Rattle.master.proofs.state.State.open.Tie as tie
 
-returns : tie.Need-returns
+returns : tie.Need-returns-then-not-is_open
 unfolding opens_or_silent
-returns c = rw (← c.before.is_open.ensures, not-true c.before.is_open.result c.if1.true)
+returns c = rw (← c.before.is_open.ensures, not-true c.before.is_open.result c.if-not-is_open.true-raw)
 
 protected-requires : tie.Need-protected-requires
 protected-requires c κs =
@@ -17,12 +17,12 @@ protected-requires c κs =
     let asked = c.before.before.before.before.before.before.before.requires in
     open_identifier_lem a.t.now asked.0 a.opened asked.2
 
-returns-2 : tie.Need-returns-2
+returns-2 : tie.Need-returns
 unfolding opens_or_silent
 returns-2 c =
     let is_open = c.before.before.before.before.is_open in
-    let left = not-false is_open.result c.before.before.before.if1.false in
-    rw (← is_open.ensures, left, c.protected.ensures, c.before.with-transfer.ensures, c.before.before.opening.ensures)
+    let left = not-false is_open.result c.before.before.before.if-not-is_open.false-raw in
+    rw (← is_open.ensures, left, c.protected.ensures, c.before.with_transfer.ensures, c.before.before.opening.ensures)
 
 pub open_spec : {M : Type 1} → statement M
 open_spec =

@@ -6,7 +6,7 @@ use Rattle.master.proofs.state.State.passed.Tie as tie
 
 returns : tie.Need-returns
 unfolding passed
-returns c = rw c.with-transfer.ensures
+returns c = rw c.with_transfer.ensures
 
-pub passed-spec : {M : Type 1} → statement M
-passed-spec = tie.close (tie.spec (λ c. search rules) (λ c κs. search rules) returns)
+pub passed_spec : {M : Type 1} → statement M
+passed_spec = tie.close (tie.spec (λ c. search rules) (λ c κs. search rules) returns)

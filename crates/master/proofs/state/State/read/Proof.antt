@@ -8,24 +8,24 @@ use Rattle.master.proofs.ToldLaws.{read_told_lem}
 use Rattle.master.proofs.state.State.read.Statement.{statement}
 use Rattle.master.proofs.state.State.read.Tie as tie
 
-returns : tie.Need-returns
+returns : tie.Need-returns-in-Refused
 unfolding read_scalar_of
-returns c = read_told_lem _ _ _ _ _ (rw (← c.before.before.before.judge-read.ensures, c.before.refusal.given.1))
+returns c = read_told_lem _ _ _ _ _ (rw (← c.before.judge_read.ensures, c.in-Refused.is))
 
 source-requires : tie.Need-source-requires
-source-requires c κs = read_table _ _ _ _ _ (sym c.before.before.judge-read.ensures ∙ c.enum_told.given.1)
+source-requires c κs = read_table _ _ _ _ _ (sym c.before.judge_read.ensures ∙ c.in_default.is)
 
-returns-2 : tie.Need-returns-2
+returns-2 : tie.Need-returns-in-Never
 unfolding read_scalar_of scalar_from
 returns-2 c =
-    let d = c.before.before.before in
-    read_told_lem _ _ _ _ _ (rw (← d.before.before.before.judge-read.ensures, d.before.enum_told.given.1, ← d.source.ensures, c.before.enum-told2.given.1, c.start.ensures))
+    let d = c in
+    read_told_lem _ _ _ _ _ (rw (← d.before.before.before.before.judge_read.ensures, d.before.before.before.in_default.is, ← d.before.before.source.ensures, c.before.in-Never.is, c.start.ensures))
 
-returns-3 : tie.Need-returns-3
+returns-3 : tie.Need-returns-in-Placement
 unfolding read_scalar_of scalar_from
 returns-3 c =
-    let d = c.before.before.before.before in
-    read_told_lem _ _ _ _ _ (rw (← d.before.before.before.judge-read.ensures, d.before.enum_told.given.1, ← d.source.ensures, c.before.before.k.given.1, c.scalar-at.ensures))
+    let d = c in
+    read_told_lem _ _ _ _ _ (rw (← d.before.before.before.before.judge_read.ensures, d.before.before.before.in_default.is, ← d.before.before.source.ensures, c.before.in-Placement.is, c.scalar_at.ensures))
 
 pub read_spec : {M : Type 1} → statement M
 read_spec =

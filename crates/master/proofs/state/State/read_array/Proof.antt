@@ -8,38 +8,38 @@ use Rattle.master.proofs.ToldLaws.{read_array_told}
 use Rattle.master.proofs.state.State.read_array.Statement.{statement}
 use Rattle.master.proofs.state.State.read_array.Tie as tie
 
-returns : tie.Need-returns
+returns : tie.Need-returns-in-Refused
 unfolding read_array_of
-returns c = read_array_told _ _ _ _ _ (rw (← c.before.before.before.judge-read.ensures, c.before.refusal.given.1))
+returns c = read_array_told _ _ _ _ _ (rw (← c.before.judge_read.ensures, c.in-Refused.is))
 
 source-requires : tie.Need-source-requires
-source-requires c κs = read_table _ _ _ _ _ (sym c.before.before.judge-read.ensures ∙ c.enum_told.given.1)
+source-requires c κs = read_table _ _ _ _ _ (sym c.before.judge_read.ensures ∙ c.in_default.is)
 
-returns-2 : tie.Need-returns-2
+returns-2 : tie.Need-returns-in-Never
 unfolding read_array_of array_from
 returns-2 c =
-    let d = c.before.before.before.before in
+    let d = c in
     read_array_told _ _ _ _ _
     (rw (
-      ← d.before.before.before.judge-read.ensures,
-      d.before.enum_told.given.1,
-      ← d.source.ensures,
-      c.before.before.enum-told2.given.1,
+      ← d.before.before.before.before.before.judge_read.ensures,
+      d.before.before.before.before.in_default.is,
+      ← d.before.before.before.source.ensures,
+      c.before.before.in-Never.is,
       c.read_as.ensures,
-      c.before.start-array.ensures,
+      c.before.start_array.ensures,
     ))
 
-returns-3 : tie.Need-returns-3
+returns-3 : tie.Need-returns-in-Placement
 unfolding read_array_of array_from
 returns-3 c =
-    let d = c.before.before.before.before.before in
+    let d = c in
     read_array_told _ _ _ _ _
     (rw (
-      ← d.before.before.before.judge-read.ensures,
-      d.before.enum_told.given.1,
-      ← d.source.ensures,
-      c.before.before.before.k.given.1,
-      c.read-as2.ensures,
+      ← d.before.before.before.before.before.judge_read.ensures,
+      d.before.before.before.before.in_default.is,
+      ← d.before.before.before.source.ensures,
+      c.before.before.in-Placement.is,
+      c.read_as-in-Placement.ensures,
       c.before.Array-at.ensures,
     ))
 

@@ -5,22 +5,22 @@ use Rattle.master.proofs.ToldLaws.{status_told_lem}
 use Rattle.master.proofs.state.State.read_status.Statement.{statement}
 use Rattle.master.proofs.state.State.read_status.Tie as tie
 
-returns : tie.Need-returns
+returns : tie.Need-returns-in-Refused
 unfolding status_of
 returns c =
-    let buffer-size = c.before.before.before.before.buffer-size in
-    status_told_lem _ _ _ (rw (← buffer-size.ensures, ← c.before.before.before.admit.ensures.0, c.before.refusal.given.1))
+    let buffer-size = c.before.before.buffer_size in
+    status_told_lem _ _ _ (rw (← buffer-size.ensures, ← c.before.admit.ensures.0, c.in-Refused.is))
 
-returns-2 : tie.Need-returns-2
+returns-2 : tie.Need-returns
 unfolding status_of
 returns-2 c =
-    let buffer-size = c.before.before.before.before.before.before.before.buffer-size in
-    let admit = c.before.before.before.before.before.before.admit in
-    let accepted = c.before.before.before.before.enum_told in
-    status_told_lem _ _ _ (rw (← buffer-size.ensures, ← admit.ensures.0, accepted.given.1, c.word.ensures, c.before.with-status.ensures, c.before.before.none.ensures))
+    let buffer-size = c.before.before.before.before.before.before.buffer_size in
+    let admit = c.before.before.before.before.before.admit in
+    let accepted = c.before.before.before.before.in_default in
+    status_told_lem _ _ _ (rw (← buffer-size.ensures, ← admit.ensures.0, accepted.is, c.word.ensures, c.before.with_status.ensures, c.before.before.none.ensures))
 
-pub read-status-spec : {M : Type 1} → statement M
-read-status-spec =
+pub read_status_spec : {M : Type 1} → statement M
+read_status_spec =
     tie.close
     (tie.spec (λ c κs. search rules) (λ c κs. search rules) (λ c. search rules) returns (λ c. search rules)
     (λ c κs. search rules) (λ c κs. search rules) (λ c κs. search rules) returns-2)

@@ -7,7 +7,7 @@ use Rattle.master.specs.Byte.{received_byte}
 use Rattle.master.proofs.state.State.received_byte.Statement.{statement}
 use Rattle.master.proofs.state.State.received_byte.Tie as tie
 
-with-byte-requires : tie.Need-with-byte-requires
+with-byte-requires : tie.Need-with_byte-nine-requires
 with-byte-requires c κs =
     let a = c.before.before.before.args in
     byte_count_high a.t.now (length a.bytes.now) a.self c.before.before.before.requires
@@ -18,25 +18,25 @@ passed-requires c κs =
     let asked = c.before.before.before.before.before.before.requires in
     byte_count_high a.t.now (length a.bytes.now) a.self asked
 
-returns : tie.Need-returns
+returns : tie.Need-returns-then-early
 unfolding received_byte
 returns c =
-    let with_byte = c.before.before.before.before.with_byte in
+    let with_byte = c.before.before.before.before.with_byte-nine in
     let early = c.before.before.before.early in
-    let if1 = c.before.before.if1 in
+    let if1 = c.before.before.if-early in
     record { handed = rw (← early.ensures, if1.true, c.answering.ensures, c.before.passed.ensures, with_byte.ensures); kept = rw (← early.ensures, if1.true) }
 
-returns-2 : tie.Need-returns-2
+returns-2 : tie.Need-returns
 unfolding received_byte
 returns-2 c =
-    let with_byte = c.before.before.before.before.before.before.with_byte in
+    let with_byte = c.before.before.before.before.before.before.with_byte-nine in
     let early = c.before.before.before.before.before.early in
-    let if1 = c.before.before.before.before.if1 in
+    let if1 = c.before.before.before.before.if-early in
     let l = c.before.before.last_byte.ensures in
     record { handed = rw (← early.ensures, if1.false, ← with_byte.ensures) l.handed; kept = rw (← early.ensures, if1.false, ← with_byte.ensures) l.kept }
 
-pub received-byte-spec : {M : Type 1} → statement M
-received-byte-spec =
+pub received_byte_spec : {M : Type 1} → statement M
+received_byte_spec =
     tie.close
     (tie.spec with-byte-requires (λ c κs. search rules) passed-requires (λ c κs. search rules) returns
     (λ c κs. search rules) (λ c. search rules) returns-2)

@@ -6,5 +6,5 @@ use Rattle.master.proofs.state.State.responding.Tie as tie
 returns : tie.Need-returns
 returns c = rw c.before.fill.ensures
 
-pub responding-spec : {M : Type 1} → statement M
-responding-spec = tie.close (tie.spec (λ c. search rules) (λ c κs. search rules) returns)
+pub responding_spec : {M : Type 1} → statement M
+responding_spec = tie.close (tie.spec (λ c. search rules) (λ c κs. search rules) returns)

@@ -5,18 +5,18 @@ use Rattle.master.proofs.ToldLaws.{select_told_lem}
 use Rattle.master.proofs.state.State.select.Statement.{statement}
 use Rattle.master.proofs.state.State.select.Tie as tie
 
-returns : tie.Need-returns
+returns : tie.Need-returns-in-Refused
 unfolding select_of
-returns c = select_told_lem _ _ _ _ (rw (← c.before.before.before.judge-select.ensures, c.before.refusal.given.1))
+returns c = select_told_lem _ _ _ _ (rw (← c.before.judge_select.ensures, c.in-Refused.is))
 
-returns-2 : tie.Need-returns-2
+returns-2 : tie.Need-returns
 unfolding select_of
 returns-2 c =
-    let judge-select = c.before.before.before.before.before.judge-select in
-    select_told_lem _ _ _ _ (rw (← judge-select.ensures, c.before.before.before.enum_told.given.1, c.with-plan.ensures, c.before.asking.ensures))
+    let judge-select = c.before.before.before.before.judge_select in
+    select_told_lem _ _ _ _ (rw (← judge-select.ensures, c.before.before.before.in_default.is, c.with_plan.ensures, c.before.asking.ensures))
 
-pub select-spec : {M : Type 1} → statement M
-select-spec =
+pub select_spec : {M : Type 1} → statement M
+select_spec =
     tie.close
     (tie.spec (λ c κs. search rules) (λ c. search rules) returns (λ c. search rules) (λ c κs. search rules)
     (λ c κs. search rules) returns-2)

@@ -8,21 +8,21 @@ use Rattle.master.proofs.ToldLaws.{send_told_lem}
 use Rattle.master.proofs.state.State.send.Statement.{statement}
 use Rattle.master.proofs.state.State.send.Tie as tie
 
-returns : tie.Need-returns
+returns : tie.Need-returns-in-Refused
 unfolding send_of
-returns c = send_told_lem _ _ _ _ _ (rw (← c.before.before.before.judge-send.ensures, c.before.refusal.given.1))
+returns c = send_told_lem _ _ _ _ _ (rw (← c.before.judge_send.ensures, c.in-Refused.is))
 
-cast-t9 : tie.Need-overflow-cast-t9
+cast-t9 : tie.Need-overflow_cast-size
 cast-t9 c =
-    let a = c.before.before.before.before.args in
-    record { fits = omega (arith, send_length a.t.now a.self a.size (sym c.before.before.judge-send.ensures ∙ c.enum_told.given.1)) }
+    let a = c.before.before.before.args in
+    record { fits = omega (arith, send_length a.t.now a.self a.size (sym c.before.judge_send.ensures ∙ c.in_default.is)) }
 
-returns-2 : tie.Need-returns-2
+returns-2 : tie.Need-returns
 unfolding send_of
-returns-2 c = send_told_lem _ _ _ _ _ (rw (← c.before.before.before.judge-send.ensures, c.before.enum_told.given.1, c.with-message.ensures))
+returns-2 c = send_told_lem _ _ _ _ _ (rw (← c.before.before.judge_send.ensures, c.before.in_default.is, c.with_message.ensures))
 
-pub send-spec : {M : Type 1} → statement M
-send-spec =
+pub send_spec : {M : Type 1} → statement M
+send_spec =
     tie.close
     (tie.spec (λ c κs. search rules) (λ c. search rules) returns (λ c. search rules) cast-t9
     (λ c κs. search rules) returns-2)

@@ -16,11 +16,11 @@ returns : tie.Need-returns
 unfolding sent
 returns c =
     let closed = c.before.before.before.closed in
-    let pending = c.before.before.before.before.sent-pending in
-    rw (c.with-pending.ensures, c.before.with-message.ensures, c.before.before.sent.ensures, closed.ensures, pending.ensures)
+    let pending = c.before.before.before.before.sent_pending-cleared in
+    rw (c.with_pending.ensures, c.before.with_message.ensures, c.before.before.sent.ensures, closed.ensures, pending.ensures)
 
-pub sent-spec : {M : Type 1} → statement M
-sent-spec =
+pub sent_spec : {M : Type 1} → statement M
+sent_spec =
     tie.close
     (tie.spec (λ c κs. search rules) closed-requires (λ c κs. search rules) (λ c κs. search rules)
     (λ c κs. search rules) returns)

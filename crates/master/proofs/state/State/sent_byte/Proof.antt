@@ -9,7 +9,7 @@ use Rattle.master.specs.Byte.{sent_byte}
 use Rattle.master.proofs.state.State.sent_byte.Statement.{statement}
 use Rattle.master.proofs.state.State.sent_byte.Tie as tie
 
-array-read-if1 : tie.Need-array-read-if1
+array-read-if1 : tie.Need-bounds-bytes-transfer
 array-read-if1 c =
     let a = c.before.before.before.before.args in
     omega (arith, byte_count_high a.t.now (buffer_size a.t.now) a.self c.before.before.before.before.requires)
@@ -20,9 +20,9 @@ failed-requires c κs =
     let asked = c.before.before.before.before.before.requires in
     byte_identifier a.t.now (buffer_size a.t.now) a.self asked
 
-returns : tie.Need-returns
+returns : tie.Need-returns-then-bytes-transfer
 unfolding sent_byte
-returns c = rw (ne_eqb _ _ c.before.before.if1.true, c.answering.ensures, c.before.failed.ensures)
+returns c = rw (ne_eqb _ _ c.before.before.if-bytes-transfer.true, c.answering.ensures, c.before.failed.ensures)
 
 passed-requires : tie.Need-passed-requires
 passed-requires c κs =
@@ -30,13 +30,13 @@ passed-requires c κs =
     let asked = c.before.before.before.before.before.before.before.requires in
     byte_count_high a.t.now (buffer_size a.t.now) a.self asked
 
-returns-2 : tie.Need-returns-2
+returns-2 : tie.Need-returns-then-early
 unfolding sent_byte
 returns-2 c = rw (
-  eq-eqb _ _ c.before.before.before.before.if1.false,
+  eq-eqb _ _ c.before.before.before.before.if-bytes-transfer.false,
   ← c.before.before.before.early.ensures,
-  c.before.before.if2.true,
-  c.answering2.ensures,
+  c.before.before.if-early.true,
+  c.answering-then-early.ensures,
   c.before.passed.ensures,
 )
 
@@ -50,18 +50,18 @@ sent-requires c κs =
       (byte_fits a.t.now (buffer_size a.t.now) a.self asked).message-fits,
     )
 
-returns-3 : tie.Need-returns-3
+returns-3 : tie.Need-returns
 unfolding sent_byte
 returns-3 c = rw (
-  eq-eqb _ _ c.before.before.before.before.if1.false,
+  eq-eqb _ _ c.before.before.before.before.if-bytes-transfer.false,
   ← c.before.before.before.early.ensures,
-  c.before.before.if2.false,
-  c.answering3.ensures,
+  c.before.before.if-early.false,
+  c.answering-2.ensures,
   c.before.sent.ensures,
 )
 
-pub sent-byte-spec : {M : Type 1} → statement M
-sent-byte-spec =
+pub sent_byte_spec : {M : Type 1} → statement M
+sent_byte_spec =
     tie.close
     (tie.spec (λ c. search rules) array-read-if1 failed-requires (λ c κs. search rules) returns
     (λ c κs. search rules) passed-requires (λ c κs. search rules) returns-2 sent-requires

@@ -8,48 +8,48 @@ use Rattle.master.specs.Tick.{slot, slot_at}
 use Rattle.master.proofs.state.State.slot.Statement.{statement}
 use Rattle.master.proofs.state.State.slot.Tie as tie
 
-abandoned-requires : tie.Need-abandoned-requires
+abandoned-requires : tie.Need-abandoned-closed-requires
 abandoned-requires c κs =
     let a = c.before.before.before.args in
     tick_identifier a.t.now (length a.bytes.now) (length a.lent.now) a.self c.before.before.before.requires
 
-slot-opens-requires : tie.Need-slot-opens-requires
+slot-opens-requires : tie.Need-slot_opens-opened-requires
 slot-opens-requires c κs =
-    let a = c.before.before.before.before.before.before.before.before.before.before.args in
-    let asked = c.before.before.before.before.before.before.before.before.before.before.requires in
+    let a = c.before.before.before.before.before.before.before.before.args in
+    let asked = c.before.before.before.before.before.before.before.before.requires in
     tick_table a.t.now (length a.bytes.now) (length a.lent.now) a.self asked
 
 open-requires : tie.Need-open-requires
 open-requires c κs =
-    let a = c.before.before.before.before.before.before.before.before.before.before.before.before.before.args in
-    let asked = c.before.before.before.before.before.before.before.before.before.before.before.before.before.requires in
-    let due = c.before.before.before.before.before.before.due in
-    let e' = c.before.before.before.before.e in
-    let closed = c.before.before.before.before.before.before.before.before.before.abandoned.result in
+    let a = c.before.before.before.before.before.before.before.before.before.before.before.args in
+    let asked = c.before.before.before.before.before.before.before.before.before.before.before.requires in
+    let due = c.before.before.before.before.due in
+    let e' = c.before.before.before.in-Entry in
+    let closed = c.before.before.before.before.before.before.before.abandoned-closed.result in
     let f = tick_fits a.t.now (length a.bytes.now) (length a.lent.now) a.self asked in
     let ok = tick_table a.t.now (length a.bytes.now) (length a.lent.now) a.self asked in
-    let there = due_there a.t.now ok a.self.plan.requested a.self.plan.current f.schedule-there f.entry-there in (
+    let there = due_there a.t.now ok a.self.plan.requested a.self.plan.current f.schedule_there f.entry_there in (
       ok,
       tick_size a.t.now (length a.bytes.now) (length a.lent.now) a.self asked,
       rw
-          c.before.before.slot-opens.ensures (slot_opens_lem a.t.now ok closed.pending closed.message e'.given.0.0
-          (entry_below a.t.now e'.given.0.0 (rw (← due.ensures, e'.given.1) at there))).frame-there,
+          c.before.before.slot_opens-opened.ensures (slot_opens_lem a.t.now ok closed.pending closed.message e'.e
+          (entry_below a.t.now e'.e (rw (← due.ensures, e'.is) at there))).frame-there,
     )
 
-returns : tie.Need-returns
+returns : tie.Need-returns-in-None
 unfolding slot slot_at
-returns c = rw (← c.before.before.due.ensures, c.enum_told.given.1, c.before.before.before.before.before.abandoned.ensures)
+returns c = rw (← c.before.due.ensures, c.in-None.is, c.before.before.before.before.abandoned-closed.ensures)
 
-returns-2 : tie.Need-returns-2
+returns-2 : tie.Need-returns-in-Entry
 unfolding slot slot_at
 returns-2 c =
-    let abandoned = c.before.before.before.before.before.before.before.before.before.before.abandoned in
-    let due = c.before.before.before.before.before.before.before.due in
-    let e' = c.before.before.before.before.before.e in
-    rw (← due.ensures, e'.given.1, c.«open».ensures, c.before.with-plan.ensures, c.before.before.begun.ensures, c.before.before.before.slot-opens.ensures, abandoned.ensures)
+    let abandoned = c.before.before.before.before.before.before.before.before.abandoned-closed in
+    let due = c.before.before.before.before.before.due in
+    let e' = c.before.before.before.before.in-Entry in
+    rw (← due.ensures, e'.is, c.«open».ensures, c.before.with_plan.ensures, c.before.before.begun.ensures, c.before.before.before.slot_opens-opened.ensures, abandoned.ensures)
 
-pub slot-spec : {M : Type 1} → statement M
-slot-spec =
+pub slot_spec : {M : Type 1} → statement M
+slot_spec =
     tie.close
     (tie.spec abandoned-requires (λ c κs. search rules) (λ c. search rules) (λ c. search rules)
     slot-opens-requires (λ c κs. search rules) (λ c κs. search rules) open-requires returns returns-2)

@@ -4,15 +4,15 @@ use Rattle.master.specs.Received.{source_of}
 use Rattle.master.proofs.state.State.source.Statement.{statement}
 use Rattle.master.proofs.state.State.source.Tie as tie
 
-returns : tie.Need-returns
+returns : tie.Need-returns-then-published
 unfolding source_of
-returns c = rw (← c.before.before.published.ensures, c.before.if1.true, c.first.ensures)
+returns c = rw (← c.before.before.published.ensures, c.before.if-published.true, c.first.ensures)
 
-returns-2 : tie.Need-returns-2
+returns-2 : tie.Need-returns
 unfolding source_of
 returns-2 c =
-    let d = c.before.before in
-    rw (← d.before.published.ensures, d.if1.false, c.last_of.ensures)
+    let d = c in
+    rw (← d.before.before.before.published.ensures, d.before.before.if-published.false, c.last_of.ensures)
 
-pub source-spec : {M : Type 1} → statement M
-source-spec = tie.close (tie.spec (λ c κs. search rules) (λ c κs. search rules) returns (λ c κs. search rules) returns-2)
+pub source_spec : {M : Type 1} → statement M
+source_spec = tie.close (tie.spec (λ c κs. search rules) (λ c κs. search rules) returns (λ c κs. search rules) returns-2)

@@ -7,21 +7,21 @@ use Rattle.master.proofs.ToldLaws.{start_told}
 use Rattle.master.proofs.state.State.start.Statement.{statement}
 use Rattle.master.proofs.state.State.start.Tie as tie
 
-returns : tie.Need-returns
+returns : tie.Need-returns-in-Refused
 unfolding fresh_of
 returns c =
-    let a = c.before.before.before.before.before.before.before.args in
-    let e = sym c.before.before.before.before.judge.ensures ∙ c.before.before.refusal.given.1 in
+    let a = c.before.before.before.before.before.args in
+    let e = sym c.before.before.judge.ensures ∙ c.before.in-Refused.is in
     start_told a.t.now a.bytes.now _ _ (record { handed = rw (e, c.fresh.ensures); kept = rw e })
 
-returns-2 : tie.Need-returns-2
+returns-2 : tie.Need-returns
 unfolding fresh_of
 returns-2 c =
-    let a = c.before.before.before.before.before.before.before.before.before.before.args in
-    let judge = c.before.before.before.before.before.before.before.judge in
-    let enum_told = c.before.before.before.before.before.enum_told in
-    let e = sym judge.ensures ∙ enum_told.given.1 in
-    start_told a.t.now a.bytes.now _ _ (record { handed = rw (e, c.fresh2.ensures); kept = rw (e, c.before.before.before.fill.ensures) (filled_fresh a.t.now a.bytes.now e) })
+    let a = c.before.before.before.before.before.before.before.before.before.args in
+    let judge = c.before.before.before.before.before.before.judge in
+    let enum_told = c.before.before.before.before.before.in_default in
+    let e = sym judge.ensures ∙ enum_told.is in
+    start_told a.t.now a.bytes.now _ _ (record { handed = rw (e, c.fresh-2.ensures); kept = rw (e, c.before.before.before.fill.ensures) (filled_fresh a.t.now a.bytes.now e) })
 
 pub start_spec : {M : Type 1} → statement M
 start_spec =

@@ -10,38 +10,38 @@ use Rattle.master.proofs.ToldLaws.{write_told_lem}
 use Rattle.master.proofs.state.State.write.Statement.{statement}
 use Rattle.master.proofs.state.State.write.Tie as tie
 
-returns : tie.Need-returns
+returns : tie.Need-returns-in-Refused
 unfolding write_of
 returns c =
-    let e = (sym c.before.before.before.before.judge-scalar.ensures ∙ c.before.before.refusal.given.1) in
+    let e = (sym c.before.before.judge_scalar.ensures ∙ c.before.in-Refused.is) in
     write_told_lem _ _ _ _ _ _ (record { handed = rw (e, c.not_written.ensures); kept = rw e })
 
-cast-put-scalar : tie.Need-overflow-cast-put-scalar
+cast-put-scalar : tie.Need-overflow_cast-v
 cast-put-scalar c =
-    let a = c.before.before.before.before.before.before.args in
+    let a = c.before.before.before.before.before.args in
     record {
       fits = omega (
         arith,
         write_value_below a.t.now (length a.bytes.now) a.self a.s a.v
-            (sym c.before.before.before.judge-scalar.ensures ∙ c.before.enum_told.given.1),
+            (sym c.before.before.judge_scalar.ensures ∙ c.before.in_default.is),
       );
     }
 
-put-scalar-requires : tie.Need-put-scalar-requires
-put-scalar-requires c κs = write_table _ _ _ _ _ _ (sym c.before.before.before.judge-scalar.ensures ∙ c.before.enum_told.given.1)
+put-scalar-requires : tie.Need-put_scalar-requires
+put-scalar-requires c κs = write_table _ _ _ _ _ _ (sym c.before.before.judge_scalar.ensures ∙ c.before.in_default.is)
 
 marked-requires : tie.Need-marked-requires
 marked-requires c κs =
-    let d = c.before.before.before in
-    write_table _ _ _ _ _ _ (sym d.before.before.before.judge-scalar.ensures ∙ d.before.enum_told.given.1)
+    let d = c in
+    write_table _ _ _ _ _ _ (sym d.before.before.before.before.before.judge_scalar.ensures ∙ d.before.before.before.before.in_default.is)
 
-returns-2 : tie.Need-returns-2
+returns-2 : tie.Need-returns
 unfolding write_of
 returns-2 c =
-    let judge-scalar = c.before.before.before.before.before.before.before.judge-scalar in
-    let enum_told = c.before.before.before.before.before.enum_told in
-    let e = (sym judge-scalar.ensures ∙ enum_told.given.1) in
-    write_told_lem _ _ _ _ _ _ (record { handed = rw (e, c.marked.ensures); kept = rw (e, c.before.before.before.put-scalar.ensures) })
+    let judge-scalar = c.before.before.before.before.before.before.judge_scalar in
+    let enum_told = c.before.before.before.before.before.in_default in
+    let e = (sym judge-scalar.ensures ∙ enum_told.is) in
+    write_told_lem _ _ _ _ _ _ (record { handed = rw (e, c.marked.ensures); kept = rw (e, c.before.before.before.put_scalar.ensures) })
 
 pub write_spec : {M : Type 1} → statement M
 write_spec =

@@ -8,27 +8,27 @@ use Rattle.master.proofs.Verdicts.{write_table}
 use Rattle.master.proofs.state.State.write_array.Statement.{statement}
 use Rattle.master.proofs.state.State.write_array.Tie as tie
 
-returns : tie.Need-returns
+returns : tie.Need-returns-in-Refused
 unfolding write_of
 returns c =
-    let e = (sym c.before.before.before.before.judge-array.ensures ∙ c.before.before.refusal.given.1) in
+    let e = (sym c.before.before.judge_array.ensures ∙ c.before.in-Refused.is) in
     write_told_lem _ _ _ _ _ _ (record { handed = rw (e, c.not_written.ensures); kept = rw e })
 
-put-array-requires : tie.Need-put-array-requires
-put-array-requires c κs = write_table _ _ _ _ _ _ (sym c.before.before.before.judge-array.ensures ∙ c.before.enum_told.given.1)
+put-array-requires : tie.Need-put_array-requires
+put-array-requires c κs = write_table _ _ _ _ _ _ (sym c.before.before.judge_array.ensures ∙ c.before.in_default.is)
 
 marked-requires : tie.Need-marked-requires
 marked-requires c κs =
-    let d = c.before.before.before in
-    write_table _ _ _ _ _ _ (sym d.before.before.before.judge-array.ensures ∙ d.before.enum_told.given.1)
+    let d = c in
+    write_table _ _ _ _ _ _ (sym d.before.before.before.before.before.judge_array.ensures ∙ d.before.before.before.before.in_default.is)
 
-returns-2 : tie.Need-returns-2
+returns-2 : tie.Need-returns
 unfolding write_of
 returns-2 c =
-    let judge-array = c.before.before.before.before.before.before.before.judge-array in
-    let enum_told = c.before.before.before.before.before.enum_told in
-    let e = (sym judge-array.ensures ∙ enum_told.given.1) in
-    write_told_lem _ _ _ _ _ _ (record { handed = rw (e, c.marked.ensures); kept = rw (e, c.before.before.before.put-array.ensures) })
+    let judge-array = c.before.before.before.before.before.before.judge_array in
+    let enum_told = c.before.before.before.before.before.in_default in
+    let e = (sym judge-array.ensures ∙ enum_told.is) in
+    write_told_lem _ _ _ _ _ _ (record { handed = rw (e, c.marked.ensures); kept = rw (e, c.before.before.before.put_array.ensures) })
 
 pub write_array_spec : {M : Type 1} → statement M
 write_array_spec =

@@ -3,11 +3,11 @@ use borrow.Author.Rules.{rules}
 use Rattle.master.proofs.state.Status.after.Statement.{statement}
 use Rattle.master.proofs.state.Status.after.Tie as tie
 
-returns : tie.Need-returns
-returns c = rw (c.before.if1.true, c.counted.ensures)
+returns : tie.Need-returns-then-counts
+returns c = rw (c.before.if-counts.true, c.counted.ensures)
 
-returns-2 : tie.Need-returns-2
-returns-2 c = rw c.if1.false
+returns-2 : tie.Need-returns-else-counts
+returns-2 c = rw c.if-counts.false
 
-pub after-spec : {M : Type 1} → statement M
-after-spec = tie.close (tie.spec (λ c κs. search rules) returns returns-2)
+pub after_spec : {M : Type 1} → statement M
+after_spec = tie.close (tie.spec (λ c κs. search rules) returns returns-2)

@@ -5,13 +5,13 @@ use Rattle.master.specs.Status.{with_counted}
 use Rattle.master.proofs.state.Status.counted.Statement.{statement}
 use Rattle.master.proofs.state.Status.counted.Tie as tie
 
-returns : tie.Need-returns
+returns : tie.Need-returns-then-success
 unfolding with_counted
-returns c = rw (c.overruns.ensures, c.before.if1.true, or_false c.before.before.args.self.error, or_true c.before.before.args.self.success)
+returns c = rw (c.overruns.ensures, c.before.if-success.true, or_false c.before.before.args.self.error, or_true c.before.before.args.self.success)
 
-returns-2 : tie.Need-returns-2
+returns-2 : tie.Need-returns-else-success
 unfolding with_counted
-returns-2 c = rw (c.overruns2.ensures, c.before.if1.false, or_true c.before.before.args.self.error, or_false c.before.before.args.self.success)
+returns-2 c = rw (c.overruns-else-success.ensures, c.before.if-success.false, or_true c.before.before.args.self.error, or_false c.before.before.args.self.success)
 
 pub counted_spec : {M : Type 1} → statement M
 counted_spec = tie.close (tie.spec (λ c κs. search rules) (λ c κs. search rules) returns returns-2)

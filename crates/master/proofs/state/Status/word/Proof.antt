@@ -6,10 +6,10 @@ use Rattle.master.proofs.state.Status.word.Tie as tie
 
 returns : tie.Need-returns
 unfolding status_word
-returns c = rw (c.before.before.before.digit.ensures.0, c.before.before.digit2.ensures.0, c.before.digit3.ensures.0)
+returns c = rw (c.before.before.before.digit.ensures.0, c.before.before.digit-2.ensures.0, c.before.digit-3.ensures.0)
 
-pub word-spec : {M : Type 1} → statement M
-word-spec =
+pub word_spec : {M : Type 1} → statement M
+word_spec =
     tie.close
     (tie.spec (λ c κs. search rules) (λ c κs. search rules) (λ c. search rules) (λ c. search rules)
     (λ c κs. search rules) (λ c. search rules) (λ c. search rules) (λ c. search rules) (λ c. search rules)

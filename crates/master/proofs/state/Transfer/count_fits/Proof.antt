@@ -4,14 +4,14 @@ use Rattle.master.specs.Fits.{count_fits}
 use Rattle.master.proofs.state.Transfer.count_fits.Statement.{statement}
 use Rattle.master.proofs.state.Transfer.count_fits.Tie as tie
 
-returns : tie.Need-returns
+returns : tie.Need-returns-then-is_open
 unfolding count_fits
-returns c = rw (← c.before.before.before.is_open.ensures, c.before.before.if1.true, c.length.ensures)
+returns c = rw (← c.before.before.before.is_open.ensures, c.before.before.if-is_open.true, c.length.ensures)
 
-returns-2 : tie.Need-returns-2
+returns-2 : tie.Need-returns
 unfolding count_fits
-returns-2 c = rw (← c.before.is_open.ensures, c.if1.false)
+returns-2 c = rw (← c.before.is_open.ensures, c.if-is_open.false)
 
-pub count-fits-spec : {M : Type 1} → statement M
-count-fits-spec =
+pub count_fits_spec : {M : Type 1} → statement M
+count_fits_spec =
     tie.close (tie.spec (λ c κs. search rules) (λ c. search rules) (λ c κs. search rules) returns returns-2)

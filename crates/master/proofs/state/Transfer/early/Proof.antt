@@ -6,5 +6,5 @@ use Rattle.master.proofs.state.Transfer.early.Tie as tie
 returns : tie.Need-returns
 returns c = rw c.length.ensures
 
-pub early-spec : {M : Type 1} → statement M
-early-spec = tie.close (tie.spec (λ c. search rules) (λ c κs. search rules) returns)
+pub early_spec : {M : Type 1} → statement M
+early_spec = tie.close (tie.spec (λ c. search rules) (λ c κs. search rules) returns)

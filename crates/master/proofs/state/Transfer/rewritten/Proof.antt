@@ -5,17 +5,17 @@ use Rattle.master.specs.Write.{rewritten}
 use Rattle.master.proofs.state.Transfer.rewritten.Statement.{statement}
 use Rattle.master.proofs.state.Transfer.rewritten.Tie as tie
 
-returns : tie.Need-returns
+returns : tie.Need-returns-then-self
 unfolding rewritten
-returns c = rw c.if1.true
+returns c = rw c.if-self.true
 
-returns-2 : tie.Need-returns-2
+returns-2 : tie.Need-returns-then-touched
 unfolding rewritten
-returns-2 c = rw (← c.before.touched.ensures, c.if2.true, or_true c.before.before.before.before.args.self.written)
+returns-2 c = rw (← c.before.touched.ensures, c.if-touched.true, or_true c.before.before.before.before.args.self.written)
 
-returns-3 : tie.Need-returns-3
+returns-3 : tie.Need-returns-else-touched
 unfolding rewritten
-returns-3 c = rw (← c.before.touched.ensures, c.if2.false, or_false c.before.before.before.before.args.self.written)
+returns-3 c = rw (← c.before.touched.ensures, c.if-touched.false, or_false c.before.before.before.before.args.self.written)
 
-pub rewritten-spec : {M : Type 1} → statement M
-rewritten-spec = tie.close (tie.spec returns (λ c κs. search rules) returns-2 returns-3)
+pub rewritten_spec : {M : Type 1} → statement M
+rewritten_spec = tie.close (tie.spec returns (λ c κs. search rules) returns-2 returns-3)

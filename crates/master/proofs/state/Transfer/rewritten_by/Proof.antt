@@ -9,31 +9,31 @@ use Rattle.master.proofs.RowTurns.{rewrites_turn, rewrites_end}
 use Rattle.master.proofs.state.Transfer.rewritten_by.Statement.{statement}
 use Rattle.master.proofs.state.Transfer.rewritten_by.Tie as tie
 
-abbrev invariant-loop : tie.invariant-loop
+abbrev invariant-loop : tie.invariant-loop-i
 invariant-loop t signals next₀ i₀ next i = (i ≤ length signals) × (rewritten_by t signals next₀ ≡ rewritten_by t (drop i signals) next)
 
-abbrev decreases-loop : tie.decreases-loop
+abbrev decreases-loop : tie.decreases-loop-i
 decreases-loop t signals next₀ i₀ next i = length signals - i
 
-loop-holds : tie.Need-loop-init invariant-loop decreases-loop
+loop-holds : tie.Need-loop-i-init invariant-loop decreases-loop
 loop-holds c = (omega arith, refl)
 
-loop-again : tie.Need-loop-preserved invariant-loop decreases-loop
+loop-again : tie.Need-loop-i-preserved invariant-loop decreases-loop
 loop-again c =
     let a = c.before.before.before.before.before.before.args in
-    let at = c.before.before.before.loop in (
-      omega (arith, c.before.before.loop-test.true),
-      at.invariant.1 ∙ rewrites_turn a.t.now a.signals.now at.i c.before.before.loop-test.true at.next ∙ rw c.rewritten.ensures,
+    let at = c.before.before.before.loop-i in (
+      omega (arith, c.before.before.loop-i-test.true),
+      at.invariant.1 ∙ rewrites_turn a.t.now a.signals.now at.i c.before.before.loop-i-test.true at.next ∙ rw c.rewritten-next.ensures,
     )
 
 returns : tie.Need-returns invariant-loop decreases-loop
 returns c =
     let a = c.before.before.before.before.args in
-    let at = c.before.loop in
-    sym (at.invariant.1 ∙ rewrites_end a.t.now a.signals.now at.i c.loop-test.false at.invariant.0 at.next)
+    let at = c.before.loop-i in
+    sym (at.invariant.1 ∙ rewrites_end a.t.now a.signals.now at.i c.loop-i-test.false at.invariant.0 at.next)
 
-pub rewritten-by-spec : {M : Type 1} → statement M
-rewritten-by-spec =
+pub rewritten_by_spec : {M : Type 1} → statement M
+rewritten_by_spec =
     tie.close
     (tie.spec invariant-loop decreases-loop loop-holds (λ c. search rules) (λ c. search rules) (λ c κs. search rules) (λ c. search rules) (λ c. search rules)
     loop-again returns)

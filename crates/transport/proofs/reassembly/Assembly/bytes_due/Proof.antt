@@ -5,17 +5,17 @@ use Rattle.transport.specs.Reassembly.{bytes_due}
 use Rattle.transport.proofs.reassembly.Assembly.bytes_due.Statement.{statement}
 use Rattle.transport.proofs.reassembly.Assembly.bytes_due.Tie as tie
 
-returns : tie.Need-returns
+returns : tie.Need-returns-then-self
 unfolding bytes_due
 returns c = omega arith
 
-returns-2 : tie.Need-returns-2
+returns-2 : tie.Need-returns-then-rest-lt6
 unfolding bytes_due
 returns-2 c = omega arith
 
-returns-3 : tie.Need-returns-3
+returns-3 : tie.Need-returns-else-rest-lt6
 unfolding bytes_due
 returns-3 c = omega arith
 
-pub bytes-due-spec : {M : Type 1} → statement M
-bytes-due-spec = tie.close (tie.spec returns (λ c. search rules) returns-2 returns-3)
+pub bytes_due_spec : {M : Type 1} → statement M
+bytes_due_spec = tie.close (tie.spec returns (λ c. search rules) returns-2 returns-3)

@@ -5,13 +5,13 @@ use Rattle.transport.specs.Reassembly.{reached}
 use Rattle.transport.proofs.reassembly.Assembly.reached.Statement.{statement}
 use Rattle.transport.proofs.reassembly.Assembly.reached.Tie as tie
 
-returns : tie.Need-returns
+returns : tie.Need-returns-then-n-self
 unfolding reached
-returns c = simp (lt-ltb _ _ c.before.if1.true, c.counter-after.ensures)
+returns c = simp (lt-ltb _ _ c.before.if-n-self.true, c.counter_after.ensures)
 
-returns-2 : tie.Need-returns-2
+returns-2 : tie.Need-returns-else-n-self
 unfolding reached
-returns-2 c = simp (le-ltb _ _ c.if1.false)
+returns-2 c = simp (le-ltb _ _ c.if-n-self.false)
 
-pub reached-spec : {M : Type 1} → statement M
-reached-spec = tie.close (tie.spec (λ c κs. search rules) returns returns-2)
+pub reached_spec : {M : Type 1} → statement M
+reached_spec = tie.close (tie.spec (λ c κs. search rules) returns returns-2)

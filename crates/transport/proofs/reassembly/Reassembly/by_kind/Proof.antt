@@ -10,40 +10,40 @@ use borrow.Author.Rules.{rules}
 use Rattle.transport.proofs.reassembly.Reassembly.by_kind.Statement.{statement}
 use Rattle.transport.proofs.reassembly.Reassembly.by_kind.Tie as tie
 
-returns : tie.Need-returns
+returns : tie.Need-returns-in-1-to-6
 returns c =
-    let d = c.before.before.before.before.before in
-    let p = d.before.before.before.before.requires in
-    let kind = kind_single (frame_pci d.before.before.before.before.args.frame.now) d.if1.false (omega arith) in
+    let d = c in
+    let p = d.before.before.before.before.before.before.before.before.requires in
+    let kind = kind_single (frame_pci d.before.before.before.before.before.before.before.before.args.frame.now) d.if1.false (omega arith) in
     rw (step_kind _ _ _ p.0 p.1 p.2 single kind refl) c.before.before.single.ensures
 
-returns-2 : tie.Need-returns-2
+returns-2 : tie.Need-returns-in-16-to-31
 returns-2 c =
-    let d = c.before.before.before.before.before in
-    let p = d.before.before.before.before.before.before.requires in
-    let kind = kind_first (frame_pci d.before.before.before.before.before.before.args.frame.now) d.if3.false (omega arith) in
+    let d = c in
+    let p = d.before.before.before.before.before.before.before.before.requires in
+    let kind = kind_first (frame_pci d.before.before.before.before.before.before.before.before.args.frame.now) d.if3.false (omega arith) in
     rw (step_kind _ _ _ p.0 p.1 p.2 first kind refl) c.before.before.first.ensures
 
-returns-3 : tie.Need-returns-3
+returns-3 : tie.Need-returns-in-32-to-47
 returns-3 c =
-    let d = c.before.before.before.before.before.before.before.before.before.before.before.before in
-    let p = d.requires in
-    let kind = kind_next (frame_pci d.args.frame.now) (omega arith) (omega arith) in
+    let d = c in
+    let p = d.before.before.before.before.before.before.before.before.requires in
+    let kind = kind_next (frame_pci d.before.before.before.before.before.before.before.before.args.frame.now) (omega arith) (omega arith) in
     rw (step_next _ _ _ p.0 p.1 p.2 kind) c.before.before.next.ensures
 
-returns-4 : tie.Need-returns-4
+returns-4 : tie.Need-returns-in_default
 returns-4 c =
-    let d = c.before.before.before.before.before in
-    let p = d.requires in
-    let pci = frame_pci d.args.frame.now in
+    let d = c in
+    let p = d.before.before.before.before.before.requires in
+    let pci = frame_pci d.before.before.before.before.before.args.frame.now in
     let none : NoKind pci =
     ⊎_elim (λ w. inl (omega arith))
     (⊎_elim (λ w. inr (inl (omega arith, omega arith))) (λ w. inr (inr (omega arith))))
-    c.before.if1.branch in
+    c.before.in_default.branch in
     leaves_plain _ _ _ _ _ (step_other _ _ _ p.0 p.1 p.2 (kind_other pci none)) c.answering.ensures
 
-pub by-kind-spec : {M : Type 1} → statement M
-by-kind-spec =
+pub by_kind_spec : {M : Type 1} → statement M
+by_kind_spec =
     tie.close
     (tie.spec (λ c. search rules) (λ c κs. search rules) (λ c κs. search rules) (λ c κs. search rules)
     (λ c κs. search rules) (λ c. search rules) returns (λ c. search rules) returns-2 (λ c. search rules)

@@ -11,32 +11,32 @@ use Rattle.transport.proofs.Outcomes.{leaves_plain, leaves_written, first_low, f
 use Rattle.transport.proofs.reassembly.Reassembly.first.Statement.{statement}
 use Rattle.transport.proofs.reassembly.Reassembly.first.Tie as tie
 
-cast-length-2 : tie.Need-overflow-cast-length-2
-cast-length-2 c = omega (arith, c.shared-slice-known3.given 2)
+cast-length-2 : tie.Need-overflow_cast-length-2
+cast-length-2 c = omega (arith, c.shared_slice_known-3-1.given 2)
 
-add-length : tie.Need-overflow-add-length
-add-length c = omega (arith, c.shared-slice-known3.given 2)
+add-length : tie.Need-overflow_add-length
+add-length c = omega (arith, c.shared_slice_known-3-1.given 2)
 
-cast-if2 : tie.Need-overflow-cast-if2
-cast-if2 c = omega (arith, c.before.shared-slice-known3.given 2)
+cast-if2 : tie.Need-overflow_cast-length-else-length-lt7
+cast-if2 c = omega (arith, c.before.shared_slice_known-3-1.given 2)
 
-returns : tie.Need-returns
+returns : tie.Need-returns-then-length-lt7
 returns c = ⊎_elim (λ w. leaves_plain _ _ _ _ _ (first_low _ _ _ w.taken) c.answering.ensures)
-    (λ w. leaves_plain _ _ _ _ _ (first_high _ _ _ w.0.left (ltb-true _ _ w.1.taken)) c.answering.ensures) c.before.if1.branch
+    (λ w. leaves_plain _ _ _ _ _ (first_high _ _ _ w.0.left (ltb-true _ _ w.1.taken)) c.answering.ensures) c.before.then-length-lt7.branch
 
 deliver-requires : tie.Need-deliver-requires
 deliver-requires c κs =
     let a = c.before.before.before.before.before.before.before.args in
-    let high = ltb-false (length a.buffer.now) (first_length a.frame.now) c.before.if2.false in
+    let high = ltb-false (length a.buffer.now) (first_length a.frame.now) c.before.if-buffer-length.false-raw in
     (search rules, omega arith)
 
-returns-2 : tie.Need-returns-2
+returns-2 : tie.Need-returns
 unfolding first_step
 returns-2 c =
-    let d = c.before.before.before in
-    let a = d.before.before.before.before.before.before.before.before.args in
-    let taken = first_taken a.self a.frame.now a.buffer.now d.before.before.before.if1.false (ltb-false _ _ d.before.before.if2.false) in
-    leaves_written _ (first_step a.frame.now) _ _ _ taken refl d.deliver.ensures
+    let d = c in
+    let a = d.before.before.before.before.before.before.before.before.before.before.before.args in
+    let taken = first_taken a.self a.frame.now a.buffer.now d.before.before.before.before.before.before.if-length-lt7.false (ltb-false _ _ d.before.before.before.before.before.if-buffer-length.false-raw) in
+    leaves_written _ (first_step a.frame.now) _ _ _ taken refl d.before.before.before.deliver.ensures
 
 pub first_spec : {M : Type 1} → statement M
 first_spec =

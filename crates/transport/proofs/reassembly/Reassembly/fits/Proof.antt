@@ -5,13 +5,13 @@ use Rattle.transport.specs.Reassembly.{fits}
 use Rattle.transport.proofs.reassembly.Reassembly.fits.Statement.{statement}
 use Rattle.transport.proofs.reassembly.Reassembly.fits.Tie as tie
 
-returns : tie.Need-returns
+returns : tie.Need-returns-in-Nothing
 unfolding fits
-returns c = rw c.enum_told.given.1
+returns c = rw c.in-Nothing.is
 
-returns-2 : tie.Need-returns-2
+returns-2 : tie.Need-returns-in-Open
 unfolding fits
-returns-2 c = c.fits2.ensures ∙ rw c.before.before.self.given.1
+returns-2 c = c.fits.ensures ∙ rw c.before.in-Open.is
 
-pub fits-spec : {M : Type 1} → statement M
-fits-spec = tie.close (tie.spec (λ c. search rules) (λ c. search rules) (λ c κs. search rules) returns returns-2)
+pub fits_spec : {M : Type 1} → statement M
+fits_spec = tie.close (tie.spec (λ c. search rules) (λ c. search rules) (λ c κs. search rules) returns returns-2)

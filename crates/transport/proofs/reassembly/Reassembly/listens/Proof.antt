@@ -5,17 +5,17 @@ use Rattle.transport.specs.Reassembly.{listens}
 use Rattle.transport.proofs.reassembly.Reassembly.listens.Statement.{statement}
 use Rattle.transport.proofs.reassembly.Reassembly.listens.Tie as tie
 
-returns : tie.Need-returns
+returns : tie.Need-returns-in-Nothing
 unfolding listens
-returns c = rw c.enum_told.given.1
+returns c = rw c.in-Nothing.is
 
-returns-2 : tie.Need-returns-2
+returns-2 : tie.Need-returns-then-nad-ne0
 unfolding listens
-returns-2 c = simp (c.before.before.before.self.given.1, ne_eqb _ _ c.before.if1.true)
+returns-2 c = simp (c.before.before.in-Open.is, ne_eqb _ _ c.before.if-nad-ne0.true)
 
-returns-3 : tie.Need-returns-3
+returns-3 : tie.Need-returns-else-nad-ne0
 unfolding listens
-returns-3 c = simp (c.before.before.self.given.1, eq-eqb _ _ c.if1.false)
+returns-3 c = simp (c.before.in-Open.is, eq-eqb _ _ c.if-nad-ne0.false)
 
-pub listens-spec : {M : Type 1} → statement M
-listens-spec = tie.close (tie.spec (λ c. search rules) (λ c. search rules) returns returns-2 returns-3)
+pub listens_spec : {M : Type 1} → statement M
+listens_spec = tie.close (tie.spec (λ c. search rules) (λ c. search rules) returns returns-2 returns-3)

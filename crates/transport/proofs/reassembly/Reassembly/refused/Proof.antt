@@ -7,5 +7,5 @@ use Rattle.transport.proofs.reassembly.Reassembly.refused.Tie as tie
 returns : tie.Need-returns
 returns c = c.answering.ensures ∙ rw c.before.of.ensures
 
-pub refused-spec : {M : Type 1} → statement M
-refused-spec = tie.close (tie.spec (λ c κs. search rules) (λ c κs. search rules) returns)
+pub refused_spec : {M : Type 1} → statement M
+refused_spec = tie.close (tie.spec (λ c κs. search rules) (λ c κs. search rules) returns)

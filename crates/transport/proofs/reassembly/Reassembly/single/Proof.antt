@@ -6,18 +6,18 @@ use Rattle.transport.proofs.Outcomes.{leaves_plain, leaves_written, single_ignor
 use Rattle.transport.proofs.reassembly.Reassembly.single.Statement.{statement}
 use Rattle.transport.proofs.reassembly.Reassembly.single.Tie as tie
 
-returns : tie.Need-returns
-returns c = leaves_plain _ _ _ _ _ (single_ignored _ _ _ c.before.if1.true) c.answering.ensures
+returns : tie.Need-returns-then-buffer-bytes
+returns c = leaves_plain _ _ _ _ _ (single_ignored _ _ _ c.before.if-buffer-bytes.true) c.answering.ensures
 
-returns-2 : tie.Need-returns-2
+returns-2 : tie.Need-returns
 unfolding single_step
 returns-2 c =
-    let d = c.before.before.before.before in
-    let a = d.before.before.before.before.args in
-    leaves_written _ (single_step a.frame.now) _ _ _ (single_taken a.self a.frame.now a.buffer.now d.if1.false) refl c.before.before.deliver.ensures
+    let d = c in
+    let a = d.before.before.before.before.before.before.before.before.args in
+    leaves_written _ (single_step a.frame.now) _ _ _ (single_taken a.self a.frame.now a.buffer.now d.before.before.before.before.if-buffer-bytes.false) refl c.before.before.deliver.ensures
 
-pub single-spec : {M : Type 1} → statement M
-single-spec =
+pub single_spec : {M : Type 1} → statement M
+single_spec =
     tie.close
     (tie.spec (λ c. search rules) (λ c. search rules) (λ c. search rules) (λ c κs. search rules) returns
     (λ c κs. search rules) (λ c. search rules) returns-2)

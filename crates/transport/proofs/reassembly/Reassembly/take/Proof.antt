@@ -8,26 +8,26 @@ use Rattle.transport.proofs.AnswerLaws.{take_told_lem}
 use Rattle.transport.proofs.reassembly.Reassembly.take.Statement.{statement}
 use Rattle.transport.proofs.reassembly.Reassembly.take.Tie as tie
 
-returns : tie.Need-returns
-returns c = take_told_lem _ _ _ _ _ (leaves_plain _ _ _ _ _ (step_unfit _ _ _ (sym c.before.before.fits2.ensures ∙ not-true _ c.before.if1.true)) c.refused.ensures)
+returns : tie.Need-returns-then-not-fits
+returns c = take_told_lem _ _ _ _ _ (leaves_plain _ _ _ _ _ (step_unfit _ _ _ (sym c.before.before.fits.ensures ∙ not-true _ c.before.if-not-fits.true-raw)) c.refused.ensures)
 
-returns-2 : tie.Need-returns-2
+returns-2 : tie.Need-returns-then-frame-ne8
 returns-2 c =
-    let fit = sym c.before.before.before.fits2.ensures ∙ not-false _ c.before.before.if1.false in
-    take_told_lem _ _ _ _ _ (leaves_plain _ _ _ _ _ (step_length _ _ _ fit c.before.if2.true) c.refused2.ensures)
+    let fit = sym c.before.before.before.fits.ensures ∙ not-false _ c.before.before.if-not-fits.false-raw in
+    take_told_lem _ _ _ _ _ (leaves_plain _ _ _ _ _ (step_length _ _ _ fit c.before.if-frame-ne8.true) c.refused-then-frame-ne8.ensures)
 
-returns-3 : tie.Need-returns-3
+returns-3 : tie.Need-returns-then-not-listens
 returns-3 c =
-    let d = c.before.before.before.before in
-    let fit = sym d.before.before.fits2.ensures ∙ not-false _ d.before.if1.false in
-    take_told_lem _ _ _ _ _ (leaves_plain _ _ _ _ _ (step_nad _ _ _ fit d.if2.false (sym c.before.before.listens.ensures ∙ not-true _ c.before.if3.true)) c.answering.ensures)
+    let d = c in
+    let fit = sym d.before.before.before.before.before.before.fits.ensures ∙ not-false _ d.before.before.before.before.before.if-not-fits.false-raw in
+    take_told_lem _ _ _ _ _ (leaves_plain _ _ _ _ _ (step_nad _ _ _ fit d.before.before.before.before.if-frame-ne8.false (sym c.before.before.listens.ensures ∙ not-true _ c.before.if-not-listens.true-raw)) c.answering.ensures)
 
-by-kind-requires : tie.Need-by-kind-requires
+by-kind-requires : tie.Need-by_kind-requires
 by-kind-requires c κs =
-    let d = c.before.before.before.before in
-    (sym d.before.before.fits2.ensures ∙ not-false _ d.before.if1.false, d.if2.false, sym c.before.before.listens.ensures ∙ not-false _ c.before.if3.false)
+    let d = c in
+    (sym d.before.before.before.before.before.before.fits.ensures ∙ not-false _ d.before.before.before.before.before.if-not-fits.false-raw, d.before.before.before.before.if-frame-ne8.false, sym c.before.before.listens.ensures ∙ not-false _ c.before.if-not-listens.false-raw)
 
-returns-4 : tie.Need-returns-4
+returns-4 : tie.Need-returns
 returns-4 c = take_told_lem _ _ _ _ _ c.before.before.by_kind.ensures
 
 pub take_spec : {M : Type 1} → statement M
