@@ -36,7 +36,7 @@ same_length c = ap length c.before.loop-i.invariant.1 ∙ put_length _ _ _ _
 
 returns : tie.Need-returns invariant-loop decreases-loop
 unfolding put_array
-returns c = let e : c.before.loop.i ≡ length c.before.before.before.before.args.values.now = omega arith in c.before.loop.invariant.1 ∙ rw e
+returns c = let e : c.before.loop-i.i ≡ length c.before.before.before.before.args.values.now = omega arith in c.before.loop-i.invariant.1 ∙ rw e
 
 pub put_array_spec : {M : Type 1} → statement M
 put_array_spec =

@@ -10,7 +10,7 @@ use Rattle.buslog.proofs.judge.of_identifier.Tie as tie
 returns : tie.Need-returns
 returns c =
     c.of-known.ensures
-    ∙ diagnostic _ _ _ (⊎_elim (λ w. rw (eq-eqb _ 60 w.taken)) (λ w. rw (ne_eqb _ 60 w.0.left, w.1.taken)) c.before.if1.branch)
+    ∙ diagnostic _ _ _ (⊎_elim (λ w. rw (eq-eqb _ 60 w)) (λ w. rw (ne_eqb _ 60 w.0, w.1)) c.before.if1.either)
 
 of-known-requires-2 : tie.Need-of-known-requires-2
 of-known-requires-2 c κs =

@@ -25,11 +25,11 @@ returns-2 c =
     ∙ ap (first_entry _) c.before.before.before.schedule-n.ensures
     ∙ sym
     (next_first _ _ (λ h k. ⊎_elim
-    (λ w. w.4.left (w.3.ensures ∙ ap (entry_schedule _) (add-one _) ∙ k ∙ sym c.before.before.before.schedule-n.ensures))
+    (λ w. w.4 (w.3.ensures ∙ ap (entry_schedule _) (add-one _) ∙ k ∙ sym c.before.before.before.schedule-n.ensures))
     (⊎_elim
     (λ w. omega arith)
     (λ w. omega arith))
-    c.before.if-e-count.branch))
+    c.before.if-e-count.either))
 
 pub next_spec : {M : Type 1} → statement M
 next_spec =

@@ -31,10 +31,10 @@ loop-again c =
       loop.invariant.0,
       omega arith,
       ap length w.1 ∙ length-set loop.next _ _ ∙ loop.invariant.2,
-      w.1 ∙ up_to_here _ _ loop.k _ _ loop.invariant.3 loop.invariant.2 _ is w.0.taken,
+      w.1 ∙ up_to_here _ _ loop.k _ _ loop.invariant.3 loop.invariant.2 _ is w.0,
     ))
-    (λ w. (loop.invariant.0, omega arith, rw w.1 loop.invariant.2, w.1 ∙ up_to_not _ _ loop.k _ _ loop.invariant.3 loop.invariant.2 _ is w.0.left))
-    c.if-s-lt-SIGNALS.branch
+    (λ w. (loop.invariant.0, omega arith, rw w.1 loop.invariant.2, w.1 ∙ up_to_not _ _ loop.k _ _ loop.invariant.3 loop.invariant.2 _ is w.0))
+    c.if-s-lt-SIGNALS.either
 
 returns : tie.Need-returns invariant-loop decreases-loop
 returns c =

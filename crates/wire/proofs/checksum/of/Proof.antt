@@ -3,7 +3,7 @@
 use mathlib.Core.Logic.{⊎_elim}
 use native.Mathlib.Omega.{arith}
 use borrow.Author.Rules.{rules}
-use borrow.Author.Tests.{lt-ltb, le-ltb, le-leb, leb-true}
+use borrow.Author.Tests.{lt-ltb, le-ltb, le-leb, lt-leb, leb-true}
 use lib.ListN.{length}
 use Rattle.wire.specs.Checksum.{checksum_of, checksum_byte, inverted, model_of}
 use Rattle.wire.proofs.Sums.{sum_covered}
@@ -27,12 +27,13 @@ returns c =
 returns-2 : tie.Need-returns-else-id-lt64
 unfolding checksum_of
 returns-2 c =
-    let a = c.before.before.before.args in
+    let a = c.before.before.args in
     sum_told a.id a.wish a.«data».now _
-    (⊎_elim (λ w. simp (lt-ltb _ _ w.0.taken, w.1.taken, w.2.left, c.refused.ensures))
-    (⊎_elim (λ w. simp (lt-ltb _ _ w.0.taken, w.1.left, c.refused.ensures))
-    (λ w. simp (le-ltb _ _ w.left, c.refused.ensures)))
-    c.before.else-id-lt64.branch)
+    (⊎_elim
+    (λ w. simp (lt-ltb a.id 64 w.0, le-leb 1 (length a.«data».now) w.1, lt-leb (length a.«data».now) 8 w.2, c.refused.ensures))
+    (⊎_elim (λ w. simp (lt-ltb a.id 64 w.0, lt-leb 1 (length a.«data».now) w.1, c.refused.ensures))
+    (λ w. simp (le-ltb a.id 64 w, c.refused.ensures)))
+    c.before.else-id-lt64.either)
 
 pub of_spec : {M : Type 1} → statement M
 of_spec = tie.close (tie.spec (λ c κs. search rules) (λ c κs. search rules) (λ c. search rules) (λ c κs. search rules) returns

@@ -26,4 +26,4 @@ unfolding protected_of
 returns-2 c = build_told c.before.before.args.id _ (simp (le-ltb c.before.before.args.id 64 (omega arith), c.refused.ensures))
 
 pub build_spec : {M : Type 1} → statement M
-build_spec = tie.close (tie.spec (λ c. search rules) protected-in-requires (λ c κs. search rules) returns returns-2)
+build_spec = tie.close (tie.spec protected-in-requires (λ c κs. search rules) returns returns-2)

@@ -34,4 +34,4 @@ returns-2 c =
     ))
 
 pub read_spec : {M : Type 1} → statement M
-read_spec = tie.close (tie.spec (λ c. search rules) protected-in-requires (λ c κs. search rules) returns returns-2)
+read_spec = tie.close (tie.spec protected-in-requires (λ c κs. search rules) returns returns-2)

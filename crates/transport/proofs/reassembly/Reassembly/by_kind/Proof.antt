@@ -7,6 +7,7 @@ use Rattle.transport.proofs.Outcomes.{leaves_plain}
 use Rattle.transport.specs.Reassembly.{frame_pci, single, first, next}
 use native.Mathlib.Omega.{arith}
 use borrow.Author.Rules.{rules}
+use Rattle.transport.proofs.reassembly.Reassembly.by_kind.Lts.{in_default-via-then-pci-lt1, in_default-via-else-pci-lt1+else-pci-lt7+then-pci-lt16, in_default-via-else-pci-lt1+else-pci-lt7+else-pci-lt16+else-pci-lt32+else-pci-lt48}
 use Rattle.transport.proofs.reassembly.Reassembly.by_kind.Statement.{statement}
 use Rattle.transport.proofs.reassembly.Reassembly.by_kind.Tie as tie
 
@@ -14,14 +15,14 @@ returns : tie.Need-returns-in-1-to-6
 returns c =
     let d = c in
     let p = d.before.before.before.before.before.before.before.before.requires in
-    let kind = kind_single (frame_pci d.before.before.before.before.before.before.before.before.args.frame.now) d.if1.false (omega arith) in
+    let kind = kind_single (frame_pci d.before.before.before.before.before.before.before.before.args.frame.now) (omega arith) (omega arith) in
     rw (step_kind _ _ _ p.0 p.1 p.2 single kind refl) c.before.before.single.ensures
 
 returns-2 : tie.Need-returns-in-16-to-31
 returns-2 c =
     let d = c in
     let p = d.before.before.before.before.before.before.before.before.requires in
-    let kind = kind_first (frame_pci d.before.before.before.before.before.before.before.before.args.frame.now) d.if3.false (omega arith) in
+    let kind = kind_first (frame_pci d.before.before.before.before.before.before.before.before.args.frame.now) (omega arith) (omega arith) in
     rw (step_kind _ _ _ p.0 p.1 p.2 first kind refl) c.before.before.first.ensures
 
 returns-3 : tie.Need-returns-in-32-to-47
@@ -37,9 +38,11 @@ returns-4 c =
     let p = d.before.before.before.before.before.requires in
     let pci = frame_pci d.before.before.before.before.before.args.frame.now in
     let none : NoKind pci =
-    ⊎_elim (λ w. inl (omega arith))
-    (⊎_elim (λ w. inr (inl (omega arith, omega arith))) (λ w. inr (inr (omega arith))))
-    c.before.in_default.branch in
+    elim c.before.in_default.branch [
+      | in_default-via-then-pci-lt1 w ↦ inl (omega arith)
+      | in_default-via-else-pci-lt1+else-pci-lt7+then-pci-lt16 w ↦ inr (inl (omega arith, omega arith))
+      | in_default-via-else-pci-lt1+else-pci-lt7+else-pci-lt16+else-pci-lt32+else-pci-lt48 w ↦ inr (inr (omega arith))
+    ] in
     leaves_plain _ _ _ _ _ (step_other _ _ _ p.0 p.1 p.2 (kind_other pci none)) c.answering.ensures
 
 pub by_kind_spec : {M : Type 1} → statement M

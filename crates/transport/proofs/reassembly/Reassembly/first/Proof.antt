@@ -8,6 +8,7 @@ use borrow.Author.Rules.{rules}
 use lib.ListN.{length}
 use Rattle.transport.specs.Reassembly.{first_length, first_step}
 use Rattle.transport.proofs.Outcomes.{leaves_plain, leaves_written, first_low, first_high, first_taken}
+use Rattle.transport.proofs.reassembly.Reassembly.first.Lts.{then-length-lt7-via-then-length-lt7, then-length-lt7-via-else-length-lt7+then-buffer-length}
 use Rattle.transport.proofs.reassembly.Reassembly.first.Statement.{statement}
 use Rattle.transport.proofs.reassembly.Reassembly.first.Tie as tie
 
@@ -21,8 +22,12 @@ cast-if2 : tie.Need-overflow_cast-length-else-length-lt7
 cast-if2 c = omega (arith, c.before.shared_slice_known-3-1.given 2)
 
 returns : tie.Need-returns-then-length-lt7
-returns c = ⊎_elim (λ w. leaves_plain _ _ _ _ _ (first_low _ _ _ w.taken) c.answering.ensures)
-    (λ w. leaves_plain _ _ _ _ _ (first_high _ _ _ w.0.left (ltb-true _ _ w.1.taken)) c.answering.ensures) c.before.then-length-lt7.branch
+returns c =
+    elim c.before.then-length-lt7.branch [
+      | then-length-lt7-via-then-length-lt7 w ↦ leaves_plain _ _ _ _ _ (first_low _ _ _ w.if-length-lt7.true) c.answering.ensures
+      | then-length-lt7-via-else-length-lt7+then-buffer-length w ↦
+          leaves_plain _ _ _ _ _ (first_high _ _ _ w.if-length-lt7.false (ltb-true _ _ w.if-buffer-length.true-raw)) c.answering.ensures
+    ]
 
 deliver-requires : tie.Need-deliver-requires
 deliver-requires c κs =
