@@ -192,6 +192,16 @@ class Walk:
                 return base + "".join("." + w for w in self.tail(words))
 
             code = CHAIN.sub(turned, code) if not re.match(r"\s*use ", code) else code
+            for name, to in self.takes.items():
+                def handed(m):
+                    if m[1] in env:
+                        for k, p in self.out(env[m[1]]):
+                            if p == to:
+                                return f"{name} {m[1]}{'.before' * k}"
+                        self.said.append(f"handed {m[0]} at {env[m[1]]}, wanted {to}")
+                    return m[0]
+
+                code = re.sub(rf"(?<![^\s(]){re.escape(name)} ([^\s(){{}}.;,]+)((?:\.before)*)(?![\w.-])", handed, code) if not re.match(r"\s*(use|unfolding) |\S+ :|" + re.escape(name) + r" \S+ =", code) else code
             done.append(code + comment)
         return "\n".join(done)
 
@@ -200,6 +210,11 @@ class Walk:
         for m in re.finditer(rf"(?m)^(\S+) = tie\.({NAME})", text):
             if dashed(m[2]) in self.places:
                 self.alias[m[1]] = dashed(m[2])
+        self.takes = {}
+        for m in re.finditer(rf"(?m)^(?:abbrev |pub )*(\S+) :\s+(?:\(\S+ : )?(tie\.)?({NAME})(?: invariant-\S+ decreases-\S+)?(?:\)\s|\s+→)", text):
+            to = dashed(m[3]) if m[2] else self.alias.get(m[3])
+            if to in self.places and not m[1].startswith("returns"):
+                self.takes[m[1]] = to
         blocks = re.split(r"(?m)^(?=(?:(?:abbrev|unfoldable|pub) )*[^\s\-][^\n]* :(?: |$))", text)
         text = "".join(self.definition(b) for b in blocks)
         text = re.sub(rf"\btie\.({NAME})", self.tie, text)

@@ -39,14 +39,14 @@ returns-3 : tie.Need-returns-then-e-count
 returns-3 c =
     let d = c in
     let e = c.before.before.first_short-e.ensures in
-    let here = short_told_lem _ _ _ (taken d.before) (times d) (omega (arith, e, c.before.count.ensures, c.if-e-count.true)) in
+    let here = short_told_lem _ _ _ (taken d.before.before.before.before) (times d.before.before.before) (omega (arith, e, c.before.count.ensures, c.if-e-count.true)) in
     judge_told_lem _ _ _ _ (ap Short e ∙ sym here)
 
 returns-4 : tie.Need-returns-else-e-count
 returns-4 c =
     let d = c in
     let e = c.before.before.first_short-e.ensures in
-    let none = none_short _ _ _ (taken d.before) (times d) (omega (arith, e, c.before.count.ensures, c.if-e-count.false)) in
+    let none = none_short _ _ _ (taken d.before.before.before.before) (times d.before.before.before) (omega (arith, e, c.before.count.ensures, c.if-e-count.false)) in
     judge_told_lem _ _ _ _ (sym none)
 
 pub judge_spec : {M : Type 1} → statement M

@@ -50,8 +50,8 @@ loop-again c =
       at.invariant.0,
       omega (arith, d.before.before.before.before.loop-m-test.true),
       ⊎_elim
-          (λ w. rw w.1 (longer t at.m at.longest _ _ at.invariant.2 list bytes (below d) w.0))
-          (λ w. rw w.1 (not_longer t at.m at.longest _ _ at.invariant.2 list bytes w.0))
+          (λ w. rw w.1 (longer t at.m at.longest _ _ at.invariant.2 list bytes (below d.before) w.0.taken))
+          (λ w. rw w.1 (not_longer t at.m at.longest _ _ at.invariant.2 list bytes w.0.left))
           c.if-longest-l.either,
     )
 

@@ -48,7 +48,7 @@ abbrev loop : Judged → Loop
 loop c = c.before.before.before.before
 
 turn-whole : (c : Judged) → Turn (table (loop c)) (entry (loop c)) (schedules (loop c))
-turn-whole c = turn (loop c) (omega (arith, c.before.before.before.loop-e-test.true, (loop c).before.whole-records.ensures.within))
+turn-whole c = turn (loop c) (omega (arith, c.before.before.before.loop-e-test.true, (loop c).before.whole_records-whole.ensures.within))
 
 read_at : (c : Judged) → EntryRead (table (loop c)) (entry_at (table (loop c)) (entry (loop c))) c.before.before.read-words.result
 read_at c = rw (here (loop c)) at c.before.before.read-words.ensures
@@ -56,7 +56,7 @@ read_at c = rw (here (loop c)) at c.before.before.read-words.ensures
 seen : (c : Judged) → c.right_words-right.result ≡ leading (entry_read (table (loop c)) (entry (loop c)) (schedules (loop c)))
 seen c =
     let l = loop c in
-    let lists = l.before.before.before.before.lists.ensures.0 in
+    let lists = l.before.before.before.before.lists-lists.ensures.0 in
     c.right_words-right.ensures ∙ ap leading (seen_read (table l) (entry l) (schedules l) _ (read_at c) _ _ c.before.count.ensures lists)
 
 abbrev Cut : Type 0
@@ -68,7 +68,7 @@ end c = c.before.before.before.before.before
 seen-cut : (c : Cut) → c.right_words-right-then-e-n.result ≡ leading (entry_read (table (end c)) (entry (end c)) (schedules (end c)))
 seen-cut c =
     let l = end c in
-    let lists = l.before.before.before.before.lists.ensures.0 in
+    let lists = l.before.before.before.before.lists-lists.ensures.0 in
     let read = rw (here l) at c.before.read_due.ensures in
     c.right_words-right-then-e-n.ensures ∙ ap leading (seen_read (table l) (entry l) (schedules l) _ read _ _ c.before.before.count-then-e-n.ensures lists)
 
@@ -80,13 +80,13 @@ cut_right c =
     let l = end c in
     let more = c.before.before.before.if-e-n.true in
     let reached = c.before.before.before.before.loop-e-test.false in
-    cut_off (table l) (entry l) (schedules l) (turn-cut c) (omega (arith, here l, l.before.whole_records.ensures.cut (omega arith)))
+    cut_off (table l) (entry l) (schedules l) (turn-cut c) (omega (arith, here l, l.before.whole_records-whole.ensures.cut (omega arith)))
 
 loop-holds : tie.Need-loop-e-init invariant-loop decreases-loop
 loop-holds c = none_passed c.before.before.before.before.before.args.t.now
 
 read-requires : tie.Need-read-words-requires invariant-loop decreases-loop
-read-requires c κs = let l = c in omega (arith, l.before.before.whole_records-whole.ensures.there (entry l) c.loop-e-test.true)
+read-requires c κs = let l = c in omega (arith, l.before.before.whole_records-whole.ensures.there (entry l.before) c.loop-e-test.true)
 
 right-words-requires : tie.Need-right_words-right-requires invariant-loop decreases-loop
 right-words-requires c κs = c.before.read-words.ensures.schedule_high
@@ -105,7 +105,7 @@ loop-again c =
     let d : Judged = c.before.before in
     let l = loop d in
     let right = seen d in
-    rw (read_at d).schedule-is (passes (table l) (entry l) (schedules l) (turn-whole d) (omega arith))
+    rw (read_at d).schedule_is (passes (table l) (entry l) (schedules l) (turn-whole d) (omega arith))
 
 right-words-requires-2 : tie.Need-right_words-right-requires-then-e-n invariant-loop decreases-loop
 right-words-requires-2 c κs = c.read_due.ensures.schedule_high

@@ -7,6 +7,7 @@ use Rattle.cluster.specs.Lists.{first_entry}
 use Rattle.cluster.specs.Table.{entry_schedule}
 use Rattle.cluster.proofs.NextEntry.{next_behind, next_first}
 use borrow.Author.Rules.{rules}
+use Rattle.cluster.proofs.entries.next.Lts.{then-e-count+then-e-count-2+else-schedule-n, then-e-count+else-e-count-2, else-e-count}
 use Rattle.cluster.proofs.entries.next.Statement.{statement}
 use Rattle.cluster.proofs.entries.next.Tie as tie
 
@@ -24,12 +25,12 @@ returns-2 c =
     c.first.ensures
     ∙ ap (first_entry _) c.before.before.before.schedule-n.ensures
     ∙ sym
-    (next_first _ _ (λ h k. ⊎_elim
-    (λ w. w.4 (w.3.ensures ∙ ap (entry_schedule _) (add-one _) ∙ k ∙ sym c.before.before.before.schedule-n.ensures))
-    (⊎_elim
-    (λ w. omega arith)
-    (λ w. omega arith))
-    c.before.if-e-count.either))
+    (next_first _ _ (λ h k. elim c.before.if-e-count.branch [
+      | then-e-count+then-e-count-2+else-schedule-n w ↦
+          w.if-schedule-n.false (w.schedule.ensures ∙ ap (entry_schedule _) (add-one _) ∙ k ∙ sym c.before.before.before.schedule-n.ensures)
+      | then-e-count+else-e-count-2 w ↦ omega arith
+      | else-e-count w ↦ omega arith
+    ]))
 
 pub next_spec : {M : Type 1} → statement M
 next_spec =

@@ -25,11 +25,11 @@ unfolding word
 returns c =
     let a = c.before.before.before.before.args in
     record {
-      schedule-is = sym (due_there a.t.now a.at (omega arith));
-      kind-is = sym (due_there a.t.now (a.at + 1) (omega arith));
+      schedule_is = sym (due_there a.t.now a.at (omega arith));
+      kind_is = sym (due_there a.t.now (a.at + 1) (omega arith));
       target_is = sym (due_there a.t.now (a.at + 2) (omega arith));
-      delay-is = sym (due_there a.t.now (a.at + 3) (omega arith));
-      schedule-high = omega (arith, c.before.before.before.shared_slice_known-1.given a.at);
+      delay_is = sym (due_there a.t.now (a.at + 3) (omega arith));
+      schedule_high = omega (arith, c.before.before.before.shared_slice_known-1.given a.at);
     }
 
 pub read_spec : {M : Type 1} → statement M

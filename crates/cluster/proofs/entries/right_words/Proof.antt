@@ -31,7 +31,7 @@ unfolding entry_columns leading
 returns-3 c =
     let d2 = c in
     simp (
-      up d2.before.before,
+      up d2.before.before.before.before,
       le-leb _ _ d2.before.before.if-words-gt3.false,
       sym c.before.target_right.ensures ∙ not-true c.before.target_right.result c.if-not-target_right.true-raw,
     )
@@ -41,21 +41,21 @@ unfolding entry_columns leading
 returns-4 c =
     let d3 = c in
     let d2 = d3 in
-    simp (up d2.before.before, le-leb _ _ d2.before.before.before.before.if-words-gt3.false, target d3, lt-leb _ _ c.if-words-lt1.true)
+    simp (up d2.before.before.before.before.before.before, le-leb _ _ d2.before.before.before.before.if-words-gt3.false, target d3.before.before, lt-leb _ _ c.if-words-lt1.true)
 
 returns-5 : tie.Need-returns-then-words-le65535
 unfolding entry_columns leading
 returns-5 c =
     let d3 = c in
     let d2 = d3 in
-    simp (up d2.before.before, le-leb _ _ d2.before.before.before.before.before.before.if-words-gt3.false, target d3, le-leb _ _ c.before.before.if-words-lt1.false, le-leb _ _ c.if-words-le65535.true)
+    simp (up d2.before.before.before.before.before.before.before.before, le-leb _ _ d2.before.before.before.before.before.before.if-words-gt3.false, target d3.before.before.before.before, le-leb _ _ c.before.before.if-words-lt1.false, le-leb _ _ c.if-words-le65535.true)
 
 returns-6 : tie.Need-returns-else-words-le65535
 unfolding entry_columns leading
 returns-6 c =
     let d3 = c in
     let d2 = d3 in
-    simp (up d2.before.before, le-leb _ _ d2.before.before.before.before.before.before.if-words-gt3.false, target d3, le-leb _ _ c.before.before.if-words-lt1.false, lt-leb _ _ c.if-words-le65535.false)
+    simp (up d2.before.before.before.before.before.before.before.before, le-leb _ _ d2.before.before.before.before.before.before.if-words-gt3.false, target d3.before.before.before.before, le-leb _ _ c.before.before.if-words-lt1.false, lt-leb _ _ c.if-words-le65535.false)
 
 pub right_words_spec : {M : Type 1} → statement M
 right_words_spec =

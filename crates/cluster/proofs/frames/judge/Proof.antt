@@ -43,7 +43,7 @@ loop c = c.before.before.before.before.before
 there : (c : Judged) → frame (loop c) < frame_count (table (loop c))
 there c =
     let l = loop c in
-    omega (arith, c.before.before.before.before.loop-f-test.true, l.before.before.count.ensures, l.before.whole_records.ensures.within)
+    omega (arith, c.before.before.before.before.loop-f-test.true, l.before.before.count-n.ensures, l.before.whole_records-whole.ensures.within)
 
 read_at : (c : Judged) → FrameRead (table (loop c)) (frame_at (frame (loop c))) c.before.before.read-words.result
 read_at c = rw c.before.before.before.frame_at-at.ensures at c.before.before.read-words.ensures
@@ -58,7 +58,7 @@ abbrev end : Cut → Loop
 end c = c.before.before.before.before.before.before
 
 there-cut : (c : Cut) → frame (end c) < frame_count (table (end c))
-there-cut c = omega (arith, c.before.before.before.before.if-f-n.true, (end c).before.before.count.ensures)
+there-cut c = omega (arith, c.before.before.before.before.if-f-n.true, (end c).before.before.count-n.ensures)
 
 seen-cut : (c : Cut) → c.right_words.result ≡ leading (frame_read (table (end c)) (frame (end c)) (marks (end c)))
 seen-cut c =
@@ -71,7 +71,7 @@ cut_right c =
     let l = end c in
     let more = c.before.before.before.before.if-f-n.true in
     let reached = c.before.before.before.before.before.loop-f-test.false in
-    cut_off (table l) (frame l) (marks l) l.loop.inv (there-cut c) (omega (arith, l.before.whole_records.ensures.cut (omega arith)))
+    cut_off (table l) (frame l) (marks l) l.loop-f.invariant (there-cut c) (omega (arith, l.before.whole_records-whole.ensures.cut (omega arith)))
 
 loop-holds : tie.Need-loop-f-init invariant-loop decreases-loop
 loop-holds c = none_passed c.before.before.before.args.t.now
@@ -79,7 +79,7 @@ loop-holds c = none_passed c.before.before.before.args.t.now
 read-requires : tie.Need-read-words-requires invariant-loop decreases-loop
 read-requires c κs =
     let l = c in
-    omega (arith, c.frame_at-at.ensures, l.before.before.before.whole_records-whole.ensures.there (frame l) c.before.loop-f-test.true)
+    omega (arith, c.frame_at-at.ensures, l.before.before.before.whole_records-whole.ensures.there (frame l.before.before) c.before.loop-f-test.true)
 
 right-words-requires : tie.Need-right_words-right-requires invariant-loop decreases-loop
 right-words-requires c κs = c.before.before.before.before.loop-f.invariant.1.0
@@ -91,15 +91,15 @@ returns c =
     let l = loop d in
     let right = seen d in
     c.fault.ensures
-    ∙ stops (table l) (frame l) (marks l) l.loop.inv (there d) (omega arith) _ (omega (arith, d.before.before.before.frame_at-at.ensures))
+    ∙ stops (table l) (frame l) (marks l) l.loop-f.invariant (there d) (omega arith) _ (omega (arith, d.before.before.before.frame_at-at.ensures))
 
 array-write-used : tie.Need-bounds-used-id invariant-loop decreases-loop
 array-write-used c =
     let d : Judged = c.before in
     let l = loop d in
     let right = seen d in
-    let below = identifier_below (table l) (frame l) (marks l) l.loop.inv (there d) (omega arith) in
-    omega (arith, (read_at d).identifier-is, l.loop.inv.1.0)
+    let below = identifier_below (table l) (frame l) (marks l) l.loop-f.invariant (there d) (omega arith) in
+    omega (arith, (read_at d).identifier_is, l.loop-f.invariant.1.0)
 
 loop-again : tie.Need-loop-f-preserved invariant-loop decreases-loop
 unfolding frame_columns
@@ -107,7 +107,7 @@ loop-again c =
     let d : Judged = c.before in
     let l = loop d in
     let right = seen d in
-    rw (read_at d).identifier-is (passes (table l) (frame l) (marks l) l.loop.inv (there d) (omega arith))
+    rw (read_at d).identifier_is (passes (table l) (frame l) (marks l) l.loop-f.invariant (there d) (omega arith))
 
 right-words-requires-2 : tie.Need-right_words-requires invariant-loop decreases-loop
 right-words-requires-2 c κs = c.before.before.before.before.before.loop-f.invariant.1.0
@@ -120,7 +120,7 @@ returns-2 c =
     let d : Cut = c.before in
     let l = end d in
     c.fault-then-f-n.ensures
-    ∙ stops (table l) (frame l) (marks l) l.loop.inv (there-cut d) (cut_right d) _ (omega (arith, d.before.before.before.frame_at-at-then-f-n.ensures, seen-cut d))
+    ∙ stops (table l) (frame l) (marks l) l.loop-f.invariant (there-cut d) (cut_right d) _ (omega (arith, d.before.before.before.frame_at-at-then-f-n.ensures, seen-cut d))
 
 returns-3 : tie.Need-returns invariant-loop decreases-loop
 returns-3 c =

@@ -22,9 +22,9 @@ unfolding word
 returns c =
     let a = c.before.before.before.args in
     record {
-      identifier-is = sym (due_there a.t.now a.at (omega arith));
-      bytes-is = sym (due_there a.t.now (a.at + 1) (omega arith));
-      flags-is = sym (due_there a.t.now (a.at + 2) (omega arith));
+      identifier_is = sym (due_there a.t.now a.at (omega arith));
+      bytes_is = sym (due_there a.t.now (a.at + 1) (omega arith));
+      flags_is = sym (due_there a.t.now (a.at + 2) (omega arith));
     }
 
 pub read_spec : {M : Type 1} → statement M

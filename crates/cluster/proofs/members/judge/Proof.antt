@@ -53,7 +53,7 @@ abbrev loop : Judged → Loop
 loop c = c.before.before.before.before
 
 turn-whole : (c : Judged) → Turn (table (loop c)) (member (loop c)) (lists (loop c)) (marks (loop c))
-turn-whole c = turn (loop c) (omega (arith, c.before.before.before.loop-m-test.true, (loop c).before.whole-records.ensures.within))
+turn-whole c = turn (loop c) (omega (arith, c.before.before.before.loop-m-test.true, (loop c).before.whole_records-whole.ensures.within))
 
 read_at : (c : Judged) → MemberRead (table (loop c)) (member_at (table (loop c)) (member (loop c))) c.before.before.read-words.result
 read_at c = rw (here (loop c)) at c.before.before.read-words.ensures
@@ -80,13 +80,13 @@ cut_right c =
     let l = end c in
     let more = c.before.before.before.if-m-n.true in
     let reached = c.before.before.before.before.loop-m-test.false in
-    cut_off (table l) (member l) (lists l) (marks l) (turn-cut c) (omega (arith, here l, l.before.whole_records.ensures.cut (omega arith)))
+    cut_off (table l) (member l) (lists l) (marks l) (turn-cut c) (omega (arith, here l, l.before.whole_records-whole.ensures.cut (omega arith)))
 
 loop-holds : tie.Need-loop-m-init invariant-loop decreases-loop
 loop-holds c = none_passed c.before.before.before.before.args.t.now
 
 read-requires : tie.Need-read-words-requires invariant-loop decreases-loop
-read-requires c κs = let l = c in omega (arith, l.before.before.whole_records-whole.ensures.there (member l) c.loop-m-test.true)
+read-requires c κs = let l = c in omega (arith, l.before.before.whole_records-whole.ensures.there (member l.before) c.loop-m-test.true)
 
 right-words-requires : tie.Need-right_words-right-requires invariant-loop decreases-loop
 right-words-requires c κs =
@@ -107,7 +107,7 @@ array-write-listed c =
     let l = loop d in
     let right = seen d in
     let below = frame_below (table l) (member l) (lists l) (marks l) (turn-whole d) (omega arith) in
-    omega (arith, (read_at d).frame_is, l.loop.inv.1.0)
+    omega (arith, (read_at d).frame_is, l.loop-m.invariant.1.0)
 
 loop-again : tie.Need-loop-m-preserved invariant-loop decreases-loop
 unfolding member_columns

@@ -19,9 +19,9 @@ unfolding word
 returns c =
     let a = c.before.before.args in
     record {
-      list-is = sym (due_there a.t.now a.at (omega arith));
+      list_is = sym (due_there a.t.now a.at (omega arith));
       frame_is = sym (due_there a.t.now (a.at + 1) (omega arith));
-      list-high = omega (arith, c.before.shared_slice_known-1.given a.at);
+      list_high = omega (arith, c.before.shared_slice_known-1.given a.at);
     }
 
 pub read_spec : {M : Type 1} → statement M

@@ -29,7 +29,7 @@ unfolding member_columns leading
 returns-2 c =
     let d = c in
     let a = d.before.before.before.before.before.before.args in
-    simp (up d, le-ltb a.words.frame (frame_count a.t.now) (omega (arith, c.before.count.ensures, c.if-count-f.true)))
+    simp (up d.before.before, le-ltb a.words.frame (frame_count a.t.now) (omega (arith, c.before.count.ensures, c.if-count-f.true)))
 
 returns-3 : tie.Need-returns-then-listed-f
 unfolding member_columns leading
@@ -39,13 +39,13 @@ returns-4 : tie.Need-returns-then-room
 unfolding member_columns leading
 returns-4 c =
     let e = c in
-    simp (up e.before.before, lt-ltb _ _ (frame-there e), c.before.before.if-listed-f.false, sym c.before.room_of-room.ensures.1 ∙ c.if-room.true)
+    simp (up e.before.before.before.before.before.before, lt-ltb _ _ (frame-there e.before.before.before.before), c.before.before.if-listed-f.false, sym c.before.room_of-room.ensures.1 ∙ c.if-room.true)
 
 returns-5 : tie.Need-returns-else-room
 unfolding member_columns leading
 returns-5 c =
     let e = c in
-    simp (up e.before.before, sym c.before.room_of-room.ensures.1 ∙ c.if-room.false, and-false)
+    simp (up e.before.before.before.before.before.before, sym c.before.room_of-room.ensures.1 ∙ c.if-room.false, and-false)
 
 pub right_words_spec : {M : Type 1} → statement M
 right_words_spec =

@@ -15,14 +15,14 @@ use Rattle.cluster.proofs.placements.frame_right.Tie as tie
 abbrev start : tie.Else-count-f → tie.Start
 start c = c.before.before.before.before
 
-frame-there : (c : tie.Else-count-f) → (start c).args.f < frame_count (start c).args.t.now
-frame-there c = omega (arith, c.before.count.ensures, c.if-count-f.false)
+frame_there : (c : tie.Else-count-f) → (start c).args.f < frame_count (start c).args.t.now
+frame_there c = omega (arith, c.before.count.ensures, c.if-count-f.false)
 
 -- where the signal is not the next one, it is that of the placement before
 placed-before : (c : tie.Else-s-known) → let a = (start c.before.before).args in a.s + 1 ≡ a.known.placed
 placed-before c =
     let d = start c.before.before in
-    eqb-true (d.args.s + 1) d.args.known.placed (follows_same d.args.known.placed d.args.s c.if-s-known.false ∙ d.pre.1.1)
+    eqb-true (d.args.s + 1) d.args.known.placed (follows_same d.args.known.placed d.args.s c.if-s-known.false ∙ d.requires.1.1)
 
 returns : tie.Need-returns-then-count-f
 returns c =
@@ -32,39 +32,39 @@ returns c =
 returns-2 : tie.Need-returns-then-s-known
 returns-2 c =
     let e = c in
-    let a = (start e).args in
-    let marks = (start e).requires.0.1.marks a.f in
-    rw (lt-ltb _ _ (frame-there e), ne_eqb (get_or a.last.now a.f 0) (a.s + 1) (λ q. omega arith), ne_eqb (a.s + 1) a.known.placed (λ q. omega arith))
+    let a = (start e.before.before).args in
+    let marks = (start e.before.before).requires.0.1.marks a.f in
+    rw (lt-ltb _ _ (frame_there e.before.before), ne_eqb (get_or a.last.now a.f 0) (a.s + 1) (λ q. omega arith), ne_eqb (a.s + 1) a.known.placed (λ q. omega arith))
 
 cast-if3 : tie.Need-overflow_cast-last
 cast-if3 c = omega (arith, c.shared_slice_known-3-1.given (start c.before.before.before).args.f)
 
 returns-3 : tie.Need-returns-then-last-f
-returns-3 c = rw (lt-ltb _ _ (frame-there c.before.before.before.before), eq-eqb _ _ c.if-last-f.true)
+returns-3 c = rw (lt-ltb _ _ (frame_there c.before.before.before.before), eq-eqb _ _ c.if-last-f.true)
 
 room-of-requires : tie.Need-room_of-before-requires
 room-of-requires c κs =
     let e = c in
-    let pre = (start e.before.before).requires.0 in
-    let there = pre.1.frame (omega (arith, placed-before e)) in
+    let pre = (start e.before.before.before.before).requires.0 in
+    let there = pre.1.frame (omega (arith, placed-before e.before.before)) in
     (omega (arith, pre.0.frames), omega (arith, pre.0.all))
 
 room-of-requires-2 : tie.Need-room_of-room-requires
 room-of-requires-2 c κs =
     let e = c in
-    (omega (arith, frame-there e, (start e).requires.0.0.frames), omega (arith, frame-there e, (start e).requires.0.0.all))
+    (omega (arith, frame_there e.before.before.before.before.before, (start e.before.before.before.before.before).requires.0.0.frames), omega (arith, frame_there e.before.before.before.before.before, (start e.before.before.before.before.before).requires.0.0.all))
 
 returns-4 : tie.Need-returns
 returns-4 c =
     let rooms = c in
     let e = rooms in
-    let a = (start e.before.before).args in
+    let a = (start e.before.before.before.before.before.before.before.before).args in
     rw (
       rooms.before.before.before.room_of-before.ensures.1,
       rooms.before.before.room_of-room.ensures.1,
-      lt-ltb _ _ (frame-there e.before.before),
+      lt-ltb _ _ (frame_there e.before.before.before.before.before.before.before.before),
       ne_eqb _ _ rooms.before.before.before.before.if-last-f.false,
-      eq-eqb _ _ (placed-before e),
+      eq-eqb _ _ (placed-before e.before.before.before.before.before.before),
     )
     (whether (beq (published a.t.now a.known.frame) (published a.t.now a.f)) (λ y. rw y) (λ z. rw z))
 

@@ -103,7 +103,7 @@ shape-of-requires : tie.Need-shape_of-shape-requires-in-loop-at invariant-loop d
 shape-of-requires c κs =
     let d : Judged = c.before in
     let e = read d in
-    (e.read.ensures.signal_high, omega (arith, (read_at e).signal-is, (place d (omega arith)).signal-there, (turn e).records.all))
+    (e.read-words.ensures.signal_high, omega (arith, (read_at e).signal_is, (place d (omega arith)).signal_there, (turn e).records.all))
 
 array-read-with-bits : tie.Need-bounds-occupied-f invariant-loop decreases-loop
 array-read-with-bits c =
@@ -136,7 +136,7 @@ array-write-occupied c =
 cast-last : tie.Need-overflow_cast-last invariant-loop decreases-loop
 cast-last c =
     let d : Judged = c.before.before.before.before in
-    omega (arith, (read_at (read d)).signal-is, (place d (omega arith)).signal-there, (turn (read d)).records.signals)
+    omega (arith, (read_at (read d)).signal_is, (place d (omega arith)).signal_there, (turn (read d)).records.signals)
 
 mul-last : tie.Need-offset_bounds-last-f invariant-loop decreases-loop
 mul-last c =

@@ -22,11 +22,11 @@ unfolding word
 returns c =
     let a = c.before.before.before.before.before.args in
     record {
-      signal-is = sym (due_there a.t.now a.at (omega arith));
+      signal_is = sym (due_there a.t.now a.at (omega arith));
       frame_is = sym (due_there a.t.now (a.at + 1) (omega arith));
-      offset-is = sym (due_there a.t.now (a.at + 2) (omega arith));
-      signal-high = omega (arith, c.before.before.shared_slice_known-then-at-t-1.given a.at);
-      offset-high = omega (arith, c.shared_slice_known-then-at-t-3-1.given (a.at + 2));
+      offset_is = sym (due_there a.t.now (a.at + 2) (omega arith));
+      signal_high = omega (arith, c.before.before.shared_slice_known-then-at-t-1.given a.at);
+      offset_high = omega (arith, c.shared_slice_known-then-at-t-3-1.given (a.at + 2));
     }
 
 pub read_spec : {M : Type 1} → statement M

@@ -33,17 +33,17 @@ signal-right : (c : tie.Else-not-signal_right)
     placement_signal_right (signal_count a.t.now) (follows a.known.placed a.words.signal) a.words.signal ≡ true
 signal-right c = sym c.before.signal_right.ensures ∙ not-false c.before.signal_right.result c.if-not-signal_right.false-raw
 
-signal-there : (c : tie.Else-not-signal_right)
+signal_there : (c : tie.Else-not-signal_right)
     → let a = (start c).args in (follows a.known.placed a.words.signal ≡ true) × (a.words.signal < signal_count a.t.now)
-signal-there c = signal_says _ _ _ (signal-right c)
+signal_there c = signal_says _ _ _ (signal-right c)
 
 frame_right_lem : (c : tie.Else-not-frame_right)
     → let d = start c.before.before in
     placement_frame_right (frame_count d.args.t.now) (again d) (mixed d) d.args.words.frame ≡ true
 frame_right_lem c = sym c.before.frame_right.ensures ∙ not-false c.before.frame_right.result c.if-not-frame_right.false-raw
 
-frame-there : (c : tie.Else-not-frame_right) → let a = (start c.before.before).args in a.words.frame < frame_count a.t.now
-frame-there c =
+frame_there : (c : tie.Else-not-frame_right) → let a = (start c.before.before).args in a.words.frame < frame_count a.t.now
+frame_there c =
     let d = start c.before.before in
     (frame_says (frame_count d.args.t.now) (again d) (mixed d) d.args.words.frame (frame_right_lem c)).0
 
@@ -54,7 +54,7 @@ returns c = simp (sym c.before.signal_right.ensures ∙ not-true c.before.signal
 frame-right-requires : tie.Need-frame_right-requires
 frame-right-requires c κs =
     let pre = (start c).requires in
-    ((pre.0.0, pre.0.1, pre.1.0.1), (pre.1.1.0, (signal-there c).0))
+    ((pre.0.0, pre.0.1, pre.1.0.1), (pre.1.1.0, (signal_there c).0))
 
 returns-2 : tie.Need-returns-then-not-frame_right
 unfolding placement_columns leading
@@ -64,47 +64,47 @@ returns-2 c =
 shape-of-requires : tie.Need-shape_of-shape-requires
 shape-of-requires c κs =
     let d = c in
-    ((start d).requires.1.1.0, omega (arith, (signal-there d).1, (start d).requires.0.0.all))
+    ((start d.before.before).requires.1.1.0, omega (arith, (signal_there d.before.before).1, (start d.before.before).requires.0.0.all))
 
 room-of-requires : tie.Need-room_of-room-requires
 room-of-requires c κs =
     let records = (start c.before.before.before).requires.0.0 in
-    (omega (arith, frame-there c.before, records.frames), omega (arith, frame-there c.before, records.all))
+    (omega (arith, frame_there c.before, records.frames), omega (arith, frame_there c.before, records.all))
 
 mul-offset-free : tie.Need-offset_bounds-occupied-f
 mul-offset-free c =
     let e = c in
-    omega (arith, frame-there e, (start e.before.before).requires.0.0.frames)
+    omega (arith, frame_there e.before.before, (start e.before.before.before.before).requires.0.0.frames)
 
 shared-slice-read-offset-free : tie.Need-bounds-occupied-f
 shared-slice-read-offset-free c =
     let e = c in
-    let pre = (start e.before.before).requires in
-    omega (arith, frame-there e, pre.0.0.frames, pre.1.0.0)
+    let pre = (start e.before.before.before.before.before).requires in
+    omega (arith, frame_there e.before.before.before, pre.0.0.frames, pre.1.0.0)
 
 offset-free-requires : tie.Need-offset_free-requires
 offset-free-requires c κs =
     let e = c in
-    let d = start e.before.before in
-    let known = d.pre.0.0 in
+    let d = start e.before.before.before.before.before in
+    let known = d.requires.0.0 in
     let shape = c.before.before.shape_of-shape.ensures in
     let room = c.before.room_of-room.ensures in
-    let w = width_range _ _ (known.widths d.args.words.signal (signal-there e.before.before).1) in (
-      d.pre.1.1.1,
+    let w = width_range _ _ (known.widths d.args.words.signal (signal_there e.before.before.before.before.before).1) in (
+      d.requires.1.1.1,
       omega (arith, shape.1, w.0),
       omega (arith, shape.1, w.1),
-      omega (arith, room.0, known.short d.args.words.frame (frame-there e)),
+      omega (arith, room.0, known.short d.args.words.frame (frame_there e.before.before.before)),
     )
 
 -- the test of the offset in the words of the contract
-offset-is : (c : tie.After-offset_free)
+offset_is : (c : tie.After-offset_free)
     → let a = (start c.before.before.before.before.before.before).args in
     let bits = 8 * frame_length a.t.now a.words.frame in
     let width = signal_width a.t.now a.words.signal in
     c.offset_free.result
     ≡ placement_offset_right (is_array a.t.now a.words.signal) bits (ltb bits (a.words.offset + width))
     (hits (get_or a.occupied.now a.words.frame 0) a.words.offset width) a.words.offset
-offset-is c =
+offset_is c =
     let shape = c.before.before.before.shape_of-shape.ensures in
     rw (shape.0, shape.1, c.before.before.room_of-room.ensures.0) at c.offset_free.ensures
 
@@ -112,13 +112,13 @@ returns-3 : tie.Need-returns-then-offset_free
 unfolding placement_columns leading
 returns-3 c =
     let e = c in
-    simp (signal-right e.before.before, frame_right_lem e, sym (offset-is c.before) ∙ c.if-offset_free.true)
+    simp (signal-right e.before.before.before.before.before.before.before, frame_right_lem e.before.before.before.before.before, sym (offset_is c.before) ∙ c.if-offset_free.true)
 
 returns-4 : tie.Need-returns-else-offset_free
 unfolding placement_columns leading
 returns-4 c =
     let e = c in
-    simp (signal-right e.before.before, frame_right_lem e, sym (offset-is c.before) ∙ c.if-offset_free.false)
+    simp (signal-right e.before.before.before.before.before.before.before, frame_right_lem e.before.before.before.before.before, sym (offset_is c.before) ∙ c.if-offset_free.false)
 
 pub right_words_spec : {M : Type 1} → statement M
 right_words_spec =

@@ -42,7 +42,7 @@ loop c = c.before.before.before
 there : (c : Judged) → signal (loop c) < signal_count (table (loop c))
 there c =
     let l = loop c in
-    omega (arith, c.before.before.loop-s-test.true, l.before.before.count.ensures, l.before.whole_records.ensures.within)
+    omega (arith, c.before.before.loop-s-test.true, l.before.before.count-n.ensures, l.before.whole_records-whole.ensures.within)
 
 seen : (c : Judged) → c.right_words-right.result ≡ leading (signal_read (table (loop c)) (signal (loop c)))
 seen c =
@@ -65,13 +65,13 @@ cut_right c =
     let l = end c in
     let more = c.before.before.if-s-n.true in
     let reached = c.before.before.before.loop-s-test.false in
-    cut_off (table l) (signal l) (omega (arith, here l, l.before.whole_records.ensures.cut (omega arith)))
+    cut_off (table l) (signal l) (omega (arith, here l, l.before.whole_records-whole.ensures.cut (omega arith)))
 
 loop-holds : tie.Need-loop-s-init invariant-loop decreases-loop
 loop-holds c = none_passed c.before.before.before.before.args.t.now
 
 read-requires : tie.Need-read-requires invariant-loop decreases-loop
-read-requires c κs = let l = c in omega (arith, l.before.before.whole_records-whole.ensures.there (signal l) c.loop-s-test.true)
+read-requires c κs = let l = c in omega (arith, l.before.before.whole_records-whole.ensures.there (signal l.before) c.loop-s-test.true)
 
 returns : tie.Need-returns-then-right-lt-SIGNAL invariant-loop decreases-loop
 unfolding signal_columns
@@ -79,7 +79,7 @@ returns c =
     let d : Judged = c.before.before in
     let l = loop d in
     let right = seen d in
-    c.fault.ensures ∙ stops (table l) (signal l) l.loop.inv (there d) (omega arith) _ (omega (arith, here l))
+    c.fault.ensures ∙ stops (table l) (signal l) l.loop-s.invariant (there d) (omega arith) _ (omega (arith, here l))
 
 loop-again : tie.Need-loop-s-preserved invariant-loop decreases-loop
 unfolding signal_columns
@@ -87,7 +87,7 @@ loop-again c =
     let d : Judged = c.before in
     let l = loop d in
     let right = seen d in
-    passes (table l) (signal l) l.loop.inv (there d) (omega arith)
+    passes (table l) (signal l) l.loop-s.invariant (there d) (omega arith)
 
 add-fault-2 : tie.Need-overflow_add-at-then-s-n-2 invariant-loop decreases-loop
 add-fault-2 c = omega (arith, seen-cut c, cut_right c)
@@ -98,7 +98,7 @@ returns-2 c =
     let l = end d in
     let there = d.before.before.if-s-n.true in
     c.fault-then-s-n.ensures
-    ∙ stops (table l) (signal l) l.loop.inv (omega (arith, l.before.before.count.ensures)) (cut_right d) _ (omega (arith, here l, seen-cut d))
+    ∙ stops (table l) (signal l) l.loop-s.invariant (omega (arith, l.before.before.count-n.ensures)) (cut_right d) _ (omega (arith, here l, seen-cut d))
 
 returns-3 : tie.Need-returns invariant-loop decreases-loop
 returns-3 c =

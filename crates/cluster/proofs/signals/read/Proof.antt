@@ -22,7 +22,7 @@ unfolding word
 returns c =
     let a = c.before.before.before.args in
     record {
-      kind-is = sym (due_there a.t.now a.at (omega arith));
+      kind_is = sym (due_there a.t.now a.at (omega arith));
       width_is = sym (due_there a.t.now (a.at + 1) (omega arith));
       start_is = sym (due_there a.t.now (a.at + 2) (omega arith));
     }

@@ -22,7 +22,7 @@ unfolding header_columns
 returns c =
     let d = c in
     let t = d.before.before.before.before.before.before.before.before.before.args.t.now in
-    let right = seen d in
+    let right = seen d.before.before in
     c.fault.ensures ∙ sym (halt_words t 0 (header_read t) (header_right t) d.before.before.right_words-right.result (header_agrees t) (omega arith) (omega arith))
 
 returns-2 : tie.Need-returns-else-right-lt-HEADER
@@ -30,7 +30,7 @@ unfolding header_columns
 returns-2 c =
     let d = c in
     let t = d.before.before.before.before.before.before.before.before.args.t.now in
-    let right = seen d in
+    let right = seen d.before in
     sym (pass_words t 0 (header_read t) (header_right t) (header_agrees t) (omega arith))
 
 pub judge_spec : {M : Type 1} → statement M
