@@ -73,6 +73,8 @@ class Walk:
             it = self.goal(word)
             if it:
                 return "tie.Need-" + self.needs[it]
+            if word.startswith("Need-slice-bounds-"):
+                return "tie.Need-slice_bounds-" + word[len("Need-slice-bounds-"):]
         if dashed(word) in self.places:
             return "tie." + self.places[dashed(word)]["name"]
         self.said.append(f"name tie.{word}")
@@ -129,12 +131,13 @@ class Walk:
                     if dashed(old) == head and rest[1:1 + len(path)] == path and path:
                         return ["before"] * k + [it["arm"][0], new] + self.tail(rest[1 + len(path):])
             if it["old"] == head and p.startswith("Joined") == branch:
+                self.step = it
                 return ["before"] * k + [it["new"]] + self.tail(rest[1:], it)
         return False
 
     def definition(self, text):
         """One declaration with its clauses."""
-        env, arms = {}, {}
+        env, arms, steps, records = {}, {}, {}, set()
         sig = re.search(r"tie\.Need-(\S+)", text)
         if sig and self.goal("Need-" + sig[1]):
             head = re.search(r"(?m)^(\S+) (\S+)(?: κs)? =", text)
@@ -176,13 +179,22 @@ class Walk:
                         if path and words[:len(path)] == path:
                             return base + "".join("." + w for w in [new] + self.tail(words[len(path):]))
                     return m[0]
+                if base in records and words[0] in self.args:
+                    words = [self.args[words[0]]] + words[1:]
+                    return base + "".join("." + w for w in [words[0]] + self.tail(words[1:]))
+                if base in steps and words[0] in steps[base]["subs"]:
+                    words = [steps[base]["subs"][words[0]]] + words[1:]
                 if base in env:
-                    self.arm = None
+                    self.arm = self.step = None
                     to = self.chain(env[base], words)
                     if to is not None and to is not False:
                         let = re.search(r"let (\S+) = $", code[:m.start()])
                         if self.arm and let:
                             arms[let[1]] = self.arm
+                        if let and to[-1] == "args":
+                            records.add(let[1])
+                        if let and self.step and to[-1] == self.step["new"]:
+                            steps[let[1]] = self.step
                         return base + "".join("." + w for w in to)
                     if to is False:
                         self.said.append(f"chain {m[0]} at {env[base]}")

@@ -220,9 +220,9 @@ module _ (t : List ℕ) (ok : RightTable t) (s : State) where
         opens_request = λ q. let w = opened Request q refl in (w.0, w.1, request_kind w.0 w.2);
         request_sends = λ q. let w = opened Request q refl in sends_message s.message (request_message w.0 w.2);
         opens_response = λ q. let w = opened Response q refl in (w.0, w.1, response_kind w.0 w.2);
-        frame_bytes = λ g q. let w = leb-true _ (frame_length t g) (rw q at f.count_fits) in omega arith;
-        request_bytes = λ q. let w : s.transfer.count ≤ 8 = leb-true _ 8 (rw q at f.count_fits) in omega arith;
-        response_bytes = λ q. let w : s.transfer.count ≤ 8 = leb-true _ 8 (rw q at f.count_fits) in omega arith;
+        frame_bytes = λ g q. let w = leb-true _ (frame_length t g) (rw q at f.count_fits_lem) in omega arith;
+        request_bytes = λ q. let w : s.transfer.count ≤ 8 = leb-true _ 8 (rw q at f.count_fits_lem) in omega arith;
+        response_bytes = λ q. let w : s.transfer.count ≤ 8 = leb-true _ 8 (rw q at f.count_fits_lem) in omega arith;
         length_low = λ y q. (sending_clauses y (rw q at f.message_fits_lem)).0;
         length_high = λ y q. (sending_clauses y (rw q at f.message_fits_lem)).1;
         frame_left = λ y q. (sending_clauses y (rw q at f.message_fits_lem)).2;
@@ -254,7 +254,7 @@ module _ (t : List ℕ) (ok : RightTable t) (s : State) where
         wait_fits_lem = waiting c refl;
         pending_fits_lem = from_bits t 0 s.pending (λ i e. let z : 0 + i ≡ i = omega arith in rw z (w.pending i e));
         can_open_lem = opened o refl;
-        count_fits = counted o refl;
+        count_fits_lem = counted o refl;
         message_fits_lem = sending s.message refl;
         receptions_fit = at_fits t 0 s.received (λ i b. let z : 0 + i ≡ i = omega arith in rw z (received i (last_of s.received i) refl));
       }

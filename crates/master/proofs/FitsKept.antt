@@ -44,7 +44,7 @@ module _ (t : List ℕ) (s : State) (fits : Fits t s) where
     wait_fits_lem = fits.wait_fits_lem;
     pending_fits_lem = marks_fit t ok s' hs p 0 s.pending fits.pending_fits_lem;
     can_open_lem = fits.can_open_lem;
-    count_fits = fits.count_fits;
+    count_fits_lem = fits.count_fits_lem;
     message_fits_lem = fits.message_fits_lem;
     receptions_fit = fits.receptions_fit;
   }
@@ -59,7 +59,7 @@ module _ (t : List ℕ) (s : State) (fits : Fits t s) where
     wait_fits_lem = fits.wait_fits_lem;
     pending_fits_lem = fits.pending_fits_lem;
     can_open_lem = fits.can_open_lem;
-    count_fits = fits.count_fits;
+    count_fits_lem = fits.count_fits_lem;
     message_fits_lem = fits.message_fits_lem;
     receptions_fit = fits.receptions_fit;
   }
@@ -75,7 +75,7 @@ module _ (t : List ℕ) (s : State) (fits : Fits t s) where
         (omega (arith, leb-true s.plan.wait (current_delay t s.plan.current) fits.wait_fits_lem));
     pending_fits_lem = fits.pending_fits_lem;
     can_open_lem = fits.can_open_lem;
-    count_fits = fits.count_fits;
+    count_fits_lem = fits.count_fits_lem;
     message_fits_lem = fits.message_fits_lem;
     receptions_fit = fits.receptions_fit;
   }
@@ -89,7 +89,7 @@ module _ (t : List ℕ) (s : State) (fits : Fits t s) where
     wait_fits_lem = fits.wait_fits_lem;
     pending_fits_lem = fits.pending_fits_lem;
     can_open_lem = fits.can_open_lem;
-    count_fits = fits.count_fits;
+    count_fits_lem = fits.count_fits_lem;
     message_fits_lem = fits.message_fits_lem;
     receptions_fit = fits.receptions_fit;
   }
@@ -103,7 +103,7 @@ module _ (t : List ℕ) (s : State) (fits : Fits t s) where
     wait_fits_lem = fits.wait_fits_lem;
     pending_fits_lem = fits.pending_fits_lem;
     can_open_lem = open_sending t s.message _ s.plan.current s.transfer.opened refl fits.can_open_lem;
-    count_fits = fits.count_fits;
+    count_fits_lem = fits.count_fits_lem;
     message_fits_lem = first_frame_fits nad n h;
     receptions_fit = fits.receptions_fit;
   }
@@ -118,7 +118,7 @@ module _ (t : List ℕ) (s : State) (fits : Fits t s) where
     wait_fits_lem = fits.wait_fits_lem;
     pending_fits_lem = fits.pending_fits_lem;
     can_open_lem = nothing_open t (message_failed s.transfer.opened s.message) s.plan.current;
-    count_fits = refl;
+    count_fits_lem = refl;
     message_fits_lem = message_failed_fits s.transfer.opened s.message fits.message_fits_lem;
     receptions_fit = fits.receptions_fit;
   }
@@ -133,7 +133,7 @@ module _ (t : List ℕ) (s : State) (fits : Fits t s) where
     wait_fits_lem = fits.wait_fits_lem;
     pending_fits_lem = fits.pending_fits_lem;
     can_open_lem = nothing_open t s.message s.plan.current;
-    count_fits = refl;
+    count_fits_lem = refl;
     message_fits_lem = fits.message_fits_lem;
     receptions_fit = by_fits t ok s.transfer.opened s.received n fits.receptions_fit;
   }
@@ -148,7 +148,7 @@ module _ (t : List ℕ) (s : State) (fits : Fits t s) where
     wait_fits_lem = fits.wait_fits_lem;
     pending_fits_lem = sent_fits t s.transfer.opened s.transfer.written s.pending fits.pending_fits_lem;
     can_open_lem = nothing_open t (message_sent s.transfer.opened s.message) s.plan.current;
-    count_fits = refl;
+    count_fits_lem = refl;
     message_fits_lem = message_sent_fits s.transfer.opened s.message fits.message_fits_lem;
     receptions_fit = fits.receptions_fit;
   }
@@ -163,7 +163,7 @@ module _ (t : List ℕ) (s : State) (fits : Fits t s) where
     wait_fits_lem = fits.wait_fits_lem;
     pending_fits_lem = fits.pending_fits_lem;
     can_open_lem = fits.can_open_lem;
-    count_fits =
+    count_fits_lem =
         whether (is_open s.transfer.opened)
         (λ y. rw y (le-leb (s.transfer.count + 1) (open_length t s.transfer.opened)
         (omega (arith, ltb-true s.transfer.count (open_length t s.transfer.opened) h))))

@@ -87,8 +87,8 @@ place_told t x c r a = by (verdict_of t x c) refl (call_lowest t x c)
     v : verdict_of t x c ≡ verdict.Refused r
     v = (refused_exactly t x c r).0 a
 
-    fault : Row t x c 1 → judged t ≡ verdict.Refused r
-    fault (table_fault q e) = e ∙ sym (table_refused t x c q e) ∙ v
+    fault : (d : Call) → Row t x d 1 → judged t ≡ verdict.Refused r
+    fault d (table_fault q e) = e ∙ sym (table_refused t x c q e) ∙ v
 
     by : (w : Verdict) → verdict_of t x c ≡ w → Lowest t x c w → (r.number ≡ 1 → judged t ≡ verdict.Refused r) × (¬ (r.number ≡ 1) → r.place ≡ 0)
     by verdict.Accepted e l = let u = v in let z : ◌≡◌ {A = ℕ} 0 1 = cc in absurd (omega arith)
@@ -96,6 +96,6 @@ place_told t x c r a = by (verdict_of t x c) refl (call_lowest t x c)
         let u = v in
         let same : q ≡ r = cc in
         let k = rw same at l in (
-          (λ i. fault (rw i at k.0)),
+          (λ i. fault c (rw i at k.0)),
           (λ n. ⊎_elim (λ p. p) (λ j. absurd (n (first_fault t r j).number)) k.2),
         )

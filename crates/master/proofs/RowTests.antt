@@ -68,11 +68,11 @@ module _ (t : List ℕ) (x : Held) where
   R c = Row t x c
 
   pub not_0 : (c : Call) → NoneBelow (R c) 1
-  not_0 c k b r = absurd (by k b r)
+  not_0 c k b r = absurd (by c k b r)
     where
-      by : (k : ℕ) → k < 1 → R c k → ⊥
-      by zero b r = elim r [ ]
-      by (suc k) b r = omega arith
+      by : (c : Call) (k : ℕ) → k < 1 → R c k → ⊥
+      by c zero b r = elim r [ ]
+      by c (suc k) b r = omega arith
 
   not_1 : (c : Call) → RightTable t → ¬ R c 1
   not_1 c ok (table_fault r e) = let q : verdict.Accepted ≡ verdict.Refused r = sym ok ∙ e in let z : ◌≡◌ {A = ℕ} 0 1 = cc in omega arith

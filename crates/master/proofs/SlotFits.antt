@@ -67,7 +67,7 @@ module _ (t bs m : List ℕ) (s : State) (fits : Fits t s) where
     wait_fits_lem = le-leb (entry_delay t e) (entry_delay t e) (omega arith);
     pending_fits_lem = fits.pending_fits_lem;
     can_open_lem = rw n (nothing_open t s.message (current.Entry e));
-    count_fits = fits.count_fits;
+    count_fits_lem = fits.count_fits_lem;
     message_fits_lem = fits.message_fits_lem;
     receptions_fit = fits.receptions_fit;
   }
@@ -84,7 +84,7 @@ module _ (t bs m : List ℕ) (s : State) (fits : Fits t s) where
         wait_fits_lem = fits.wait_fits_lem;
         pending_fits_lem = fits.pending_fits_lem;
         can_open_lem = rw c w.can_open_lem;
-        count_fits = rw y (le-leb 0 (open_length t o) (omega arith));
+        count_fits_lem = rw y (le-leb 0 (open_length t o) (omega arith));
         message_fits_lem = fits.message_fits_lem;
         receptions_fit = fits.receptions_fit;
       }))

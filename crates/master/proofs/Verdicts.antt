@@ -126,7 +126,7 @@ module _ (t : List ℕ) (n : ℕ) (s : State) (h : byte_verdict t n s ≡ Accept
   byte_length_high = open_length_high t byte_table s.transfer.opened byte_fits.frame_there_lem
 
   pub byte_count : s.transfer.count ≤ open_length t s.transfer.opened
-  byte_count = open_count t s byte_fits.count_fits byte_open
+  byte_count = open_count t s byte_fits.count_fits_lem byte_open
 
   pub byte_count_high : s.transfer.count ≤ 8
   byte_count_high = omega (arith, byte_count, byte_length_high)

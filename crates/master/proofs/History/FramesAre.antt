@@ -144,6 +144,6 @@ module _ (t : List ℕ) (h : Seq Scheduled) (bits : List Bool) (bs : List ℕ) (
       bytes_are = st ∙ rw (sent_succeeds, e, is.bytes_are);
       written_are = rw a (record {
         same_length = l ∙ is.written_are.same_length;
-        same_bytes = λ f p k n. same f p k n ∙ is.written_are.same_bytes f p k n;
+        same_bytes_lem = λ f p k n. same f p k n ∙ is.written_are.same_bytes_lem f p k n;
       });
     }

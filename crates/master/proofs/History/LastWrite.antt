@@ -98,7 +98,7 @@ module _ (t : List ℕ) (ok : RightTable t) (s : ℕ) (hs : s < signal_count t) 
       let end = placement_end_high t ok k o.there in
       let i = (j - 64 * placement_frame t k) / 8 in
       let at : j / 8 ≡ 8 * placement_frame t k + i = omega arith in
-      rw (at, e.same_bytes (placement_frame t k) (sym (published_as t ok s k o) ∙ p) i (omega arith))
+      rw (at, e.same_bytes_lem (placement_frame t k) (sym (published_as t ok s k o) ∙ p) i (omega arith))
 
   -- one more event, of which a write is one that the table allows
   holds_event : (h : Seq Scheduled) (x : Scheduled) → length (written_bytes t h) ≡ 8 * frame_count t

@@ -55,7 +55,7 @@ module _ (t : List ℕ) (h : Seq Scheduled) (x : Held) (is : Agrees t h x) (c : 
     lawful = st.lawful;
     short = λ o.
         rw (← is.transfer.count_is, ← is.transfer.opened_is)
-        (open_count t x.state (fits_clauses t x.state is.fits).count_fits (rw is.transfer.opened_is o));
+        (open_count t x.state (fits_clauses t x.state is.fits).count_fits_lem (rw is.transfer.opened_is o));
     due_length = is.transfer.due_length;
     matched = is.transfer.matched;
   }

@@ -33,13 +33,13 @@ value_alike t bs cs s (array vs) = array_alike t bs cs s vs
 pub same_written : (t bs cs : List ℕ) (s : ℕ) (v : Value) → SameBytes t bs cs → SameBytes t (with_value t bs s v) (with_value t cs s v)
 same_written t bs cs s v e = record {
   same_length = value_length t bs s v ∙ e.same_length ∙ sym (value_length t cs s v);
-  same_bytes_lem = λ f p k b. value_alike t bs cs s v (8 * f + k) e.same_length (e.same_bytes f p k b);
+  same_bytes_lem = λ f p k b. value_alike t bs cs s v (8 * f + k) e.same_length (e.same_bytes_lem f p k b);
 }
 
 module _ (t : List ℕ) (bs cs : List ℕ) (size : length bs ≡ buffer_size t) (e : SameBytes t bs cs) (f : ℕ) (p : published t f ≡ true) where
   -- a published frame has the same data
   pub same_data : RightTable t → frame_data t bs f ≡ frame_data t cs f
-  same_data ok = sym (untouched_data t bs cs f ok size (sym e.same_length) (λ k b. sym (e.same_bytes f p k b)))
+  same_data ok = sym (untouched_data t bs cs f ok size (sym e.same_length) (λ k b. sym (e.same_bytes_lem f p k b)))
 
   -- and the same eight bytes
   pub same_eight : eight_of bs f ≡ eight_of cs f
@@ -49,6 +49,6 @@ module _ (t : List ℕ) (bs cs : List ℕ) (size : length bs ≡ buffer_size t) 
       (λ i h. let l : i < 8 = omega (arith, simp (length-take) at h) in
       get_or-take 8 (drop (8 * f) bs) i 0 l
       ∙ get_or-drop (8 * f) bs i 0
-      ∙ e.same_bytes f p i l
+      ∙ e.same_bytes_lem f p i l
       ∙ sym (get_or-drop (8 * f) cs i 0)
       ∙ sym (get_or-take 8 (drop (8 * f) cs) i 0 l))

@@ -169,11 +169,11 @@ module _ (t : List ℕ) (ok : RightTable t) (h : Seq Scheduled) (x : Held) (is :
   is_open_lem = rw is.transfer.opened_is at open-now
 
   not_above : s.transfer.count ≤ open_length t (open_after t h)
-  not_above = rw is.transfer.opened_is at (open_count t s (fits_clauses t s is.fits).count_fits open-now)
+  not_above = rw is.transfer.opened_is at (open_count t s (fits_clauses t s is.fits).count_fits_lem open-now)
 
   at_most_eight : s.transfer.count ≤ 8
   at_most_eight =
-      omega (arith, open_count t s (fits_clauses t s is.fits).count_fits open-now, open_length_high t ok o (fits_clauses t s is.fits).frame_there_lem)
+      omega (arith, open_count t s (fits_clauses t s is.fits).count_fits_lem open-now, open_length_high t ok o (fits_clauses t s is.fits).frame_there_lem)
 
   early_is : early t s.transfer ≡ ltb (length (got_after h)) (open_length t (open_after t h))
   early_is = rw (is.transfer.count_is, is.transfer.opened_is)

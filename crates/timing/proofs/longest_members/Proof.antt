@@ -8,6 +8,7 @@ use Rattle.cluster.specs.Table.{frame_length, member_count}
 use Rattle.cluster.proofs.HeaderLaws.{member_count_lem}
 use Rattle.cluster.proofs.MemberLaws.{list_below, list_count_lem}
 use Rattle.timing.proofs.Steps.{LongestOf, none_yet, longer, not_longer}
+use Rattle.timing.proofs.longest_members.Lts.{then-longest-l, else-longest-l}
 use Rattle.timing.proofs.longest_members.Statement.{statement}
 use Rattle.timing.proofs.longest_members.Tie as tie
 
@@ -49,10 +50,10 @@ loop-again c =
     let bytes = d.before.length-bytes.ensures ∙ ap (frame_length t) d.before.before.frame.ensures in (
       at.invariant.0,
       omega (arith, d.before.before.before.before.loop-m-test.true),
-      ⊎_elim
-          (λ w. rw w.1 (longer t at.m at.longest _ _ at.invariant.2 list bytes (below d.before) w.0.taken))
-          (λ w. rw w.1 (not_longer t at.m at.longest _ _ at.invariant.2 list bytes w.0.left))
-          c.if-longest-l.either,
+      elim c.if-longest-l.branch [
+        | then-longest-l w ↦ rw w.longest-is (longer t at.m at.longest _ _ at.invariant.2 list bytes (below d.before) w.if-longest-l.true)
+        | else-longest-l w ↦ rw w.longest-is (not_longer t at.m at.longest _ _ at.invariant.2 list bytes w.if-longest-l.false)
+      ],
     )
 
 returns : tie.Need-returns invariant-loop decreases-loop

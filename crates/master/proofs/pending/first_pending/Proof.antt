@@ -25,7 +25,7 @@ decreases-loop t l pending n m₀ m = n - m
 loop-holds : tie.Need-loop-m-init invariant-loop decreases-loop
 loop-holds c =
     let a = c.before.before.before.args in
-    (c.before.count-n.ensures, (0, c.next-m.ensures, ap (first_pending a.t2) (sym (left_all a.t.now a.l))))
+    (c.before.count-n.ensures, (0, c.next-m.ensures, ap (first_pending a.pending) (sym (left_all a.t.now a.l))))
 
 array-read-if1 : tie.Need-bounds-pending-f invariant-loop decreases-loop
 array-read-if1 c =
@@ -40,7 +40,7 @@ returns c =
     let inv = c.before.before.before.loop-m.invariant in
     let at = inv.1.1 in
     let frame = c.before.frame-f.ensures ∙ ap (member_frame a.t.now) at in
-    let here = first_here a.t.now a.l a.t2 inv.1.0 (omega (arith, inv.0, at, c.before.before.loop-m-test.true)) (rw frame at c.if-pending-f.true) in
+    let here = first_here a.t.now a.l a.pending inv.1.0 (omega (arith, inv.0, at, c.before.before.loop-m-test.true)) (rw frame at c.if-pending-f.true) in
     rw frame (sym (inv.1.2 ∙ here))
 
 loop-less : tie.Need-loop-m-smaller invariant-loop decreases-loop
@@ -57,14 +57,14 @@ loop-again c =
     let at = inv.1.1 in
     let frame = c.before.before.frame-f.ensures ∙ ap (member_frame a.t.now) at in
     let below : next_member a.t.now a.l inv.1.0 < member_count a.t.now = omega (arith, inv.0, at, c.before.before.before.loop-m-test.true) in
-    let later = first_later a.t.now a.l a.t2 inv.1.0 below (rw frame at c.before.if-pending-f.false) in
+    let later = first_later a.t.now a.l a.pending inv.1.0 below (rw frame at c.before.if-pending-f.false) in
     (inv.0, (m + 1, c.next-m-in-loop-m.ensures, inv.1.2 ∙ (rw (← at, ← (add-one m)) at later)))
 
 returns-2 : tie.Need-returns invariant-loop decreases-loop
 returns-2 c =
     let a = c.before.before.before.before.before.args in
     let inv = c.before.loop-m.invariant in
-    sym (inv.1.2 ∙ first_none a.t.now a.l a.t2 inv.1.0 (omega (arith, inv.0, inv.1.1, c.loop-m-test.false)))
+    sym (inv.1.2 ∙ first_none a.t.now a.l a.pending inv.1.0 (omega (arith, inv.0, inv.1.1, c.loop-m-test.false)))
 
 pub first_pending_spec : {M : Type 1} → statement M
 first_pending_spec =

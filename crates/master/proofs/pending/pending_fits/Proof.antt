@@ -23,8 +23,8 @@ returns : tie.Need-returns-then-not-bit_fits invariant-loop decreases-loop
 returns c =
     let a = c.before.before.before.before.before.args in
     let at = c.before.before.before.loop-f in
-    let l : length a.t2 ≡ 60 = search rules in
-    sym (at.invariant.1 ∙ bits_wrong a.t.now at.f a.t2 (omega (arith, l, c.before.before.loop-f-test.true))
+    let l : length a.pending ≡ 60 = search rules in
+    sym (at.invariant.1 ∙ bits_wrong a.t.now at.f a.pending (omega (arith, l, c.before.before.loop-f-test.true))
     (sym c.before.bit_fits.ensures ∙ not-true c.before.bit_fits.result c.if-not-bit_fits.true-raw))
 
 loop-again : tie.Need-loop-f-preserved invariant-loop decreases-loop
@@ -32,17 +32,17 @@ loop-again c =
     let a = c.before.before.before.before.before.args in
     let at = c.before.before.before.loop-f in
     let test = c.before.before.loop-f-test in
-    let l : length a.t2 ≡ 60 = search rules in (
+    let l : length a.pending ≡ 60 = search rules in (
       omega (arith, test.true),
-      at.invariant.1 ∙ bits_right a.t.now at.f a.t2 (omega (arith, l, test.true))
+      at.invariant.1 ∙ bits_right a.t.now at.f a.pending (omega (arith, l, test.true))
           (sym c.before.bit_fits.ensures ∙ not-false c.before.bit_fits.result c.if-not-bit_fits.false-raw),
     )
 
 returns-2 : tie.Need-returns invariant-loop decreases-loop
 returns-2 c =
     let a = c.before.before.before.args in
-    let l : length a.t2 ≡ 60 = search rules in
-    sym (c.before.loop-f.invariant.1 ∙ bits_end a.t.now c.before.loop-f.f a.t2 (omega (arith, l, c.loop-f-test.false)))
+    let l : length a.pending ≡ 60 = search rules in
+    sym (c.before.loop-f.invariant.1 ∙ bits_end a.t.now c.before.loop-f.f a.pending (omega (arith, l, c.loop-f-test.false)))
 
 pub pending_fits_spec : {M : Type 1} → statement M
 pending_fits_spec =

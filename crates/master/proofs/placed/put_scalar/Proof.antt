@@ -41,7 +41,7 @@ loop-again c =
     let start = d in
     let put = c.before.before.put_scalar_at in (
       each_on _ start.before.before.before.before.before.before.before.before.before.before.requires _ _ _ at.k at.bytes _ at.invariant.0 (stands_yes _ _ _ d.before.before.before.before.before.stands.ensures d.before.before.before.before.loop-bytes-test.true) put.ensures,
-      put.auto.1.0 ∙ at.invariant.1,
+      put.auto.bytes ∙ at.invariant.1,
     )
 
 same_length : tie.Need-shape_of-bytes invariant-loop decreases-loop

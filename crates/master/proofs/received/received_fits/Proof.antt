@@ -23,8 +23,8 @@ returns : tie.Need-returns-then-not-fits invariant-loop decreases-loop
 returns c =
     let a = c.before.before.before.before.before.before.args in
     let at = c.before.before.before.before.loop-s in
-    let l : length a.t2 ≡ 256 = search rules in
-    sym (at.invariant.1 ∙ receptions_wrong a.t.now at.s a.t2 (omega (arith, l, c.before.before.before.loop-s-test.true))
+    let l : length a.received ≡ 256 = search rules in
+    sym (at.invariant.1 ∙ receptions_wrong a.t.now at.s a.received (omega (arith, l, c.before.before.before.loop-s-test.true))
     (sym c.before.fits.ensures ∙ not-true c.before.fits.result c.if-not-fits.true-raw))
 
 loop-again : tie.Need-loop-s-preserved invariant-loop decreases-loop
@@ -32,17 +32,17 @@ loop-again c =
     let a = c.before.before.before.before.before.before.args in
     let at = c.before.before.before.before.loop-s in
     let test = c.before.before.before.loop-s-test in
-    let l : length a.t2 ≡ 256 = search rules in (
+    let l : length a.received ≡ 256 = search rules in (
       omega (arith, test.true),
-      at.invariant.1 ∙ receptions_right a.t.now at.s a.t2 (omega (arith, l, test.true))
+      at.invariant.1 ∙ receptions_right a.t.now at.s a.received (omega (arith, l, test.true))
           (sym c.before.fits.ensures ∙ not-false c.before.fits.result c.if-not-fits.false-raw),
     )
 
 returns-2 : tie.Need-returns invariant-loop decreases-loop
 returns-2 c =
     let a = c.before.before.before.args in
-    let l : length a.t2 ≡ 256 = search rules in
-    sym (c.before.loop-s.invariant.1 ∙ receptions_end a.t.now c.before.loop-s.s a.t2 (omega (arith, l, c.loop-s-test.false)))
+    let l : length a.received ≡ 256 = search rules in
+    sym (c.before.loop-s.invariant.1 ∙ receptions_end a.t.now c.before.loop-s.s a.received (omega (arith, l, c.loop-s-test.false)))
 
 pub received_fits_spec : {M : Type 1} → statement M
 received_fits_spec =

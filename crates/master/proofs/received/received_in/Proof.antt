@@ -8,6 +8,7 @@ use lib.ListN.{length, length-set}
 use Rattle.cluster.specs.Table.{placement_count}
 use Rattle.master.specs.Received.{received_up_to}
 use Rattle.master.proofs.ReceivedSteps.{up_to_here, up_to_not}
+use Rattle.master.proofs.received.received_in.Lts.{then-s-lt-SIGNALS, else-s-lt-SIGNALS}
 use Rattle.master.proofs.received.received_in.Statement.{statement}
 use Rattle.master.proofs.received.received_in.Tie as tie
 
@@ -26,15 +27,20 @@ loop-again c =
     let loop = c.before.before.before.loop-k in
     let is = c.before.receiver-s.ensures in
     let more = c.before.before.loop-k-test.true in
-    ⊎_elim
-    (λ w. (
-      loop.invariant.0,
-      omega arith,
-      ap length w.1 ∙ length-set loop.next _ _ ∙ loop.invariant.2,
-      w.1 ∙ up_to_here _ _ loop.k _ _ loop.invariant.3 loop.invariant.2 _ is w.0,
-    ))
-    (λ w. (loop.invariant.0, omega arith, rw w.1 loop.invariant.2, w.1 ∙ up_to_not _ _ loop.k _ _ loop.invariant.3 loop.invariant.2 _ is w.0))
-    c.if-s-lt-SIGNALS.either
+    elim c.if-s-lt-SIGNALS.branch [
+      | then-s-lt-SIGNALS w ↦ (
+          loop.invariant.0,
+          omega arith,
+          ap length w.next-is ∙ length-set loop.next _ _ ∙ loop.invariant.2,
+          w.next-is ∙ up_to_here _ _ loop.k _ _ loop.invariant.3 loop.invariant.2 _ is w.if-s-lt-SIGNALS.true,
+        )
+      | else-s-lt-SIGNALS w ↦ (
+          loop.invariant.0,
+          omega arith,
+          rw w.next-is loop.invariant.2,
+          w.next-is ∙ up_to_not _ _ loop.k _ _ loop.invariant.3 loop.invariant.2 _ is w.if-s-lt-SIGNALS.false,
+        )
+    ]
 
 returns : tie.Need-returns invariant-loop decreases-loop
 returns c =

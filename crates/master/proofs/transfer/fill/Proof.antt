@@ -29,10 +29,10 @@ loop-again : tie.Need-loop-i-preserved invariant-loop decreases-loop
 loop-again c =
     let a = c.before.before.args in
     let at = c.before.loop-i in
-    let l : length a.t2 ≡ 9 = search rules in (
+    let l : length a.nine ≡ 9 = search rules in (
       omega (arith, c.loop-i-test.true, at.invariant.1),
       simp length-set at.invariant.1,
-      copy_turn a.part.now a.t2 _ at.i
+      copy_turn a.part.now a.nine _ at.i
           (omega (arith, c.loop-i-test.true, at.invariant.1, c.before.before.requires, l)) (omega (arith, c.loop-i-test.true, at.invariant.1)) at.invariant.2,
     )
 
@@ -43,7 +43,7 @@ returns : tie.Need-returns invariant-loop decreases-loop
 returns c =
     let a = c.before.before.args in
     let at = c.before.loop-i in
-    filled_nine a.part.now a.t2 _ at.i (omega (arith, c.loop-i-test.false, at.invariant.0, at.invariant.1)) at.invariant.2
+    filled_nine a.part.now a.nine _ at.i (omega (arith, c.loop-i-test.false, at.invariant.0, at.invariant.1)) at.invariant.2
 
 pub fill_spec : {M : Type 1} → statement M
 fill_spec =

@@ -13,7 +13,7 @@ use Rattle.master.proofs.transfer.frame_copy.Tie as tie
 returns : tie.Need-returns-then-not-published
 returns c = rw (← c.before.published.ensures, not-true c.before.published.result c.if-not-published.true-raw)
 
-part-copied-end : tie.Need-slice-bounds-copied-end
+part-copied-end : tie.Need-slice_bounds-copied-end
 part-copied-end c =
     let a = c.before.before.before.before.before.args in
     let asked = c.before.before.before.before.before.requires in

@@ -10,7 +10,7 @@ use Rattle.master.proofs.Nine.{stored}
 use Rattle.master.proofs.transfer.store.Statement.{statement}
 use Rattle.master.proofs.transfer.store.Tie as tie
 
-part-fill-end : tie.Need-slice-bounds-fill-end
+part-fill-end : tie.Need-slice_bounds-fill-end
 part-fill-end c = omega (arith, c.before.requires.0, c.before.requires.1)
 
 fill-requires : tie.Need-fill-requires

@@ -13,16 +13,16 @@ use Rattle.master.proofs.state.Opened.checksum_right.Tie as tie
 array-read-result : tie.Need-bounds-nine-n
 array-read-result c = omega (arith, c.length-n.ensures, c.before.before.requires.2)
 
-part-checksum-end : tie.Need-slice-bounds-checksum-end
-part-checksum-end c = omega (arith, c.before.length.ensures, c.before.before.before.requires.2)
+part-checksum-end : tie.Need-slice_bounds-checksum-end
+part-checksum-end c = omega (arith, c.length-n.ensures, c.before.before.requires.2)
 
 checksum-requires : tie.Need-checksum-requires
 checksum-requires c κs =
     let a = c.before.before.before.args in
     let asked = c.before.before.before.requires in
     let told = c.before.length-n in
-    let l : length a.t3 ≡ 9 = search rules in
-    let k = first_length_lem a.t3 told.result (omega (arith, l, told.ensures, asked.2)) in
+    let l : length a.nine ≡ 9 = search rules in
+    let k = first_length_lem a.nine told.result (omega (arith, l, told.ensures, asked.2)) in
     (asked.0, omega (arith, k, told.ensures, asked.1), omega (arith, k, told.ensures, asked.2))
 
 returns : tie.Need-returns

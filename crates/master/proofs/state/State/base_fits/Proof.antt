@@ -36,7 +36,7 @@ returns-4 c =
     let pending-fits = c.before.pending_fits in
     rw (
       ← is-there.ensures,
-      not-false is-there.result if1.false,
+      not-false is-there.result if1.false-raw,
       ← is-there2.ensures,
       not-false is-there2.result
           c.before.before.before.before.if-not-is_there-2.false-raw,
@@ -57,10 +57,10 @@ returns-5 c =
     let pending-fits = c.before.before.before.pending_fits in
     rw (
       ← is-there.ensures,
-      not-false is-there.result if1.false,
+      not-false is-there.result if1.false-raw,
       ← is-there2.ensures,
       not-false is-there2.result
-          if2.false,
+          if2.false-raw,
       ← wait-fits.ensures,
       not-false wait-fits.result c.before.before.before.before.if-not-wait_fits.false-raw,
       ←
@@ -83,12 +83,12 @@ returns-6 c =
     let count_fits = c.before.count_fits in
     rw (
       ← is-there.ensures,
-      not-false is-there.result if1.false,
+      not-false is-there.result if1.false-raw,
       ← is-there2.ensures,
       not-false is-there2.result
-          if2.false,
+          if2.false-raw,
       ← wait-fits.ensures,
-      not-false wait-fits.result if3.false,
+      not-false wait-fits.result if3.false-raw,
       ← pending-fits.ensures,
       not-false
           pending-fits.result c.before.before.before.before.if-not-pending_fits.false-raw,
@@ -113,15 +113,15 @@ returns-7 c =
     let count_fits = c.before.before.count_fits in
     rw (
       ← is-there.ensures,
-      not-false is-there.result if1.false,
+      not-false is-there.result if1.false-raw,
       ← is-there2.ensures,
       not-false is-there2.result
-          if2.false,
+          if2.false-raw,
       ← wait-fits.ensures,
-      not-false wait-fits.result if3.false,
+      not-false wait-fits.result if3.false-raw,
       ← pending-fits.ensures,
       not-false
-          pending-fits.result if4.false,
+          pending-fits.result if4.false-raw,
       ← can-open.ensures,
       not-false can-open.result
           c.before.before.before.if-not-can_open.false-raw,

@@ -36,11 +36,11 @@ returns c =
     record {
       handed = rw (
         ← checksum-right.ensures,
-        not-true checksum-right.result if1.true,
+        not-true checksum-right.result if1.true-raw,
         c.answering.ensures,
         c.before.failed.ensures,
       );
-      kept = rw (← checksum-right.ensures, not-true checksum-right.result if1.true);
+      kept = rw (← checksum-right.ensures, not-true checksum-right.result if1.true-raw);
     }
 
 received-requires : tie.Need-received-closed-requires
@@ -56,7 +56,7 @@ store-requires c κs =
     let opened = c.before.before.in-Frame in (
       frame_end a.t.now (byte_table a.t.now (length a.bytes.now) a.self asked) a.bytes.now
           (byte_size a.t.now (length a.bytes.now) a.self asked) opened.f
-          (rw opened.is at (byte_fits a.t.now (length a.bytes.now) a.self asked).frame-there) _ refl,
+          (rw opened.is at (byte_fits a.t.now (length a.bytes.now) a.self asked).frame_there_lem) _ refl,
       omega
           (arith, c.length.ensures, rw opened.is at (byte_length_high a.t.now (length a.bytes.now) a.self asked)),
     )
@@ -80,7 +80,7 @@ returns-3 c =
     let opened = c.before.before.before.before.before.before.in-Frame in
     let told = c.before.before.before.before.length in
     last_frame a.t.now a.self a.nine a.bytes.now
-    (sym checksum-right.ensures ∙ not-false checksum-right.result if1.false) _ _ opened.f told.result
+    (sym checksum-right.ensures ∙ not-false checksum-right.result if1.false-raw) _ _ opened.f told.result
     opened.is (c.answering-in-Frame.ensures ∙ rw received.ensures) told.ensures c.before.before.before.store.ensures
 
 returns-4 : tie.Need-returns-in-Request

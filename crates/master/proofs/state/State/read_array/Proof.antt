@@ -40,7 +40,7 @@ returns-3 c =
       ← d.before.before.before.source.ensures,
       c.before.before.in-Placement.is,
       c.read_as-in-Placement.ensures,
-      c.before.Array-at.ensures,
+      c.before.array_at.ensures,
     ))
 
 pub read_array_spec : {M : Type 1} → statement M

@@ -46,8 +46,8 @@ sent-requires c κs =
     let asked = c.before.before.before.before.before.before.before.requires in (
       byte_table a.t.now (buffer_size a.t.now) a.self asked,
       (byte_fits a.t.now (buffer_size a.t.now) a.self
-          asked).frame-there,
-      (byte_fits a.t.now (buffer_size a.t.now) a.self asked).message-fits,
+          asked).frame_there_lem,
+      (byte_fits a.t.now (buffer_size a.t.now) a.self asked).message_fits_lem,
     )
 
 returns-3 : tie.Need-returns

@@ -28,12 +28,12 @@ open-requires c κs =
     let closed = c.before.before.before.before.before.before.before.abandoned-closed.result in
     let f = tick_fits a.t.now (length a.bytes.now) (length a.lent.now) a.self asked in
     let ok = tick_table a.t.now (length a.bytes.now) (length a.lent.now) a.self asked in
-    let there = due_there a.t.now ok a.self.plan.requested a.self.plan.current f.schedule_there f.entry_there in (
+    let there = due_there a.t.now ok a.self.plan.requested a.self.plan.current f.schedule_there_lem f.entry_there_lem in (
       ok,
       tick_size a.t.now (length a.bytes.now) (length a.lent.now) a.self asked,
       rw
           c.before.before.slot_opens-opened.ensures (slot_opens_lem a.t.now ok closed.pending closed.message e'.e
-          (entry_below a.t.now e'.e (rw (← due.ensures, e'.is) at there))).frame-there,
+          (entry_below a.t.now e'.e (rw (← due.ensures, e'.is) at there))).frame_there_lem,
     )
 
 returns : tie.Need-returns-in-None

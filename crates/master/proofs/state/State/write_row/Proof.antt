@@ -29,7 +29,7 @@ returns-2 : tie.Need-returns
 unfolding row_of
 returns-2 c =
     let e = (sym c.before.before.before.before.before.before.judge_row.ensures ∙ c.before.before.before.before.before.in_default.is) in
-    row_told_lem _ _ _ _ _ _ _ (record { handed = rw (e, c.Marked-row.ensures); kept = rw (e, c.before.before.before.put_row.ensures) })
+    row_told_lem _ _ _ _ _ _ _ (record { handed = rw (e, c.marked_row.ensures); kept = rw (e, c.before.before.before.put_row.ensures) })
 
 pub write_row_spec : {M : Type 1} → statement M
 write_row_spec =
