@@ -9,11 +9,11 @@ use Rattle.host.specs.Coded.{table_coded}
 use Rattle.host.proofs.lin_check.Statement.{statement}
 use Rattle.host.proofs.lin_check.Tie as tie
 
-refused : (c : tie.In-Refused-2) → taken_of c.before.before.before.args.table.now ≡ Refused c.in-Refused.refusal
+refused : (c : tie.In-Refused) → taken_of c.before.before.before.args.table.now ≡ Refused c.in-Refused.refusal
 refused c = sym c.before.taken.ensures.0 ∙ c.in-Refused.is
 
 placed-requires : tie.Need-placed-requires
-placed-requires c κs = omega (arith, taken_high _ _ (refused c.before))
+placed-requires c κs = omega (arith, taken_high _ _ (refused c))
 
 returns : tie.Need-returns-in-Accepted
 unfolding table_coded
@@ -21,7 +21,7 @@ returns c = rw (sym c.before.taken.ensures.0 ∙ c.in-Accepted.is)
 
 returns-2 : tie.Need-returns-in-Refused
 unfolding table_coded
-returns-2 c = rw (refused c.before.before) c.placed.ensures
+returns-2 c = rw (refused c.before) c.placed.ensures
 
 pub lin_check_spec : {M : Type 1} → statement M
 lin_check_spec =

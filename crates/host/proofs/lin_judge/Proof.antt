@@ -9,13 +9,13 @@ use Rattle.host.specs.Coded.{judge_coded}
 use Rattle.host.proofs.lin_judge.Statement.{statement}
 use Rattle.host.proofs.lin_judge.Tie as tie
 
-refused : (c : tie.In-Refused-2)
+refused : (c : tie.In-Refused)
     → judge_of c.before.before.before.args.table.now c.before.before.before.args.tick c.before.before.before.args.bit
     ≡ Refused c.in-Refused.refusal
 refused c = sym c.before.judge.ensures.0 ∙ c.in-Refused.is
 
 placed-requires : tie.Need-placed-requires
-placed-requires c κs = omega (arith, refused_high _ _ _ _ (refused c.before))
+placed-requires c κs = omega (arith, refused_high _ _ _ _ (refused c))
 
 returns : tie.Need-returns-in-Holds
 unfolding judge_coded
@@ -27,7 +27,7 @@ returns-2 c = rw (sym c.before.judge.ensures.0 ∙ c.in-Short.is) (omega arith)
 
 returns-3 : tie.Need-returns-in-Refused
 unfolding judge_coded
-returns-3 c = rw (refused c.before.before) (c.placed.ensures ∙ omega arith)
+returns-3 c = rw (refused c.before) (c.placed.ensures ∙ omega arith)
 
 pub lin_judge_spec : {M : Type 1} → statement M
 lin_judge_spec =
