@@ -88,13 +88,13 @@ fn whole_lines(
     out: &mut Output,
 ) -> usize {
     let mut used: usize = 0;
-    let mut end = bytes::scan::find(text, 0, text.len(), b'\n');
+    let mut end = scan::find(text, 0, text.len(), b'\n');
     while end < text.len() && !print::failed(desk) {
         let line = &text[used..end];
         used = end + 1;
         print::make_room(out, desk);
         answer::line(line, desk, table, frames, message, room, out);
-        end = bytes::scan::find(text, used, text.len(), b'\n');
+        end = scan::find(text, used, text.len(), b'\n');
     }
     keep(text, used)
 }
