@@ -1,5 +1,5 @@
 // The sizes of the buffers, and how much of one is in use.
-ghost use Rattle.io.specs.Counts.{IsPrefixLen};
+ghost use Rattle.streams.specs.Counts.{IsPrefixLen};
 
 // The longest line that can be right.
 pub(crate) const LONGEST_LINE: usize = 20000;

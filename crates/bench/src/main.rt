@@ -13,9 +13,9 @@ mod shows;
 mod texts;
 
 // Lays out the buffers, and runs the script; with an argument, says how the program is used.
-fn main() {
-    if 1 < os::arg_count() {
-        usage();
+fn main(rt: HostRuntime) {
+    if streams::has_argument(rt) {
+        usage(rt);
         return;
     }
     let mut text = [0u8; buffers::TEXT_BYTES];
@@ -26,6 +26,7 @@ fn main() {
     let mut room = [0u8; buffers::ROOM_BYTES];
     let mut out = [0u8; buffers::OUTPUT_BYTES];
     run::script(
+        rt,
         &mut text,
         &mut desk,
         &mut table,
@@ -37,10 +38,9 @@ fn main() {
 }
 
 // Says how the program is used, on standard error, where no answer stands.
-fn usage() {
-    io::write_all(
-        libc::STDERR_FILENO,
-        b"usage: bench <SCRIPT\n\
+fn usage(rt: HostRuntime) {
+    let _ = rt.eprint(
+        "usage: bench <SCRIPT\n\
         Reads a script of calls from standard input, one a line, and answers each with a line.\n\
         docs/SCRIPT.md has all lines. For example: printf 'pid 2\\nid 43\\n' | bench\n",
     );

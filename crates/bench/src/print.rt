@@ -5,7 +5,6 @@ use crate::replies::Reply;
 use crate::texts;
 use crate::texts::Text;
 use desk::{ANSWER, Desk, PRINTED, WRITE_FAILED, size};
-use libc::STDOUT_FILENO;
 use script::print;
 
 // Prints an answer; where it has bytes, they are on the desk.
@@ -24,21 +23,20 @@ pub(crate) fn bytes(out: &mut Output, desk: &mut Desk, bytes: &[u8]) {
 }
 
 // Writes the answers out where there may be no room for one more.
-pub(crate) fn make_room(out: &Output, desk: &mut Desk) {
+pub(crate) fn make_room(rt: HostRuntime, out: &Output, desk: &mut Desk) {
     if OUTPUT_BYTES - LONGEST_ANSWER < size(desk[PRINTED]) {
-        write_out(out, desk);
+        write_out(rt, out, desk);
     }
 }
 
 // Writes the answers out, unless an earlier writing failed; a failure is told on standard error.
-pub(crate) fn write_out(out: &Output, desk: &mut Desk) {
+pub(crate) fn write_out(rt: HostRuntime, out: &Output, desk: &mut Desk) {
     let n = size(desk[PRINTED]);
     desk[PRINTED] = 0;
     if failed(desk) {
         return;
     }
-    if !write_first(out, n) {
-        os::fail(b"bench: standard output");
+    if !write_first(rt, out, n) {
         desk[WRITE_FAILED] = 1;
     }
 }
@@ -48,8 +46,8 @@ pub(crate) fn failed(desk: &Desk) -> bool {
     desk[WRITE_FAILED] == 1
 }
 
-// Writes the first characters out, and tells whether that went well.
-fn write_first(out: &[u8], count: usize) -> bool {
+// Writes the first characters out, and tells whether that went well; a failure is told on standard error.
+fn write_first(rt: HostRuntime, out: &[u8], count: usize) -> bool {
     let n = within(count, out);
-    io::write_all(STDOUT_FILENO, &out[..n])
+    streams::write_all(rt, "bench: standard output", &out[..n])
 }

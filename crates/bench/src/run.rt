@@ -1,11 +1,10 @@
 // Runs a script from standard input, a part at a time.
 ghost use Rattle.std.specs.Prelude.{◌≤◌};
-ghost use Rattle.io.specs.Counts.{IsPrefixLen};
+ghost use Rattle.streams.specs.Counts.{IsPrefixLen};
 
 use crate::buffers::{Frames, LONGEST_LINE, Message, Output, Room, Table, within};
 use crate::{answer, print};
 use desk::{Desk, state};
-use libc::STDIN_FILENO;
 use master::state::State;
 
 // The most characters that are kept of a line that is not whole yet: one more than a right line has.
@@ -20,6 +19,7 @@ struct Part {
 
 // Runs the script to its end; nothing says that the input ends, so the turns count down from a number that no run uses up.
 pub(crate) fn script(
+    rt: HostRuntime,
     text: &mut [u8],
     desk: &mut Desk,
     table: &mut Table,
@@ -33,30 +33,29 @@ pub(crate) fn script(
     let mut goes_on = true;
     let mut turns = u64::MAX;
     while turns > 0 && goes_on {
-        let part = read_part(text, kept);
+        let part = read_part(rt, text, kept);
         let n = part.count;
-        kept = whole_lines(&mut text[..n], desk, table, frames, message, room, out);
-        print::write_out(out, desk);
+        kept = whole_lines(rt, &mut text[..n], desk, table, frames, message, room, out);
+        print::write_out(rt, out, desk);
         goes_on = part.goes_on && !print::failed(desk);
         turns -= 1;
     }
 }
 
 // Reads once behind the characters that are kept; at the end of the input puts a newline there, which ends the last line.
-fn read_part(text: &mut [u8], kept: usize) -> Part
+fn read_part(rt: HostRuntime, text: &mut [u8], kept: usize) -> Part
     ensures { IsPrefixLen result.count text.new }
 {
     let start = within(kept, text);
-    let got = libc::read(STDIN_FILENO, &mut text[start..]);
+    let got = streams::read(rt, "bench: standard input", &mut text[start..]);
     if got < 0 {
-        os::fail(b"bench: standard input");
         return first(text, 0, false);
     }
     if got == 0 {
         end_line(text, start);
         return first(text, start + 1, false);
     }
-    let more = io::count(got, text);
+    let more = streams::count(got, text);
     first(text, start + more, true)
 }
 
@@ -79,6 +78,7 @@ fn end_line(text: &mut [u8], at: usize) {
 
 // Answers the whole lines of a text until a writing fails, and tells how much is kept of the line that is left.
 fn whole_lines(
+    rt: HostRuntime,
     text: &mut [u8],
     desk: &mut Desk,
     table: &mut Table,
@@ -88,13 +88,13 @@ fn whole_lines(
     out: &mut Output,
 ) -> usize {
     let mut used: usize = 0;
-    let mut end = bytes::scan::find(text, 0, text.len(), b'\n');
+    let mut end = scan::find(text, 0, text.len(), b'\n');
     while end < text.len() && !print::failed(desk) {
         let line = &text[used..end];
         used = end + 1;
-        print::make_room(out, desk);
+        print::make_room(rt, out, desk);
         answer::line(line, desk, table, frames, message, room, out);
-        end = bytes::scan::find(text, used, text.len(), b'\n');
+        end = scan::find(text, used, text.len(), b'\n');
     }
     keep(text, used)
 }

@@ -3,7 +3,7 @@ use Rattle.std.proofs.Common.{◌≡◌, ℕ, suc, ◌+◌, ◌-◌, ◌%◌, �
 use native.Mathlib.Nat.{sub-zero}
 use borrow.Rule.Slice.PartMut.{put_mid}
 use lib.Seq.{append_snoc, take-append_seam}
-use Rattle.bytes.specs.Bytes.{index_of, slice}
+use Rattle.scan.specs.Bytes.{index_of, slice}
 use Rattle.refusal.specs.declared.Refusal.{Refusal}
 use Rattle.cluster.specs.declared.Verdict.TheVariants as table
 use Rattle.cluster.specs.Check.{taken_of}

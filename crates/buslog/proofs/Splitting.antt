@@ -1,7 +1,7 @@
 -- The first line of a text, by its first newline.
 use Rattle.std.proofs.Common.{◌≡◌, ℕ, suc, ◌+◌, ◌-◌, ◌<◌, ◌≤◌, true, false, eqb, List, [], ◌∷◌, ◌++◌, length, take, drop, sym, refl, ap, ◌∙◌, append-nil, arith, length-drop, drop-drop}
 use lib.Seq.{append_snoc, take-length}
-use Rattle.bytes.specs.Bytes.{index_of, index_after, slice}
+use Rattle.scan.specs.Bytes.{index_of, index_after, slice}
 use Rattle.wire.proofs.Tests.{whether}
 use Rattle.buslog.specs.Lines.{whole_lines}
 

@@ -54,7 +54,7 @@ fn rows(t: &[u16], number: u64, text: &[u8], out: &mut [u8]) -> Written
     let mut used: usize = 0;
     let mut put: usize = 0;
     while 33 <= out.len() - put {
-        let end = bytes::scan::find(text, used, text.len(), b'\n');
+        let end = scan::find(text, used, text.len(), b'\n');
         if end == text.len() {
             return reported_so_far(lines, used, put);
         }
@@ -88,8 +88,8 @@ pub fn keep(text: &mut [u8], from: usize) -> usize
         return 0;
     }
     let mut line = [0u8; 30];
-    bytes::copy(&text[from..from + n], &mut line);
-    bytes::copy(&line[..n], text)
+    scan::copy(&text[from..from + n], &mut line);
+    scan::copy(&line[..n], text)
 }
 
 // How much of a text of a length is kept from a place on.

@@ -30,7 +30,7 @@ fn put_decimal(out: &mut [u8], number: u64) -> usize
         digits[at] = (48 + rest % 10) as u8;
         rest = rest / 10;
     }
-    bytes::copy(&digits[at..], out)
+    scan::copy(&digits[at..], out)
 }
 
 // Puts a space, the identifier, a space, the verdict's word and a newline.
@@ -39,8 +39,8 @@ fn put_verdict(out: &mut [u8], verdict: Verdict) -> usize
     ensures { Fronts (verdict_text verdict) out.old result out.new }
 {
     match verdict {
-        Verdict::Text => bytes::copy(b" -- text\n", out),
-        Verdict::Parity => bytes::copy(b" -- parity\n", out),
+        Verdict::Text => scan::copy(b" -- text\n", out),
+        Verdict::Parity => scan::copy(b" -- parity\n", out),
         Verdict::Unknown(id) => put_identified(out, id, b" unknown\n"),
         Verdict::Length(id) => put_identified(out, id, b" length\n"),
         Verdict::Checksum(id) => put_identified(out, id, b" checksum\n"),
@@ -54,8 +54,8 @@ fn put_identified(out: &mut [u8], id: u8, text: &[u8]) -> usize
     ensures { Fronts (32 ∷ pair_of id ++ text.now) out.old result out.new }
 {
     let pair = [32, digit(id / 16), digit(id % 16)];
-    bytes::copy(&pair, out);
-    3 + bytes::copy(text, &mut out[3..])
+    scan::copy(&pair, out);
+    3 + scan::copy(text, &mut out[3..])
 }
 
 // The character of a hexadecimal digit.

@@ -12,46 +12,47 @@ fn frames(length: usize) -> u16 {
 }
 
 // The numbers of frames.
-pub(crate) fn counts() {
+pub(crate) fn counts(rt: HostRuntime) {
     show::text(
+        rt,
         b"numbers of frames: of all lengths from 0 to 4096 together, a refused one counted as 0, and of lengths far above\n",
     );
-    all_lengths();
-    length(4097);
-    length(65543);
-    length(4294967303);
-    length(18446744073709551615);
+    all_lengths(rt);
+    length(rt, 4097);
+    length(rt, 65543);
+    length(rt, 4294967303);
+    length(rt, 18446744073709551615);
 }
 
-fn all_lengths() {
+fn all_lengths(rt: HostRuntime) {
     let mut sum: u64 = 0;
     let mut n: usize = 0;
     while n < 4097 {
         sum += frames(n) as u64;
         n += 1;
     }
-    show::text(b"lengths 0 to 4096: ");
-    show::decimal(sum);
-    show::text(b" frames\n");
+    show::text(rt, b"lengths 0 to 4096: ");
+    show::decimal(rt, sum);
+    show::text(rt, b" frames\n");
 }
 
-fn length(n: usize) {
-    show::text(b"length ");
-    show::decimal(n as u64);
-    show::text(b": ");
-    counted(n);
-    show::text(b"\n");
+fn length(rt: HostRuntime, n: usize) {
+    show::text(rt, b"length ");
+    show::decimal(rt, n as u64);
+    show::text(rt, b": ");
+    counted(rt, n);
+    show::text(rt, b"\n");
 }
 
 // The number of frames, or the refusal.
-fn counted(n: usize) {
+fn counted(rt: HostRuntime, n: usize) {
     match cutting::count(n) {
         Counted::Frames(frames) => {
-            show::decimal(frames as u64);
-            show::text(b" frames");
+            show::decimal(rt, frames as u64);
+            show::text(rt, b" frames");
         }
         Counted::Refused(refusal) => {
-            show::refusal(refusal);
+            show::refusal(rt, refusal);
         }
     }
 }

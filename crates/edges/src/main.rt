@@ -7,12 +7,12 @@ mod signals;
 
 use refusal::Refusal;
 
-fn main() {
-    show::text(b"refusal numbers, in the order of the papers:");
+fn main(rt: HostRuntime) {
+    show::text(rt, b"refusal numbers, in the order of the papers:");
     let numbers = Refusal::numbers();
-    show::numbers(&numbers);
-    show::text(b"\n");
-    signals::packings();
-    readers::all();
-    lengths::counts();
+    show::numbers(rt, &numbers);
+    show::text(rt, b"\n");
+    signals::packings(rt);
+    readers::all(rt);
+    lengths::counts(rt);
 }

@@ -65,164 +65,175 @@ const TABLE: [u16; 91] = [
 ];
 
 // The table by name where there is no record, and what is left of it where words are missing.
-pub(crate) fn all() {
+pub(crate) fn all(rt: HostRuntime) {
     let t = TABLE;
     show::text(
+        rt,
         b"counts of frames, signals, members, entries, placements, lists and schedules: the table, its first 3 words, its first 0\n",
     );
-    counts(&t);
-    counts(&t[..3]);
-    counts(&t[..0]);
-    all_frames(&t);
-    all_signals(&t);
-    all_placements(&t);
-    all_members(&t);
-    all_entries(&t);
-    all_schedules(&t);
-    all_lists(&t);
+    counts(rt, &t);
+    counts(rt, &t[..3]);
+    counts(rt, &t[..0]);
+    all_frames(rt, &t);
+    all_signals(rt, &t);
+    all_placements(rt, &t);
+    all_members(rt, &t);
+    all_entries(rt, &t);
+    all_schedules(rt, &t);
+    all_lists(rt, &t);
 }
 
-fn counts(t: &[u16]) {
-    show::text(b"counts:");
-    number(frames::count(t));
-    number(signals::count(t));
-    number(members::count(t));
-    number(entries::count(t));
-    number(placements::count(t));
-    size(members::lists(t));
-    size(entries::schedules(t));
-    show::text(b"\n");
+fn counts(rt: HostRuntime, t: &[u16]) {
+    show::text(rt, b"counts:");
+    number(rt, frames::count(t));
+    number(rt, signals::count(t));
+    number(rt, members::count(t));
+    number(rt, entries::count(t));
+    number(rt, placements::count(t));
+    size(rt, members::lists(t));
+    size(rt, entries::schedules(t));
+    show::text(rt, b"\n");
 }
 
-fn all_frames(t: &[u16]) {
-    show::text(b"frames: identifier, length, flags, published, classic\n");
-    frame(t, 6);
-    frame(t, 65535);
-}
-
-fn frame(t: &[u16], f: u16) {
-    label(f);
-    number(frames::identifier(t, f));
-    number(frames::length(t, f));
-    number(frames::flags(t, f));
-    truth(frames::published(t, f));
-    truth(frames::classic(t, f));
-    show::text(b"\n");
-}
-
-fn all_signals(t: &[u16]) {
-    show::text(b"signals: kind, width, start, bytes of an array\n");
-    signal(t, 6);
-    signal(t, 65535);
-}
-
-fn signal(t: &[u16], s: u16) {
-    label(s);
-    number(signals::kind(t, s));
-    number(signals::width(t, s));
-    number(signals::start(t, s));
-    if signals::is_array(t, s) {
-        size(signals::array_length(t, s));
-    } else {
-        show::text(b" -");
-    }
-    show::text(b"\n");
-}
-
-fn all_placements(t: &[u16]) {
+fn all_frames(rt: HostRuntime, t: &[u16]) {
     show::text(
+        rt,
+        b"frames: identifier, length, flags, published, classic\n",
+    );
+    frame(rt, t, 6);
+    frame(rt, t, 65535);
+}
+
+fn frame(rt: HostRuntime, t: &[u16], f: u16) {
+    label(rt, f);
+    number(rt, frames::identifier(t, f));
+    number(rt, frames::length(t, f));
+    number(rt, frames::flags(t, f));
+    truth(rt, frames::published(t, f));
+    truth(rt, frames::classic(t, f));
+    show::text(rt, b"\n");
+}
+
+fn all_signals(rt: HostRuntime, t: &[u16]) {
+    show::text(rt, b"signals: kind, width, start, bytes of an array\n");
+    signal(rt, t, 6);
+    signal(rt, t, 65535);
+}
+
+fn signal(rt: HostRuntime, t: &[u16], s: u16) {
+    label(rt, s);
+    number(rt, signals::kind(t, s));
+    number(rt, signals::width(t, s));
+    number(rt, signals::start(t, s));
+    if signals::is_array(t, s) {
+        size(rt, signals::array_length(t, s));
+    } else {
+        show::text(rt, b" -");
+    }
+    show::text(rt, b"\n");
+}
+
+fn all_placements(rt: HostRuntime, t: &[u16]) {
+    show::text(
+        rt,
         b"placements: signal, frame, offset, place in the buffer; the first placement of the signal of that number\n",
     );
-    placement(t, 6);
-    placement(t, 65535);
+    placement(rt, t, 6);
+    placement(rt, t, 65535);
 }
 
-fn placement(t: &[u16], p: u16) {
-    label(p);
-    number(placements::signal(t, p));
-    number(placements::frame(t, p));
-    number(placements::offset(t, p));
-    size(placements::place(t, p));
-    number(placements::first(t, p));
-    show::text(b"\n");
+fn placement(rt: HostRuntime, t: &[u16], p: u16) {
+    label(rt, p);
+    number(rt, placements::signal(t, p));
+    number(rt, placements::frame(t, p));
+    number(rt, placements::offset(t, p));
+    size(rt, placements::place(t, p));
+    number(rt, placements::first(t, p));
+    show::text(rt, b"\n");
 }
 
-fn all_members(t: &[u16]) {
-    show::text(b"members: list, frame\n");
-    member(t, 4);
-    member(t, 65535);
+fn all_members(rt: HostRuntime, t: &[u16]) {
+    show::text(rt, b"members: list, frame\n");
+    member(rt, t, 4);
+    member(rt, t, 65535);
 }
 
-fn member(t: &[u16], m: u16) {
-    label(m);
-    number(members::list(t, m));
-    number(members::frame(t, m));
-    show::text(b"\n");
+fn member(rt: HostRuntime, t: &[u16], m: u16) {
+    label(rt, m);
+    number(rt, members::list(t, m));
+    number(rt, members::frame(t, m));
+    show::text(rt, b"\n");
 }
 
-fn all_entries(t: &[u16]) {
-    show::text(b"entries: schedule, kind, target, delay, the next entry\n");
-    entry(t, 6);
-    entry(t, 65535);
+fn all_entries(rt: HostRuntime, t: &[u16]) {
+    show::text(
+        rt,
+        b"entries: schedule, kind, target, delay, the next entry\n",
+    );
+    entry(rt, t, 6);
+    entry(rt, t, 65535);
 }
 
-fn entry(t: &[u16], e: u16) {
-    label(e);
-    number(entries::schedule(t, e));
-    number(entries::kind(t, e));
-    number(entries::target(t, e));
-    number(entries::delay(t, e));
-    number(entries::next(t, e));
-    show::text(b"\n");
+fn entry(rt: HostRuntime, t: &[u16], e: u16) {
+    label(rt, e);
+    number(rt, entries::schedule(t, e));
+    number(rt, entries::kind(t, e));
+    number(rt, entries::target(t, e));
+    number(rt, entries::delay(t, e));
+    number(rt, entries::next(t, e));
+    show::text(rt, b"\n");
 }
 
-fn all_schedules(t: &[u16]) {
-    show::text(b"the first entry of a schedule that is not there\n");
-    schedule(t, 2);
-    schedule(t, 65535);
+fn all_schedules(rt: HostRuntime, t: &[u16]) {
+    show::text(rt, b"the first entry of a schedule that is not there\n");
+    schedule(rt, t, 2);
+    schedule(rt, t, 65535);
 }
 
-fn schedule(t: &[u16], n: u16) {
-    label(n);
-    number(entries::first(t, n));
-    show::text(b"\n");
+fn schedule(rt: HostRuntime, t: &[u16], n: u16) {
+    label(rt, n);
+    number(rt, entries::first(t, n));
+    show::text(rt, b"\n");
 }
 
-fn all_lists(t: &[u16]) {
-    show::text(b"the next member of a list that is not there, from members 0 to 4 on\n");
-    list(t, 2);
-    list(t, 65535);
+fn all_lists(rt: HostRuntime, t: &[u16]) {
+    show::text(
+        rt,
+        b"the next member of a list that is not there, from members 0 to 4 on\n",
+    );
+    list(rt, t, 2);
+    list(rt, t, 65535);
 }
 
-fn list(t: &[u16], l: u16) {
-    label(l);
-    number(members::next(t, l, 0));
-    number(members::next(t, l, 1));
-    number(members::next(t, l, 2));
-    number(members::next(t, l, 3));
-    number(members::next(t, l, 4));
-    show::text(b"\n");
+fn list(rt: HostRuntime, t: &[u16], l: u16) {
+    label(rt, l);
+    number(rt, members::next(t, l, 0));
+    number(rt, members::next(t, l, 1));
+    number(rt, members::next(t, l, 2));
+    number(rt, members::next(t, l, 3));
+    number(rt, members::next(t, l, 4));
+    show::text(rt, b"\n");
 }
 
 // The number of a record, before its fields.
-fn label(n: u16) {
-    show::decimal(n as u64);
-    show::text(b":");
+fn label(rt: HostRuntime, n: u16) {
+    show::decimal(rt, n as u64);
+    show::text(rt, b":");
 }
 
-fn number(n: u16) {
-    size(n as usize);
+fn number(rt: HostRuntime, n: u16) {
+    size(rt, n as usize);
 }
 
-fn size(n: usize) {
-    show::text(b" ");
-    show::decimal(n as u64);
+fn size(rt: HostRuntime, n: usize) {
+    show::text(rt, b" ");
+    show::decimal(rt, n as u64);
 }
 
-fn truth(is: bool) {
+fn truth(rt: HostRuntime, is: bool) {
     if is {
-        number(1);
+        number(rt, 1);
     } else {
-        number(0);
+        number(rt, 0);
     }
 }

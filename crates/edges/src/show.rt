@@ -1,55 +1,54 @@
 // Text on standard output.
-use libc::STDOUT_FILENO;
 use refusal::Refusal;
 
 // Bytes as they are.
-pub(crate) fn text(bytes: &[u8]) {
-    io::write_all(STDOUT_FILENO, bytes);
+pub(crate) fn text(rt: HostRuntime, bytes: &[u8]) {
+    let _ = rt.write_all(bytes);
 }
 
 // A number in decimal.
-pub(crate) fn decimal(n: u64) {
-    io::print_decimal(STDOUT_FILENO, n);
+pub(crate) fn decimal(rt: HostRuntime, n: u64) {
+    let _ = rt.print(n);
 }
 
 // A byte as an upper-case hexadecimal pair.
-pub(crate) fn pair(byte: u8) {
+pub(crate) fn pair(rt: HostRuntime, byte: u8) {
     let digits = [digit(byte / 16), digit(byte % 16)];
-    io::write_all(STDOUT_FILENO, &digits);
+    text(rt, &digits);
 }
 
 // Bytes as pairs, with a space before each.
-pub(crate) fn pairs(bytes: &[u8]) {
+pub(crate) fn pairs(rt: HostRuntime, bytes: &[u8]) {
     let mut i: usize = 0;
     while i < bytes.len() {
-        text(b" ");
-        pair(bytes[i]);
+        text(rt, b" ");
+        pair(rt, bytes[i]);
         i += 1;
     }
 }
 
 // Bytes as decimal numbers, with a space before each.
-pub(crate) fn numbers(bytes: &[u8]) {
+pub(crate) fn numbers(rt: HostRuntime, bytes: &[u8]) {
     let mut i: usize = 0;
     while i < bytes.len() {
-        spaced(bytes[i]);
+        spaced(rt, bytes[i]);
         i += 1;
     }
 }
 
 // A space, and a byte in decimal.
-fn spaced(byte: u8) {
-    text(b" ");
-    decimal(byte as u64);
+fn spaced(rt: HostRuntime, byte: u8) {
+    text(rt, b" ");
+    decimal(rt, byte as u64);
 }
 
 // A refusal: its number, and its place where that is not 0.
-pub(crate) fn refusal(given: Refusal) {
-    text(b"refused ");
-    decimal(given.number as u64);
+pub(crate) fn refusal(rt: HostRuntime, given: Refusal) {
+    text(rt, b"refused ");
+    decimal(rt, given.number as u64);
     if given.place != 0 {
-        text(b" at ");
-        decimal(given.place as u64);
+        text(rt, b" at ");
+        decimal(rt, given.place as u64);
     }
 }
 

@@ -3,8 +3,7 @@ use Rattle.std.proofs.Common.{◌≡◌, ℕ, suc, ◌+◌, ◌*◌, ◌%◌, �
 use native.Mathlib.Nat.{min-le_left}
 use lib.Signed.{lt_z}
 use lib.Seq.{take-append-add, set_split}
-use Rattle.io.specs.Counts.{clamp_len}
-use Rattle.libc.specs.Io.{Moved}
+use Rattle.streams.specs.Counts.{Moved, clamp_len}
 use Rattle.signal.proofs.Inside.{order}
 use Rattle.buslog.specs.declared.report.Written.{Written}
 use Rattle.buslog.specs.Row.{longest_row}

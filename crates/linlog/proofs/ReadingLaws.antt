@@ -1,6 +1,6 @@
 -- What is done after a reading, by the number that it answered: each answer with the rows that it puts and with what it keeps.
 use Rattle.std.proofs.Common.{◌≡◌, ℕ, suc, ◌+◌, ◌-◌, ◌%◌, ◌^◌, ◌≤◌, true, false, ◌⊎◌, ◌↔◌, List, [], ◌∷◌, ◌++◌, length, take, drop, ℤ, pos, negsuc, refl, ap, ◌∙◌, arith}
-use Rattle.libc.specs.Io.{Moved}
+use Rattle.streams.specs.Counts.{Moved}
 use Rattle.buslog.specs.Lines.{whole_lines, unfinished, last_line}
 use Rattle.buslog.specs.Report.{built_in, rows_of, fronted, kept_of}
 use Rattle.buslog.proofs.LinesExactly.{OneLine, line_then}

@@ -1,7 +1,7 @@
 -- A log in parts: what the program does with one part, and at the end of the input. These are the two equations of `in_parts` (buslog, Report), by which a
 -- log in parts gives the report of the whole.
 use Rattle.std.specs.Prelude.{◌≡◌, ℕ, suc, ◌+◌, ◌-◌, ◌%◌, ◌^◌, ◌≤◌, true, false, ◌⊎◌, List, [], ◌∷◌, ◌++◌, length, take, drop, ℤ, pos, negsuc}
-use Rattle.libc.specs.Io.{Moved}
+use Rattle.streams.specs.Counts.{Moved}
 use Rattle.buslog.specs.Lines.{whole_lines}
 use Rattle.buslog.specs.Report.{built_in, rows_of, characters_of, fronted, kept_of}
 use Rattle.linlog.specs.declared.Log.{Log}

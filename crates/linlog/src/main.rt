@@ -2,11 +2,10 @@
 ghost use Rattle.std.specs.Prelude.{◌≡◌, ◌+◌, ◌-◌, ◌*◌, ◌<◌, ◌≤◌, false, length, take};
 ghost use Rattle.buslog.specs.Row.{header, longest_row};
 ghost use Rattle.buslog.specs.Report.{built_in, kept_length};
-ghost use Rattle.libc.specs.Io.{Moved};
+ghost use Rattle.streams.specs.Counts.{Moved};
 ghost use Rattle.linlog.specs.Part.{started, Reports, Ends, Goes, Turns, Runs};
 
 use buslog::report;
-use libc::{STDERR_FILENO, STDIN_FILENO, STDOUT_FILENO};
 
 // How far the log was reported.
 #[derive(Clone, Copy)]
@@ -18,38 +17,33 @@ struct Log {
     goes_on: bool,
 }
 
-fn main() {
-    if 1 < os::arg_count() {
-        usage();
+fn main(rt: HostRuntime) {
+    if streams::has_argument(rt) {
+        usage(rt);
         return;
     }
     let header = header();
-    if !write_out(&header) {
+    if !write_out(rt, &header) {
         return;
     }
     let mut text = [0u8; 16384];
     // The rows of so much text always fit: 33 characters for each of its characters.
     let mut out = [0u8; 540672];
-    run(&mut text, &mut out);
+    run(rt, &mut text, &mut out);
 }
 
 // Says how the program is used, on standard error, where no row stands.
-fn usage() {
-    io::write_all(
-        STDERR_FILENO,
-        b"usage: linlog <LOG\n\
+fn usage(rt: HostRuntime) {
+    let _ = rt.eprint(
+        "usage: linlog <LOG\n\
         Reads a bus log from standard input, one frame a line, and judges each: line number, identifier, verdict.\n\
         For example: printf '42 00 BD\\n42 00 BC\\n' | linlog\n",
     );
 }
 
 // Writes text out and tells whether that went well; a failure is told on standard error.
-fn write_out(text: &[u8]) -> bool {
-    if io::write_all(STDOUT_FILENO, text) {
-        return true;
-    }
-    os::fail(b"linlog: standard output");
-    false
+fn write_out(rt: HostRuntime, text: &[u8]) -> bool {
+    streams::write_all(rt, "linlog: standard output", text)
 }
 
 // The first line of the report.
@@ -78,48 +72,47 @@ fn started() -> Log
 }
 
 // Turn after turn, from line 1 on. Nothing says that the input ends, so the turns count down from a number that no run uses up.
-fn run(text: &mut [u8], out: &mut [u8])
+fn run(rt: HostRuntime, text: &mut [u8], out: &mut [u8])
     requires { (kept_length < length text.old) × (longest_row * length text.old ≤ length out.old) }
     ensures { Runs text.old out.old text.new out.new }
 {
     let mut log = started();
     let mut turns = u64::MAX;
     while turns > 0 && log.goes_on {
-        log = turn(log, text, out);
+        log = turn(rt, log, text, out);
         turns -= 1;
     }
 }
 
-// Reads once behind what was kept, and does what the answer of that reading says.
-fn turn(log: Log, text: &mut [u8], out: &mut [u8]) -> Log
+// Reads once behind what was kept, and does what the answer of that reading says; a failure is told on standard error.
+fn turn(rt: HostRuntime, log: Log, text: &mut [u8], out: &mut [u8]) -> Log
     requires { (log.kept < length text.old) × (longest_row * length text.old ≤ length out.old) }
     ensures { Turns log text.old out.old result text.new out.new }
 {
     let kept = log.kept;
-    let got = libc::read(STDIN_FILENO, &mut text[kept..]);
-    part(log, text, got, out)
+    let got = streams::read(rt, "linlog: standard input", &mut text[kept..]);
+    part(rt, log, text, got, out)
 }
 
-// What a reading brings about, by what it answered: a negative number is a failure, told on standard error, and nothing more is
-// reported; 0 is the end, where the last line is reported; and n characters go behind what was kept, and their whole lines are.
-fn part(log: Log, text: &mut [u8], got: isize, out: &mut [u8]) -> Log
+// What a reading brings about, by what it answered: a negative number is a failure, which was told on standard error, and nothing more
+// is reported; 0 is the end, where the last line is reported; and n characters go behind what was kept, and their whole lines are.
+fn part(rt: HostRuntime, log: Log, text: &mut [u8], got: isize, out: &mut [u8]) -> Log
     requires { (log.kept < length text.old) × Moved (length text.old - log.kept) got × (longest_row * length text.old ≤ length out.old) }
     ensures { Goes log got text.old out.old result text.new out.new }
 {
     let kept = log.kept;
     if got < 0 {
-        os::fail(b"linlog: standard input");
         return ended(log);
     }
-    let more = io::count(got, &text[kept..]);
+    let more = streams::count(got, &text[kept..]);
     if more == 0 {
-        return last(log, text, out);
+        return last(rt, log, text, out);
     }
-    whole_lines(log, text, kept + more, out)
+    whole_lines(rt, log, text, kept + more, out)
 }
 
 // Reports a last line that lacks its newline, if there is one.
-fn last(log: Log, text: &mut [u8], out: &mut [u8]) -> Log
+fn last(rt: HostRuntime, log: Log, text: &mut [u8], out: &mut [u8]) -> Log
     requires { (log.kept < length text.old) × (longest_row * length text.old ≤ length out.old) }
     ensures { Ends log (take log.kept text.old) out.old result out.new }
 {
@@ -128,18 +121,18 @@ fn last(log: Log, text: &mut [u8], out: &mut [u8]) -> Log
         return ended(log);
     }
     text[kept] = b'\n';
-    ended(whole_lines(log, text, kept + 1, out))
+    ended(whole_lines(rt, log, text, kept + 1, out))
 }
 
 // Reports the whole lines of the first n characters, writes their rows, and keeps what is left.
-fn whole_lines(log: Log, text: &mut [u8], n: usize, out: &mut [u8]) -> Log
+fn whole_lines(rt: HostRuntime, log: Log, text: &mut [u8], n: usize, out: &mut [u8]) -> Log
     requires { (n ≤ length text.old) × (longest_row * length text.old ≤ length out.old) }
     ensures { Reports log (take n text.old) out.old result text.new out.new }
 {
     let table = table();
     let written = report::write(&table, log.number, &text[..n], out);
     let put = written.put;
-    let goes_on = write_out(&out[..put]);
+    let goes_on = write_out(rt, &out[..put]);
     Log {
         number: std::num::wrapping_add_u64(log.number, written.lines as u64),
         kept: report::keep(&mut text[..n], written.used),

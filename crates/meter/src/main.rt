@@ -4,17 +4,12 @@ mod calls;
 mod largest;
 mod row;
 
-use libc::{STDIN_FILENO, STDOUT_FILENO};
-
-fn main() {
-    let mut letters = io::buffer();
-    let n = io::read_full(STDIN_FILENO, &mut letters);
+fn main(rt: HostRuntime) {
+    let mut letters = [0u8; 4096];
+    let n = streams::read_full(rt, &mut letters);
     let mut t = [0u16; 3633];
     largest::build(&mut t);
     let mut bytes = [0u8; 480];
     let digest = calls::all(&t, &mut bytes, &letters[..n]);
-    io::print_decimal(STDOUT_FILENO, n as u64);
-    io::write_all(STDOUT_FILENO, b" calls, digest ");
-    io::print_decimal(STDOUT_FILENO, digest);
-    io::write_all(STDOUT_FILENO, b"\n");
+    let _ = println!(rt; "{n} calls, digest {digest}");
 }

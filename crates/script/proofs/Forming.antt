@@ -5,7 +5,7 @@ use mathlib.Core.Bool.{true, false}
 use mathlib.Core.List.{List, [], ◌∷◌}
 use native.Mathlib.Omega.{arith}
 use lib.ListN.{length, take, drop}
-use Rattle.bytes.specs.Bytes.{index_of, slice}
+use Rattle.scan.specs.Bytes.{index_of, slice}
 use Rattle.script.specs.declared.forms.Numbers.{Numbers}
 use Rattle.script.specs.Fields.{fields_from, field_of, is_right}
 use Rattle.script.specs.Forms.{no_numbers, with_field, is_list, unfit, fitting, formed, read_as, read_of, line_in, line_of}

@@ -9,7 +9,7 @@ use borrow.Author.Tests.{le-leb, lt-leb}
 use lib.Dec.{leb}
 use lib.ListN.{length, take, drop, set, length-set, take-append-drop}
 use lib.Seq.{take-nil, take-suc-set, drop-set-lt, drop-drop, append_snoc}
-use Rattle.bytes.specs.Bytes.{index_of, slice}
+use Rattle.scan.specs.Bytes.{index_of, slice}
 use Rattle.buslog.specs.Report.{fronted}
 use Rattle.script.specs.declared.fields.Field.{Field}
 use Rattle.script.specs.declared.fields.Field.TheVariants.{Word, Number, Wrong}

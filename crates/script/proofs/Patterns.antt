@@ -4,7 +4,7 @@ use mathlib.Core.Path.{◌≡◌}
 use mathlib.Core.List.{List, [], ◌∷◌, ◌++◌}
 use native.Mathlib.Omega.{arith}
 use lib.ListN.{length, get_or, take, drop, drop_of_length-le}
-use Rattle.bytes.specs.Bytes.{index_of, slice}
+use Rattle.scan.specs.Bytes.{index_of, slice}
 use Rattle.buslog.specs.Pairs.{pair_of}
 use Rattle.script.specs.Fields.{fields_of, fields_from}
 use Rattle.script.specs.Print.{shown_by, left_behind, text_by, spaced_pairs}

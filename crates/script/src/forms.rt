@@ -80,7 +80,7 @@ pub fn read(line: &[u8], forms: &[u8]) -> Line
     let mut k: usize = 0;
     let mut at: usize = 0;
     while at <= forms.len() {
-        let end = bytes::scan::find(forms, at, forms.len(), b'|');
+        let end = scan::find(forms, at, forms.len(), b'|');
         let read = read_as(line, &forms[at..end]);
         if read.fits {
             return with_form(k, read);
@@ -111,14 +111,14 @@ fn read_as(line: &[u8], form: &[u8]) -> Reading
     let mut place: usize = 0;
     let mut at: usize = 0;
     while at <= form.len() {
-        let end = bytes::scan::find(form, at, form.len(), b' ');
+        let end = scan::find(form, at, form.len(), b' ');
         if is_list(&form[at..end]) {
             return fitting(place, numbers);
         }
         if line.len() < place {
             return unfit();
         }
-        let stop = bytes::scan::find(line, place, line.len(), b' ');
+        let stop = scan::find(line, place, line.len(), b' ');
         let field = fields::read(&line[place..stop], &form[at..end]);
         if !is_right(field) {
             return unfit();

@@ -17,7 +17,7 @@ pub fn words(line: &[u8], at: usize, words: &mut [u16]) -> Count
     let mut n: usize = 0;
     let mut place = at;
     while place <= line.len() {
-        let end = bytes::scan::find(line, place, line.len(), b' ');
+        let end = scan::find(line, place, line.len(), b' ');
         let field = fields::decimal(&line[place..end], 65535);
         if words.len() <= n {
             return Count::Malformed;
@@ -39,7 +39,7 @@ pub fn bytes(line: &[u8], at: usize, bytes: &mut [u8]) -> Count
     let mut n: usize = 0;
     let mut place = at;
     while place <= line.len() {
-        let end = bytes::scan::find(line, place, line.len(), b' ');
+        let end = scan::find(line, place, line.len(), b' ');
         let field = fields::pair(&line[place..end]);
         if bytes.len() <= n {
             return Count::Malformed;

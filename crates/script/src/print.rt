@@ -23,7 +23,7 @@ pub fn by_number(
     let mut passed: usize = 0;
     let mut start: usize = 0;
     while start <= patterns.len() {
-        let end = bytes::scan::find(patterns, start, patterns.len(), b'|');
+        let end = scan::find(patterns, start, patterns.len(), b'|');
         if passed == k {
             return by_pattern(out, at, &patterns[start..end], numbers, from);
         }
@@ -168,7 +168,7 @@ fn text(out: &mut [u8], at: usize, text: &[u8]) -> usize
         return at;
     }
     let n = least(out.len() - at, text.len());
-    at + bytes::copy(&text[..n], &mut out[at..])
+    at + scan::copy(&text[..n], &mut out[at..])
 }
 
 // The lesser of two numbers.

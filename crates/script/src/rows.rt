@@ -43,7 +43,7 @@ fn first_row(line: &[u8], at: usize, words: &mut [u16]) -> Row
     let mut n: usize = 0;
     let mut place = at;
     while place <= line.len() {
-        let end = bytes::scan::find(line, place, line.len(), b' ');
+        let end = scan::find(line, place, line.len(), b' ');
         if is_colon(&line[place..end]) {
             return ended(n, end + 1);
         }
@@ -68,7 +68,7 @@ fn second_row(line: &[u8], at: usize, numbers: &mut [u32]) -> Count
     let mut n: usize = 0;
     let mut place = at;
     while place <= line.len() {
-        let end = bytes::scan::find(line, place, line.len(), b' ');
+        let end = scan::find(line, place, line.len(), b' ');
         let field = fields::decimal(&line[place..end], 4294967295);
         if numbers.len() <= n {
             return Count::Malformed;

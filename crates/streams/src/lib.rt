@@ -1,0 +1,93 @@
+// What the programs read, write and tell, over the standard library's handles. Nothing is allocated, and no call of this crate can fail
+// but by its answer.
+#![tactic(auto)]
+
+ghost use Rattle.std.specs.Prelude.{◌≤◌, ◌≡◌, length, min};
+ghost use Rattle.streams.specs.Counts.{IsPrefixLen, Moved, clamp_len};
+
+use std::env::FillError;
+use std::fmt::InlineText;
+use std::io::{Error, Read};
+use std::rt::Env;
+
+// Whether the program was started with an argument.
+pub fn has_argument(rt: HostRuntime) -> bool {
+    match rt.arg(1, &mut []) {
+        Ok(_) => true,
+        Err(FillError::TooLong) => true,
+        Err(FillError::NotPresent) => false,
+    }
+}
+
+// Reads once from standard input, and tells how many bytes came to the front of a buffer, 0 at the end of the input. A failure is told
+// on standard error behind some words, and the answer is -1 then.
+pub fn read(rt: HostRuntime, what: &str, bytes: &mut [u8]) -> isize
+    ensures { Moved (length bytes.old) result }
+{
+    match rt.stdin().read(bytes) {
+        Ok(n) => n as isize,
+        Err(error) => {
+            fail(rt, what, error);
+            -1
+        }
+    }
+}
+
+// The answer of a reading as a number of a buffer's bytes: 0 where it is negative.
+pub fn count(got: isize, bytes: &[u8]) -> usize
+    ensures in_bounds { IsPrefixLen result bytes.now }
+    ensures value { result ≡ clamp_len got (length bytes.now) }
+{
+    if got <= 0 {
+        return 0;
+    }
+    least(got as usize, bytes.len())
+}
+
+// Reads until a buffer is full, the input ends or a reading fails, and tells how many bytes stand at its front.
+pub fn read_full(rt: HostRuntime, bytes: &mut [u8]) -> usize
+    ensures { IsPrefixLen result bytes.new }
+{
+    let mut done: usize = 0;
+    while done < bytes.len() {
+        match rt.stdin().read(&mut bytes[done..]) {
+            Ok(0) => return done,
+            Ok(n) => done += n,
+            Err(_) => return done,
+        }
+    }
+    done
+}
+
+// Writes bytes to standard output, and tells whether that went well; a failure is told on standard error behind some words.
+pub fn write_all(rt: HostRuntime, what: &str, bytes: &[u8]) -> bool {
+    match rt.write_all(bytes) {
+        Ok(()) => true,
+        Err(error) => {
+            fail(rt, what, error);
+            false
+        }
+    }
+}
+
+// Writes a line to standard error: some words, a colon, and the system's words for an error.
+fn fail(rt: HostRuntime, what: &str, error: Error) {
+    let said = InlineText::<128>::of(error);
+    let words = without_number(said.as_str());
+    let _ = eprintln!(rt; "{what}: {words}");
+}
+
+// The system's words for an error, without the error's number behind them.
+fn without_number(said: &str) -> &str {
+    match said.split_once(" (os error ") {
+        Some((words, _)) => words,
+        None => said,
+    }
+}
+
+// The lesser of two numbers.
+fn least(a: usize, b: usize) -> usize
+    ensures { result ≡ min a b }
+{
+    if a < b { a } else { b }
+}
