@@ -8,5 +8,5 @@ returns : tie.Need-returns
 unfolding header
 returns c = refl
 
-pub header-spec : {M : Type 1} → statement M
-header-spec = tie.close (tie.spec returns)
+pub header_spec : {M : Type 1} → statement M
+header_spec = tie.close (tie.spec returns)

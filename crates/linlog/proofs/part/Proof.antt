@@ -4,37 +4,37 @@ use Rattle.linlog.proofs.PartLaws.{negative, counted, goes_failed, goes_over, go
 use Rattle.linlog.proofs.part.Statement.{statement}
 use Rattle.linlog.proofs.part.Tie as tie
 
-returns : tie.Need-returns
+returns : tie.Need-returns-then-got-lt0
 returns c =
-    let start = c.before.before.before.before.before.before in
-    let bad = negative start.args.got start.ranges.got c.before.before.before.if1.true in
+    let start = c in
+    let bad = negative start.before.before.before.before.args.got start.before.before.before.before.ranges.got c.before.if-got-lt0.true in
     goes_failed _ _ _ _ _ _ _ bad.0 bad.1 record { no_rows = refl; none_kept = c.ended.ensures.0; over = c.ended.ensures.1 }
 
-returns-2 : tie.Need-returns-2
+returns-2 : tie.Need-returns-then-more-eq0
 returns-2 c =
-    let start = c.before.before.before.before.before.before.before.before.before.before.before.before.before.before in
-    let was = c.before.before.before.before.before.before.before in
-    let none = counted start.args.got _ _ _ start.ranges.got start.requires.1
-    c.before.before.before.before.before.before.before.before.before.before.before.if1.false
-    was.before.count.ensures.1 (simp (length-take, length-drop) (omega arith)) in
-    goes_over _ _ _ _ _ _ _ (rw was.if2.true at none) c.before.before.before.before.last.ensures
+    let start = c in
+    let was = c in
+    let none = counted start.before.before.before.before.before.before.before.before.before.before.before.before.before.args.got _ _ _ start.before.before.before.before.before.before.before.before.before.before.before.before.before.ranges.got start.before.before.before.before.before.before.before.before.before.before.before.before.before.requires.1
+    c.before.before.before.before.before.before.before.before.before.before.if-got-lt0.false
+    was.before.before.before.before.before.before.before.before.count-more.ensures.1 (simp (length-take, length-drop) (omega arith)) in
+    goes_over _ _ _ _ _ _ _ (rw was.before.before.before.before.before.before.before.if-more-eq0.true at none) c.before.before.before.before.last.ensures
 
-whole-lines-requires : tie.Need-whole-lines-requires
+whole-lines-requires : tie.Need-whole_lines-requires
 whole-lines-requires c κs =
-    let start = c.before.before.before.before.before.before.before.before.before in
-    (omega (arith, start.requires.0, simp (length-take, length-drop) at c.before.before.before.count.ensures.0.0), start.requires.2)
+    let start = c in
+    (omega (arith, start.before.before.before.before.before.before.before.before.requires.0, simp (length-take, length-drop) at c.before.before.before.count-more.ensures.0.0), start.before.before.before.before.before.before.before.before.requires.2)
 
-returns-3 : tie.Need-returns-3
+returns-3 : tie.Need-returns
 returns-3 c =
-    let start = c.before.before.before.before.before.before.before.before.before.before.before.before.before.before in
-    let was = c.before.before.before.before.before.before.before in
-    let some = counted start.args.got _ _ _ start.ranges.got start.requires.1
-    c.before.before.before.before.before.before.before.before.before.before.before.if1.false
-    was.before.count.ensures.1 (simp (length-take, length-drop) (omega arith)) in
-    goes_on _ _ _ _ _ _ _ _ some (omega arith) (omega (arith, start.requires.0)) c.before.before.before.before.whole-lines.ensures
+    let start = c in
+    let was = c in
+    let some = counted start.before.before.before.before.before.before.before.before.before.before.before.before.before.args.got _ _ _ start.before.before.before.before.before.before.before.before.before.before.before.before.before.ranges.got start.before.before.before.before.before.before.before.before.before.before.before.before.before.requires.1
+    c.before.before.before.before.before.before.before.before.before.before.if-got-lt0.false
+    was.before.before.before.before.before.before.before.before.count-more.ensures.1 (simp (length-take, length-drop) (omega arith)) in
+    goes_on _ _ _ _ _ _ _ _ some (omega arith) (omega (arith, start.before.before.before.before.before.before.before.before.before.before.before.before.before.requires.0)) c.before.before.before.before.whole_lines.ensures
 
-pub part-spec : {M : Type 1} → statement M
-part-spec =
+pub part_spec : {M : Type 1} → statement M
+part_spec =
     tie.close
     (tie.spec (λ c. search rules) (λ c κs. search rules) (λ c κs. search rules) returns (λ c. search rules) (λ c. search rules)
     (λ c. search rules) (λ c κs. search rules) (λ c κs. search rules) (λ c. search rules) (λ c. search rules)

@@ -6,61 +6,61 @@ use Rattle.linlog.proofs.PartLaws.{few_kept}
 use Rattle.linlog.proofs.run.Statement.{statement}
 use Rattle.linlog.proofs.run.Tie as tie
 
-abbrev invariant-loop : tie.invariant-loop
+abbrev invariant-loop : tie.invariant-loop-turns
 invariant-loop text₀ out₀ log₀ turns₀ text out log turns =
     (length text ≡ length text₀) × (length out ≡ length out₀) × (log.kept ≤ kept_length) × (turns ≤ 18446744073709551615)
     × Ran text₀ out₀ (18446744073709551615 - turns) log text out
 
-abbrev decreases-loop : tie.decreases-loop
+abbrev decreases-loop : tie.decreases-loop-turns
 decreases-loop text₀ out₀ log₀ turns₀ text out log turns = turns
 
-loop-holds : tie.Need-loop-init invariant-loop decreases-loop
+loop-holds : tie.Need-loop-turns-init invariant-loop decreases-loop
 unfolding started
-loop-holds c = (refl, refl, rw c.started.ensures (omega arith), omega arith, rw c.started.ensures none)
+loop-holds c = (refl, refl, rw c.started-log.ensures (omega arith), omega arith, rw c.started-log.ensures none)
 
-turn-requires : tie.Need-turn-requires invariant-loop decreases-loop
+turn-requires : tie.Need-turn-log-requires invariant-loop decreases-loop
 turn-requires c κs =
-    let now = c.before.before.before.before.loop.invariant in
+    let now = c.before.before.before.before.loop-turns.invariant in
     let asked = c.before.before.before.before.before.before.before.before.requires in
     (omega (arith, now.0, now.2, asked.0), omega (arith, now.0, now.1, asked.1))
 
-sub-turns : tie.Need-overflow-sub-turns invariant-loop decreases-loop
+sub-turns : tie.Need-overflow_sub-turns invariant-loop decreases-loop
 sub-turns c = omega arith
 
-loop-less : tie.Need-loop-smaller invariant-loop decreases-loop
+loop-less : tie.Need-loop-turns-smaller invariant-loop decreases-loop
 loop-less c = omega arith
 
-loop-again : tie.Need-loop-preserved invariant-loop decreases-loop
+loop-again : tie.Need-loop-turns-preserved invariant-loop decreases-loop
 loop-again c =
-    let test = c.before.before.before.before.before.before.before.before in
-    let now = test.before.loop.invariant in
-    let turn = c.before.before.before.before.turn in
-    let left = test.before.loop.turns in
-    let more : 18446744073709551615 - (left - 1) ≡ suc (18446744073709551615 - left) = omega (arith, now.3, test.loop-test.true) in (
+    let test = c in
+    let now = test.before.before.before.before.before.before.before.before.before.loop-turns.invariant in
+    let turn = c.before.before.before.before.turn-log in
+    let left = test.before.before.before.before.before.before.before.before.before.loop-turns.turns in
+    let more : 18446744073709551615 - (left - 1) ≡ suc (18446744073709551615 - left) = omega (arith, now.3, test.before.before.before.before.before.before.before.before.loop-turns-test.true) in (
       turn.auto.1.0 ∙ now.0,
       turn.auto.1.1.0 ∙ now.1,
       few_kept _ _ _ _ _ _ turn.ensures,
       omega (arith, now.3),
-      rw more (turned now.4 c.before.before.before.before.before.before.before.if1.true turn.ensures),
+      rw more (turned now.4 c.before.before.before.before.before.before.before.if-log.true turn.ensures),
     )
 
-same_length : tie.Need-same-length invariant-loop decreases-loop
-same_length c = c.before.before.loop.invariant.0
+same_length : tie.Need-shape_of-text-else-log invariant-loop decreases-loop
+same_length c = c.before.before.loop-turns.invariant.0
 
-same-length-2 : tie.Need-same-length-2 invariant-loop decreases-loop
-same-length-2 c = c.before.before.loop.invariant.1
+same-length-2 : tie.Need-shape_of-out-else-log invariant-loop decreases-loop
+same-length-2 c = c.before.before.loop-turns.invariant.1
 
-returns : tie.Need-returns invariant-loop decreases-loop
-returns c = record { turns = _; last = _; ran = c.before.before.loop.invariant.4; over = inl c.if1.false }
+returns : tie.Need-returns-else-log invariant-loop decreases-loop
+returns c = record { turns = _; last = _; ran = c.before.before.loop-turns.invariant.4; over = inl c.if-log.false }
 
-same-length-3 : tie.Need-same-length-3 invariant-loop decreases-loop
-same-length-3 c = c.before.loop.invariant.0
+same-length-3 : tie.Need-shape_of-text-after-loop-turns invariant-loop decreases-loop
+same-length-3 c = c.before.loop-turns.invariant.0
 
-same-length-4 : tie.Need-same-length-4 invariant-loop decreases-loop
-same-length-4 c = c.before.loop.invariant.1
+same-length-4 : tie.Need-shape_of-out-after-loop-turns invariant-loop decreases-loop
+same-length-4 c = c.before.loop-turns.invariant.1
 
-returns-2 : tie.Need-returns-2 invariant-loop decreases-loop
-returns-2 c = record { turns = _; last = _; ran = c.before.loop.invariant.4; over = inr (omega (arith, c.loop-test.false)) }
+returns-2 : tie.Need-returns-after-loop-turns invariant-loop decreases-loop
+returns-2 c = record { turns = _; last = _; ran = c.before.loop-turns.invariant.4; over = inr (omega (arith, c.loop-turns-test.false)) }
 
 pub run_spec : {M : Type 1} → statement M
 run_spec =

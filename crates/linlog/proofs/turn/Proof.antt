@@ -7,30 +7,30 @@ use Rattle.linlog.proofs.turn.Tie as tie
 
 part-requires : tie.Need-part-requires
 part-requires c κs =
-    let start = c.before.before.before.before.before.before.before.before in
-    let read = c.before.before.before.before.read in
-    let kept = start.args.log.kept in
-    let text = start.args.text.now in
+    let start = c in
+    let read = c.before.before.before.before.read-got in
+    let kept = start.before.before.before.before.before.before.before.before.before.before.args.log.kept in
+    let text = start.before.before.before.before.before.before.before.before.before.before.args.text.now in
     let same = same_len_mid kept (length text - kept) text read.new.1.0 read.auto.1.0 in (
-      omega (arith, same, start.requires.0),
-      moved_back read.result _ _ (record { sfits = read.type-inv }) read.ensures (simp (length-take, length-drop) (omega (arith, same, start.requires.0))),
-      omega (arith, same, start.requires.1),
+      omega (arith, same, start.before.before.before.before.before.before.before.before.before.before.requires.0),
+      moved_back read.result _ _ (record { sfits = read.type-inv }) read.ensures (simp (length-take, length-drop) (omega (arith, same, start.before.before.before.before.before.before.before.before.before.before.requires.0))),
+      omega (arith, same, start.before.before.before.before.before.before.before.before.before.before.requires.1),
     )
 
 returns : tie.Need-returns
 returns c =
-    let start = c.before.before.before.before.before.before.before.before.before.before.before.before.before in
-    let read = c.before.before.before.before.before.before.before.before.before.read in
-    let within : start.args.log.kept ≤ length start.args.text.now = omega (arith, start.requires.0) in
+    let start = c in
+    let read = c.before.before.before.before.before.before.before.before.before.read-got in
+    let within : start.before.before.before.before.before.before.before.before.before.before.before.before.before.before.before.args.log.kept ≤ length start.before.before.before.before.before.before.before.before.before.before.before.before.before.before.before.args.text.now = omega (arith, start.before.before.before.before.before.before.before.before.before.before.before.before.before.before.before.requires.0) in
     record {
       got = to_z w64 (of_z w64 read.result);
-      moved = moved_back read.result _ (length start.args.text.now - start.args.log.kept) (record { sfits = read.type-inv }) read.ensures (simp (length-take, length-drop) (omega arith));
+      moved = moved_back read.result _ (length start.before.before.before.before.before.before.before.before.before.before.before.before.before.before.before.args.text.now - start.before.before.before.before.before.before.before.before.before.before.before.before.before.before.before.args.log.kept) (record { sfits = read.type-inv }) read.ensures (simp (length-take, length-drop) (omega arith));
       now = _;
       same =
           take_put
-          start.args.log.kept
-          (length start.args.text.now - start.args.log.kept)
-          start.args.text.now
+          start.before.before.before.before.before.before.before.before.before.before.before.before.before.before.before.args.log.kept
+          (length start.before.before.before.before.before.before.before.before.before.before.before.before.before.before.before.args.text.now - start.before.before.before.before.before.before.before.before.before.before.before.before.before.before.before.args.log.kept)
+          start.before.before.before.before.before.before.before.before.before.before.before.before.before.before.before.args.text.now
           read.new.1.0
           within;
       goes = c.before.before.before.before.part.ensures;

@@ -6,11 +6,11 @@ use borrow.Author.Rules.{rules}
 use Rattle.bench.proofs.buffers.numbers_within.Statement.{statement}
 use Rattle.bench.proofs.buffers.numbers_within.Tie as tie
 
-returns : tie.Need-returns
+returns : tie.Need-returns-then-n-numbers
 returns c = (search rules, sym (length-take-le _ _ (omega arith)))
 
-returns-2 : tie.Need-returns-2
+returns-2 : tie.Need-returns-else-n-numbers
 returns-2 c = (search rules, sym (length-take-le _ _ (omega arith)))
 
-pub numbers-within-spec : {M : Type 1} → statement M
-numbers-within-spec = tie.close (tie.spec returns returns-2)
+pub numbers_within_spec : {M : Type 1} → statement M
+numbers_within_spec = tie.close (tie.spec returns returns-2)

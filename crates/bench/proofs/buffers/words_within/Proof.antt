@@ -6,11 +6,11 @@ use borrow.Author.Rules.{rules}
 use Rattle.bench.proofs.buffers.words_within.Statement.{statement}
 use Rattle.bench.proofs.buffers.words_within.Tie as tie
 
-returns : tie.Need-returns
+returns : tie.Need-returns-then-n-words
 returns c = (search rules, sym (length-take-le _ _ (omega arith)))
 
-returns-2 : tie.Need-returns-2
+returns-2 : tie.Need-returns-else-n-words
 returns-2 c = (search rules, sym (length-take-le _ _ (omega arith)))
 
-pub words-within-spec : {M : Type 1} → statement M
-words-within-spec = tie.close (tie.spec returns returns-2)
+pub words_within_spec : {M : Type 1} → statement M
+words_within_spec = tie.close (tie.spec returns returns-2)

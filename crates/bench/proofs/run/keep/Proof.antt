@@ -6,10 +6,10 @@ use borrow.Author.Rules.{rules}
 use Rattle.bench.proofs.run.keep.Statement.{statement}
 use Rattle.bench.proofs.run.keep.Tie as tie
 
-abbrev invariant-loop : tie.invariant-loop
+abbrev invariant-loop : tie.invariant-loop-i
 invariant-loop text₀ from start n i₀ text i = (i ≤ n) × (start + n ≤ length text₀) × (length text ≡ length text₀)
 
-abbrev decreases-loop : tie.decreases-loop
+abbrev decreases-loop : tie.decreases-loop-i
 decreases-loop text₀ from start n i₀ text i = n - i
 
 pub keep_spec : {M : Type 1} → statement M

@@ -4,14 +4,14 @@ use borrow.Author.Rules.{rules}
 use Rattle.bench.proofs.shows.pending.Statement.{statement}
 use Rattle.bench.proofs.shows.pending.Tie as tie
 
-abbrev invariant-loop : tie.invariant-loop
+abbrev invariant-loop : tie.invariant-loop-f
 invariant-loop desk₀ out₀ f₀ desk out f = f ≤ 60
 
-abbrev decreases-loop : tie.decreases-loop
+abbrev decreases-loop : tie.decreases-loop-f
 decreases-loop desk₀ out₀ f₀ desk out f = 60 - f
 
-pub pending-spec : {M : Type 1} → statement M
-pending-spec =
+pub pending_spec : {M : Type 1} → statement M
+pending_spec =
     tie.close
     (tie.spec invariant-loop decreases-loop (λ c κs. search rules) (λ c. search rules) (λ c. search rules) (λ c. search rules)
     (λ c. search rules) (λ c. search rules) (λ c κs. search rules) (λ c. search rules) (λ c. search rules)

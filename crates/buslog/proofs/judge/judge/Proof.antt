@@ -7,16 +7,16 @@ use Rattle.buslog.proofs.AnswerLaws.{judge_told_lem}
 use Rattle.buslog.proofs.judge.judge.Statement.{statement}
 use Rattle.buslog.proofs.judge.judge.Tie as tie
 
-of-line-requires : tie.Need-of-line-requires
-of-line-requires c κs = taken_right _ (sym c.before.before.taken.ensures.0 ∙ c.enum_told.given.1)
+of-line-requires : tie.Need-of_line-requires
+of-line-requires c κs = taken_right _ (sym c.before.taken.ensures.0 ∙ c.in-Accepted.is)
 
-returns : tie.Need-returns
-returns c = judge_told_lem _ _ _ (judge_refused _ _ _ (sym c.before.before.before.taken.ensures.0 ∙ c.before.refusal.given.1))
+returns : tie.Need-returns-in-Refused
+returns c = judge_told_lem _ _ _ (judge_refused _ _ _ (sym c.before.taken.ensures.0 ∙ c.in-Refused.is))
 
-returns-2 : tie.Need-returns-2
-returns-2 c = judge_told_lem _ _ _ (judge_accepted _ _ _ (sym c.before.before.before.taken.ensures.0 ∙ c.before.enum_told.given.1) c.of-line.ensures)
+returns-2 : tie.Need-returns-in-Accepted
+returns-2 c = judge_told_lem _ _ _ (judge_accepted _ _ _ (sym c.before.before.taken.ensures.0 ∙ c.before.in-Accepted.is) c.of_line.ensures)
 
-pub judge-spec : {M : Type 1} → statement M
-judge-spec =
+pub judge_spec : {M : Type 1} → statement M
+judge_spec =
     tie.close
     (tie.spec (λ c κs. search rules) (λ c. search rules) (λ c. search rules) of-line-requires returns returns-2)

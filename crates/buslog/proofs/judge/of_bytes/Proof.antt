@@ -5,24 +5,24 @@ use Rattle.buslog.proofs.Judging.{wrong_parity, by_identifier, read_below}
 use Rattle.buslog.proofs.judge.of_bytes.Statement.{statement}
 use Rattle.buslog.proofs.judge.of_bytes.Tie as tie
 
-of-identifier-requires : tie.Need-of-identifier-requires
+of-identifier-requires : tie.Need-of_identifier-requires
 of-identifier-requires c κs = (
-  c.before.before.before.before.before.before.before.before.requires.0,
+  c.before.before.before.before.before.before.requires.0,
   read_below _
-      c.before.before.id.given.0.0 (sym c.before.before.before.before.read.ensures.0 ∙ c.before.before.id.given.1),
+      c.before.in-Byte.id (sym c.before.before.read.ensures.0 ∙ c.before.in-Byte.is),
 )
 
-returns : tie.Need-returns
-returns c = wrong_parity _ _ c.enum_told.given.0.0 c.before.before.before.before.before.before.requires.1 (sym c.before.before.read.ensures.0 ∙ c.enum_told.given.1)
+returns : tie.Need-returns-in-Refused
+returns c = wrong_parity _ _ c.in-Refused.field-0 c.before.before.before.before.before.requires.1 (sym c.before.read.ensures.0 ∙ c.in-Refused.is)
 
-returns-2 : tie.Need-returns-2
+returns-2 : tie.Need-returns-in-Byte
 returns-2 c =
-    c.of-identifier.ensures
-    ∙ by_identifier _ _ _ _ c.before.before.before.before.before.before.before.before.before.requires.1 refl
-    (sym c.before.before.before.before.before.read.ensures.0 ∙ c.before.before.before.id.given.1)
+    c.of_identifier.ensures
+    ∙ by_identifier _ _ _ _ c.before.before.before.before.before.before.before.requires.1 refl
+    (sym c.before.before.before.read.ensures.0 ∙ c.before.before.in-Byte.is)
 
-pub of-bytes-spec : {M : Type 1} → statement M
-of-bytes-spec =
+pub of_bytes_spec : {M : Type 1} → statement M
+of_bytes_spec =
     tie.close
     (tie.spec (λ c. search rules) (λ c κs. search rules) (λ c. search rules) (λ c. search rules)
     (λ c. search rules) (λ c. search rules) (λ c. search rules) of-identifier-requires returns returns-2)

@@ -7,38 +7,38 @@ use Rattle.cluster.proofs.FrameLaws.{frame_length_low, frame_length_high}
 use Rattle.buslog.proofs.judge.of_identifier.Statement.{statement}
 use Rattle.buslog.proofs.judge.of_identifier.Tie as tie
 
-returns : tie.Need-returns
+returns : tie.Need-returns-then-id-eq60
 returns c =
-    c.of-known.ensures
+    c.of_known.ensures
     ∙ diagnostic _ _ _ (⊎_elim (λ w. rw (eq-eqb _ 60 w)) (λ w. rw (ne_eqb _ 60 w.0, w.1)) c.before.if1.either)
 
-of-known-requires-2 : tie.Need-of-known-requires-2
+of-known-requires-2 : tie.Need-of_known-requires-then-f-count
 of-known-requires-2 c κs =
-    let s = c.before.before.before.before.before.before.before.before.before in
+    let s = c in
     let n = c.before.length.ensures in
-    let t = s.args.t.now in
-    let f = c.before.before.before.before.frame-with.result in
+    let t = s.before.before.before.before.before.before.before.before.before.args.t.now in
+    let f = c.before.before.before.before.frame_with-f.result in
     let k : f < frame_count t = omega (arith, c.before.before.before.count.ensures) in
-    (s.requires.1, omega (arith, frame_length_low t s.requires.0 f k, n), omega (arith, frame_length_high t s.requires.0 f k, n))
+    (s.before.before.before.before.before.before.before.before.before.requires.1, omega (arith, frame_length_low t s.before.before.before.before.before.before.before.before.before.requires.0 f k, n), omega (arith, frame_length_high t s.before.before.before.before.before.before.before.before.before.requires.0 f k, n))
 
-returns-2 : tie.Need-returns-2
+returns-2 : tie.Need-returns-then-f-count
 returns-2 c =
-    c.of-known2.ensures
+    c.of_known-then-f-count.ensures
     ∙ listed _ _ _ (rw (
-      ne_eqb _ 60 c.before.before.before.before.before.before.before.if1.false,
-      c.before.before.before.before.before.before.if2.false,
+      ne_eqb _ 60 c.before.before.before.before.before.before.before.if-id-eq60.false,
+      c.before.before.before.before.before.before.if-id-eq61.false-raw,
     )) _ _ _
-    c.before.before.before.before.before.frame-with.ensures
+    c.before.before.before.before.before.frame_with-f.ensures
     (omega (arith, c.before.before.before.before.count.ensures)) c.before.before.length.ensures c.before.model.ensures
 
-returns-3 : tie.Need-returns-3
+returns-3 : tie.Need-returns
 returns-3 c = unlisted _ _ _ (rw (
-  ne_eqb _ 60 c.before.before.before.before.if1.false,
-  c.before.before.before.if2.false,
-)) _ c.before.before.frame-with.ensures (omega (arith, c.before.count.ensures))
+  ne_eqb _ 60 c.before.before.before.before.if-id-eq60.false,
+  c.before.before.before.if-id-eq61.false-raw,
+)) _ c.before.before.frame_with-f.ensures (omega (arith, c.before.count.ensures))
 
-pub of-identifier-spec : {M : Type 1} → statement M
-of-identifier-spec =
+pub of_identifier_spec : {M : Type 1} → statement M
+of_identifier_spec =
     tie.close
     (tie.spec (λ c κs. search rules) returns (λ c κs. search rules) (λ c κs. search rules) (λ c κs. search rules)
     (λ c κs. search rules) of-known-requires-2 returns-2 returns-3)

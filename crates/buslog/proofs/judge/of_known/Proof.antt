@@ -5,42 +5,42 @@ use Rattle.wire.proofs.AnswerLaws.{summed, not_summed}
 use Rattle.buslog.proofs.judge.of_known.Statement.{statement}
 use Rattle.buslog.proofs.judge.of_known.Tie as tie
 
-returns : tie.Need-returns
-returns c = other_length _ _ c.before.before.args.wish c.before.before.args.rest.now c.if1.true
+returns : tie.Need-returns-then-rest-n
+returns c = other_length _ _ c.before.before.args.wish c.before.before.args.rest.now c.if-rest-n.true
 
-slice-aggregate-of : tie.Need-slice-aggregate-of
-slice-aggregate-of c = sym (length-take-le _ c.before.before.before.args.rest.now (omega arith))
+slice-aggregate-of : tie.Need-slice_bounds-of-end
+slice-aggregate-of c = sym (length-take-le _ c.before.before.args.rest.now (omega arith))
 
-returns-2 : tie.Need-returns-2
+returns-2 : tie.Need-returns-then-rest-n-2
 returns-2 c =
-    let a = c.before.before.before.before.before.before.before.before.before.args in
-    let h : length a.rest.now ≡ a.length + 1 = c.before.before.before.before.before.before.before.if1.false in
-    let l : length (take a.length a.rest.now) ≡ a.length = length-take-le a.length a.rest.now (omega arith) in
-    let e = summed a.id a.wish (take a.length a.rest.now) c.before.before.before.sum.given.0.0
-    (omega arith, omega arith, omega arith) (sym c.before.before.before.before.before.of.ensures.0 ∙
-    c.before.before.before.sum.given.1) in
-    right_sum _ _ a.wish a.rest.now _ h e c.if2.true
-
-returns-3 : tie.Need-returns-3
-returns-3 c =
-    let a = c.before.before.before.before.before.before.before.before.before.args in
-    let h : length a.rest.now ≡ a.length + 1 = c.before.before.before.before.before.before.before.if1.false in
-    let l : length (take a.length a.rest.now) ≡ a.length = length-take-le a.length a.rest.now (omega arith) in
-    let e = summed a.id a.wish (take a.length a.rest.now) c.before.before.before.sum.given.0.0
-    (omega arith, omega arith, omega arith) (sym c.before.before.before.before.before.of.ensures.0 ∙
-    c.before.before.before.sum.given.1) in
-    other_sum _ _ a.wish a.rest.now _ h e c.if2.false
-
-returns-4 : tie.Need-returns-4
-returns-4 c =
     let a = c.before.before.before.before.before.before.args in
-    let h : length a.rest.now ≡ a.length + 1 = c.before.before.before.before.if1.false in
+    let h : length a.rest.now ≡ a.length + 1 = c.before.before.before.before.if-rest-n.false in
     let l : length (take a.length a.rest.now) ≡ a.length = length-take-le a.length a.rest.now (omega arith) in
-    absurd (not_summed a.id a.wish (take a.length a.rest.now) c.enum_told.given.0.0
-    (omega arith, omega arith, omega arith) (sym c.before.before.of.ensures.0 ∙ c.enum_told.given.1))
+    let e = summed a.id a.wish (take a.length a.rest.now) c.before.before.in-Byte.sum
+    (omega arith, omega arith, omega arith) (sym c.before.before.before.of.ensures.0 ∙
+    c.before.before.in-Byte.is) in
+    right_sum _ _ a.wish a.rest.now _ h e c.if-rest-n-2.true
 
-pub of-known-spec : {M : Type 1} → statement M
-of-known-spec =
+returns-3 : tie.Need-returns-else-rest-n-2
+returns-3 c =
+    let a = c.before.before.before.before.before.before.args in
+    let h : length a.rest.now ≡ a.length + 1 = c.before.before.before.before.if-rest-n.false in
+    let l : length (take a.length a.rest.now) ≡ a.length = length-take-le a.length a.rest.now (omega arith) in
+    let e = summed a.id a.wish (take a.length a.rest.now) c.before.before.in-Byte.sum
+    (omega arith, omega arith, omega arith) (sym c.before.before.before.of.ensures.0 ∙
+    c.before.before.in-Byte.is) in
+    other_sum _ _ a.wish a.rest.now _ h e c.if-rest-n-2.false
+
+returns-4 : tie.Need-returns-in-Refused
+returns-4 c =
+    let a = c.before.before.before.before.args in
+    let h : length a.rest.now ≡ a.length + 1 = c.before.before.if-rest-n.false in
+    let l : length (take a.length a.rest.now) ≡ a.length = length-take-le a.length a.rest.now (omega arith) in
+    absurd (not_summed a.id a.wish (take a.length a.rest.now) c.in-Refused.field-0
+    (omega arith, omega arith, omega arith) (sym c.before.of.ensures.0 ∙ c.in-Refused.is))
+
+pub of_known_spec : {M : Type 1} → statement M
+of_known_spec =
     tie.close
     (tie.spec (λ c. search rules) returns slice-aggregate-of (λ c κs. search rules) (λ c. search rules)
     (λ c. search rules) returns-2 (λ c. search rules) returns-3 returns-4)

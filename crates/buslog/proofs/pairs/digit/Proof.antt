@@ -4,20 +4,20 @@ use Rattle.buslog.proofs.Digits.{below_digits, decimal_digit, between_digits, le
 use Rattle.buslog.proofs.pairs.digit.Statement.{statement}
 use Rattle.buslog.proofs.pairs.digit.Tie as tie
 
-returns : tie.Need-returns
-returns c = sym (below_digits _ c.if1.true)
+returns : tie.Need-returns-then-c-lt48
+returns c = sym (below_digits _ c.if-c-lt48.true)
 
-returns-2 : tie.Need-returns-2
-returns-2 c = sym (decimal_digit _ c.before.if1.false c.if2.true)
+returns-2 : tie.Need-returns-then-c-le57
+returns-2 c = sym (decimal_digit _ c.before.if-c-lt48.false c.if-c-le57.true)
 
-returns-3 : tie.Need-returns-3
-returns-3 c = sym (between_digits _ c.before.if2.false c.if3.true)
+returns-3 : tie.Need-returns-then-c-lt65
+returns-3 c = sym (between_digits _ c.before.if-c-le57.false c.if-c-lt65.true)
 
-returns-4 : tie.Need-returns-4
-returns-4 c = sym (letter_digit _ c.before.if3.false c.if4.true)
+returns-4 : tie.Need-returns-then-c-le70
+returns-4 c = sym (letter_digit _ c.before.if-c-lt65.false c.if-c-le70.true)
 
-returns-5 : tie.Need-returns-5
-returns-5 c = sym (above_digits _ c.if4.false)
+returns-5 : tie.Need-returns-else-c-le70
+returns-5 c = sym (above_digits _ c.if-c-le70.false)
 
-pub digit-spec : {M : Type 1} → statement M
-digit-spec = tie.close (tie.spec returns returns-2 returns-3 (λ c. search rules) returns-4 returns-5)
+pub digit_spec : {M : Type 1} → statement M
+digit_spec = tie.close (tie.spec returns returns-2 returns-3 (λ c. search rules) returns-4 returns-5)

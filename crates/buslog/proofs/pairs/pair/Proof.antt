@@ -4,15 +4,15 @@ use Rattle.buslog.proofs.Reading.{no_high, no_low, pair_there}
 use Rattle.buslog.proofs.pairs.pair.Statement.{statement}
 use Rattle.buslog.proofs.pairs.pair.Tie as tie
 
-returns : tie.Need-returns
-returns c = no_high _ _ (omega (arith, c.before.before.before.digit.ensures))
+returns : tie.Need-returns-then-high-gt15
+returns c = no_high _ _ (omega (arith, c.before.before.before.digit-high.ensures))
 
-returns-2 : tie.Need-returns-2
-returns-2 c = no_low _ _ (omega (arith, c.before.before.digit2.ensures))
+returns-2 : tie.Need-returns-then-low-gt15
+returns-2 c = no_low _ _ (omega (arith, c.before.before.digit-low.ensures))
 
-returns-3 : tie.Need-returns-3
-returns-3 c = pair_there _ _ (omega (arith, c.before.before.before.before.digit.ensures))
-    (omega (arith, c.before.before.digit2.ensures)) c.before.before.before.before.digit.ensures c.before.before.digit2.ensures
+returns-3 : tie.Need-returns
+returns-3 c = pair_there _ _ (omega (arith, c.before.before.before.before.digit-high.ensures))
+    (omega (arith, c.before.before.digit-low.ensures)) c.before.before.before.before.digit-high.ensures c.before.before.digit-low.ensures
 
 pub pair_spec : {M : Type 1} → statement M
 pair_spec =

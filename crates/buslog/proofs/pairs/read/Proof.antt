@@ -6,7 +6,7 @@ use Rattle.buslog.proofs.Reading.{reads_text, reads_last, is_text, too_long, no_
 use Rattle.buslog.proofs.pairs.read.Statement.{statement}
 use Rattle.buslog.proofs.pairs.read.Tie as tie
 
-abbrev invariant-loop : tie.invariant-loop
+abbrev invariant-loop : tie.invariant-loop-at
 invariant-loop line bytes₀ count₀ at₀ bytes count at =
     (3 * count ≡ at)
     × (at ≤ length line)
@@ -14,57 +14,57 @@ invariant-loop line bytes₀ count₀ at₀ bytes count at =
     × (are_pairs line ≡ are_pairs (drop at line))
     × (pair_bytes line ≡ take count bytes ++ pair_bytes (drop at line))
 
-abbrev decreases-loop : tie.decreases-loop
+abbrev decreases-loop : tie.decreases-loop-at
 decreases-loop line bytes₀ count₀ at₀ bytes count at = length line - at
 
-returns : tie.Need-returns invariant-loop decreases-loop
-returns c = reads_text _ _ c.text.ensures (too_long _ c.before.if1.true)
+returns : tie.Need-returns-then-line-gt29 invariant-loop decreases-loop
+returns c = reads_text _ _ c.text.ensures (too_long _ c.before.if-line-gt29.true)
 
-loop-holds : tie.Need-loop-init invariant-loop decreases-loop
+loop-holds : tie.Need-loop-at-init invariant-loop decreases-loop
 loop-holds c = (refl, omega arith, refl, refl, refl)
 
-add-loop : tie.Need-overflow-add-loop invariant-loop decreases-loop
+add-loop : tie.Need-overflow_add-at invariant-loop decreases-loop
 add-loop c = omega arith
 
-returns-2 : tie.Need-returns-2 invariant-loop decreases-loop
+returns-2 : tie.Need-returns-then-byte-gt255 invariant-loop decreases-loop
 returns-2 c =
-    let i = c.before.before.before.before.loop.invariant in
-    reads_text _ _ c.text2.ensures
-    (is_text _ (i.3 ∙ no_pair _ _ c.before.before.before.loop-test.true (omega (arith, c.before.before.pair.ensures))))
+    let i = c.before.before.before.before.loop-at.invariant in
+    reads_text _ _ c.text-then-byte-gt255.ensures
+    (is_text _ (i.3 ∙ no_pair _ _ c.before.before.before.loop-at-test.true (omega (arith, c.before.before.pair-byte.ensures))))
 
-returns-3 : tie.Need-returns-3 invariant-loop decreases-loop
+returns-3 : tie.Need-returns-then-at-line invariant-loop decreases-loop
 returns-3 c =
-    let i = c.before.before.before.before.loop.invariant in
-    reads_last _ _ _ (omega arith) _ _ (omega arith) c.before.before.pair.ensures (omega arith) c.if3.true i.3 i.4
+    let i = c.before.before.before.before.loop-at.invariant in
+    reads_last _ _ _ (omega arith) _ _ (omega arith) c.before.before.pair-byte.ensures (omega arith) c.if-at-line.true i.3 i.4
 
-returns-4 : tie.Need-returns-4 invariant-loop decreases-loop
+returns-4 : tie.Need-returns-then-line-at-ne32 invariant-loop decreases-loop
 returns-4 c =
-    let i = c.before.before.before.before.before.before.before.loop.invariant in
+    let i = c.before.before.before.before.before.before.before.loop-at.invariant in
     let line = c.before.before.before.before.before.before.before.before.before.before.args.line.now in
-    let at = c.before.before.before.before.before.before.before.loop.at in
-    reads_text line _ c.text3.ensures
-    (is_text line (i.3 ∙ unspaced line at (omega (arith, c.before.before.before.before.before.pair.ensures)) (omega arith) c.before.if4.true))
+    let at = c.before.before.before.before.before.before.before.loop-at.at in
+    reads_text line _ c.text-then-line-at-ne32.ensures
+    (is_text line (i.3 ∙ unspaced line at (omega (arith, c.before.before.before.before.before.pair-byte.ensures)) (omega arith) c.before.if-line-at-ne32.true))
 
-loop-again : tie.Need-loop-preserved invariant-loop decreases-loop
+loop-again : tie.Need-loop-at-preserved invariant-loop decreases-loop
 loop-again c =
-    let i = c.before.before.before.before.before.before.loop.invariant in
-    let e = c.before.before.before.before.pair.ensures in
+    let i = c.before.before.before.before.before.before.loop-at.invariant in
+    let e = c.before.before.before.before.pair-byte.ensures in
     let line = c.before.before.before.before.before.before.before.before.before.args.line.now in
-    let at = c.before.before.before.before.before.before.loop.at in
+    let at = c.before.before.before.before.before.before.loop-at.at in
     let p : pair_at line at ≤ 255 = omega (arith, e) in (
       omega arith,
       omega arith,
       simp length-set i.2,
-      i.3 ∙ more_pairs line at p (omega arith) c.if4.false,
-      turn c.before.before.before.before.before.before.loop.bytes
-          c.before.before.before.before.before.before.loop.count _ (omega arith) _ _ _ i.4
+      i.3 ∙ more_pairs line at p (omega arith) c.if-line-at-ne32.false,
+      turn c.before.before.before.before.before.before.loop-at.bytes
+          c.before.before.before.before.before.before.loop-at.count _ (omega arith) _ _ _ i.4
           (more_bytes line at p (omega arith) ∙ ap (λ (b : ℕ). b ∷ pair_bytes (drop (at + 3) line)) (sym e)),
     )
 
-returns-5 : tie.Need-returns-5 invariant-loop decreases-loop
+returns-5 : tie.Need-returns invariant-loop decreases-loop
 returns-5 c =
-    reads_text _ _ c.text4.ensures
-    (is_text _ (c.before.before.loop.invariant.3 ∙ no_more c.before.before.before.before.before.args.line.now c.before.before.loop.at (omega arith)))
+    reads_text _ _ c.text-2.ensures
+    (is_text _ (c.before.before.loop-at.invariant.3 ∙ no_more c.before.before.before.before.before.args.line.now c.before.before.loop-at.at (omega arith)))
 
 pub read_spec : {M : Type 1} → statement M
 read_spec =

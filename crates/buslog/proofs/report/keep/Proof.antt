@@ -6,37 +6,37 @@ use Rattle.buslog.proofs.Keeping.{kept_within, kept_length_lem, kept_none, throu
 use Rattle.buslog.proofs.report.keep.Statement.{statement}
 use Rattle.buslog.proofs.report.keep.Tie as tie
 
-returns : tie.Need-returns
-returns c = kept_none _ _ _ c.before.kept-length.ensures c.if1.true
+returns : tie.Need-returns-then-n-eq0
+returns c = kept_none _ _ _ c.before.kept_length-n.ensures c.if-n-eq0.true
 
-slice-aggregate-copy-2 : tie.Need-slice-aggregate-copy-2
+slice-aggregate-copy-2 : tie.Need-slice_bounds-copy-end-3
 slice-aggregate-copy-2 c =
     sym
-    (ap length (through c.before.before.before.before.before.before.before.before.before.args.text.now
-    c.before.before.before.before.before.before.before.before.before.args.from _
-    c.before.before.before.before.before.before.before.kept-length.ensures _ _ _ refl c.before.before.copy.ensures.1)
-    ∙ kept_length_lem _ _ _ c.before.before.before.before.before.before.before.kept-length.ensures)
+    (ap length (through c.before.before.before.before.before.before.before.before.args.text.now
+    c.before.before.before.before.before.before.before.before.args.from _
+    c.before.before.before.before.before.before.kept_length-n.ensures _ _ _ refl c.before.before.copy.ensures.1)
+    ∙ kept_length_lem _ _ _ c.before.before.before.before.before.before.kept_length-n.ensures)
 
 copy-requires-2 : tie.Need-copy-requires-2
 copy-requires-2 c κs =
     omega (
       arith,
-      ap length (through c.before.before.before.before.before.before.before.before.before.before.args.text.now
-          c.before.before.before.before.before.before.before.before.before.before.args.from _
-          c.before.before.before.before.before.before.before.before.kept-length.ensures _ _ _ refl
+      ap length (through c.before.before.before.before.before.before.before.before.before.args.text.now
+          c.before.before.before.before.before.before.before.before.before.args.from _
+          c.before.before.before.before.before.before.before.kept_length-n.ensures _ _ _ refl
           c.before.before.before.copy.ensures.1),
-      kept_length_lem c.before.before.before.before.before.before.before.before.before.before.args.text.now
-          c.before.before.before.before.before.before.before.before.before.before.args.from _
-          c.before.before.before.before.before.before.before.before.kept-length.ensures,
-      kept_within c.before.before.before.before.before.before.before.before.before.before.args.text.now
-          c.before.before.before.before.before.before.before.before.before.before.args.from _
-          c.before.before.before.before.before.before.before.before.kept-length.ensures,
+      kept_length_lem c.before.before.before.before.before.before.before.before.before.args.text.now
+          c.before.before.before.before.before.before.before.before.before.args.from _
+          c.before.before.before.before.before.before.before.kept_length-n.ensures,
+      kept_within c.before.before.before.before.before.before.before.before.before.args.text.now
+          c.before.before.before.before.before.before.before.before.before.args.from _
+          c.before.before.before.before.before.before.before.kept_length-n.ensures,
     )
 
-returns-2 : tie.Need-returns-2
-returns-2 c = rw (← through c.before.before.before.before.before.before.before.before.before.before.before.before.before.args.text.now c.before.before.before.before.before.before.before.before.before.before.before.before.before.args.from _ c.before.before.before.before.before.before.before.before.before.before.before.kept-length.ensures _ _
+returns-2 : tie.Need-returns
+returns-2 c = rw (← through c.before.before.before.before.before.before.before.before.before.before.before.before.args.text.now c.before.before.before.before.before.before.before.before.before.before.before.before.args.from _ c.before.before.before.before.before.before.before.before.before.before.kept_length-n.ensures _ _
     _ refl c.before.before.before.before.before.before.copy.ensures.1)
-    (copied _ _ c.before.before.copy2.ensures.0 c.before.before.copy2.ensures.1)
+    (copied _ _ c.before.before.copy-2.ensures.0 c.before.before.copy-2.ensures.1)
 
 pub keep_spec : {M : Type 1} → statement M
 keep_spec =

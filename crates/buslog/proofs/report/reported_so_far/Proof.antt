@@ -8,5 +8,5 @@ returns : tie.Need-returns
 unfolding so_far
 returns c = refl
 
-pub reported-so-far-spec : {M : Type 1} → statement M
-reported-so-far-spec = tie.close (tie.spec returns)
+pub reported_so_far_spec : {M : Type 1} → statement M
+reported_so_far_spec = tie.close (tie.spec returns)

@@ -8,15 +8,15 @@ use Rattle.buslog.proofs.report.write.Statement.{statement}
 use Rattle.buslog.proofs.report.write.Tie as tie
 
 rows-requires : tie.Need-rows-requires
-rows-requires c κs = taken_right _ (sym c.before.before.before.taken.ensures.0 ∙ c.before.enum_told.given.1)
+rows-requires c κs = taken_right _ (sym c.before.before.taken.ensures.0 ∙ c.before.in-Accepted.is)
 
-returns : tie.Need-returns
-returns c = report_told_lem _ _ _ _ _ _ _ (refuses _ _ _ _ _ (sym c.before.before.before.taken.ensures.0 ∙ c.before.refusal.given.1))
+returns : tie.Need-returns-in-Refused
+returns c = report_told_lem _ _ _ _ _ _ _ (refuses _ _ _ _ _ (sym c.before.taken.ensures.0 ∙ c.in-Refused.is))
 
-returns-2 : tie.Need-returns-2
+returns-2 : tie.Need-returns-in-Accepted
 returns-2 c =
-    let d = c.before.before.before.before in
-    report_told_lem _ _ _ _ _ _ _ (accepts _ _ _ _ (sym d.before.before.taken.ensures.0 ∙ d.enum_told.given.1) c.before.before.rows.ensures)
+    let d = c in
+    report_told_lem _ _ _ _ _ _ _ (accepts _ _ _ _ (sym d.before.before.before.before.before.taken.ensures.0 ∙ d.before.before.before.before.in-Accepted.is) c.before.before.rows.ensures)
 
 pub write_spec : {M : Type 1} → statement M
 write_spec =

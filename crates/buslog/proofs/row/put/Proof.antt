@@ -6,16 +6,16 @@ use Rattle.buslog.proofs.Fronting.{behind, fronts_within}
 use Rattle.buslog.proofs.row.put.Statement.{statement}
 use Rattle.buslog.proofs.row.put.Tie as tie
 
-add-result : tie.Need-overflow-add-result
+add-result : tie.Need-overflow_add-result
 add-result c = omega (
   arith,
-  fronts_within _ c.before.before.put-verdict.ensures c.before.before.put-verdict.auto.0,
-  c.before.before.before.before.before.before.put-decimal.ensures.1,
+  fronts_within _ c.before.before.put_verdict.ensures c.before.before.put_verdict.auto.0,
+  c.before.before.before.before.before.before.put_decimal-digits.ensures.1,
 )
 
 returns : tie.Need-returns
 unfolding row_of verdict_text
-returns c = behind _ _ _ c.before.before.before.before.before.before.put-decimal.ensures.0 c.before.before.put-verdict.ensures refl
+returns c = behind _ _ _ c.before.before.before.before.before.before.put_decimal-digits.ensures.0 c.before.before.put_verdict.ensures refl
 
 pub put_spec : {M : Type 1} → statement M
 put_spec =

@@ -6,26 +6,26 @@ use Rattle.buslog.proofs.Fronting.{copied}
 use Rattle.buslog.proofs.row.put_decimal.Statement.{statement}
 use Rattle.buslog.proofs.row.put_decimal.Tie as tie
 
-abbrev invariant-loop : tie.invariant-loop
+abbrev invariant-loop : tie.invariant-loop-rest
 invariant-loop out number digits₀ at₀ rest₀ digits at rest = (length digits ≡ 20) × (at ≤ 19) × (rest < 10 ^ at) × (decimal_of number ≡ digits_of at rest ++ drop at digits)
 
-abbrev decreases-loop : tie.decreases-loop
+abbrev decreases-loop : tie.decreases-loop-rest
 decreases-loop out number digits₀ at₀ rest₀ digits at rest = rest
 
-loop-holds : tie.Need-loop-init invariant-loop decreases-loop
+loop-holds : tie.Need-loop-rest-init invariant-loop decreases-loop
 loop-holds c = (refl, omega arith, omega arith, decimal c.before.args.number c.before.ranges.number.fits)
 
-sub_at : tie.Need-overflow-sub-at invariant-loop decreases-loop
-sub_at c = fewer c.before.loop.at c.before.loop.rest c.loop-test.true c.before.loop.invariant.2
+sub_at : tie.Need-overflow_sub-at invariant-loop decreases-loop
+sub_at c = fewer c.before.loop-rest.at c.before.loop-rest.rest c.loop-rest-test.true c.before.loop-rest.invariant.2
 
-loop-again : tie.Need-loop-preserved invariant-loop decreases-loop
+loop-again : tie.Need-loop-rest-preserved invariant-loop decreases-loop
 loop-again c =
-    let i = c.before.loop.invariant in
-    let f = fewer c.before.loop.at c.before.loop.rest c.loop-test.true i.2 in (
+    let i = c.before.loop-rest.invariant in
+    let f = fewer c.before.loop-rest.at c.before.loop-rest.rest c.loop-rest-test.true i.2 in (
       simp length-set i.0,
       omega arith,
-      shorter c.before.loop.at c.before.loop.rest c.loop-test.true i.2,
-      i.3 ∙ turn c.before.loop.at c.before.loop.rest c.before.loop.digits c.loop-test.true i.2 (omega arith),
+      shorter c.before.loop-rest.at c.before.loop-rest.rest c.loop-rest-test.true i.2,
+      i.3 ∙ turn c.before.loop-rest.at c.before.loop-rest.rest c.before.loop-rest.digits c.loop-rest-test.true i.2 (omega arith),
     )
 
 copy-requires : tie.Need-copy-requires invariant-loop decreases-loop
@@ -33,28 +33,28 @@ copy-requires c κs = simp (length-take, length-drop) (omega arith)
 
 returns : tie.Need-returns invariant-loop decreases-loop
 returns c =
-    let e = spelled c.before.before.before.before.before.before.before.before.before.args.number
-    c.before.before.before.before.before.before.before.loop.at
-    c.before.before.before.before.before.before.before.loop.rest
-    c.before.before.before.before.before.before.before.loop.digits
-    c.before.before.before.before.before.before.before.loop.invariant.3 (omega arith)
-    c.before.before.before.before.before.before.before.loop.invariant.0 in (
+    let e = spelled c.before.before.before.before.before.before.before.before.args.number
+    c.before.before.before.before.before.before.loop-rest.at
+    c.before.before.before.before.before.before.loop-rest.rest
+    c.before.before.before.before.before.before.loop-rest.digits
+    c.before.before.before.before.before.before.loop-rest.invariant.3 (omega arith)
+    c.before.before.before.before.before.before.loop-rest.invariant.0 in (
       rw (← e) (copied _ _ c.before.before.copy.ensures.0 c.before.before.copy.ensures.1),
       omega (
         arith,
         c.before.before.copy.ensures.0,
         length-take
-            (20 - c.before.before.before.before.before.before.before.loop.at)
-            (drop c.before.before.before.before.before.before.before.loop.at
-            c.before.before.before.before.before.before.before.loop.digits),
+            (20 - c.before.before.before.before.before.before.loop-rest.at)
+            (drop c.before.before.before.before.before.before.loop-rest.at
+            c.before.before.before.before.before.before.loop-rest.digits),
         length-drop
-            c.before.before.before.before.before.before.before.loop.at
-            c.before.before.before.before.before.before.before.loop.digits,
+            c.before.before.before.before.before.before.loop-rest.at
+            c.before.before.before.before.before.before.loop-rest.digits,
       ),
     )
 
-pub put-decimal-spec : {M : Type 1} → statement M
-put-decimal-spec =
+pub put_decimal_spec : {M : Type 1} → statement M
+put_decimal_spec =
     tie.close
     (tie.spec invariant-loop decreases-loop (λ c. search rules) (λ c. search rules) (λ c. search rules) loop-holds sub_at
     (λ c. search rules) (λ c. search rules) (λ c. search rules) (λ c. search rules) loop-again

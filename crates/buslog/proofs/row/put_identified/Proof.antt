@@ -9,18 +9,18 @@ returns : tie.Need-returns
 unfolding pair_of
 returns c =
     let first = copied (32 ∷ c.before.before.before.before.before.before.before.before.before.before.digit.result ∷
-    c.before.before.before.before.before.before.before.before.before.digit2.result ∷ [])
+    c.before.before.before.before.before.before.before.before.before.digit-2.result ∷ [])
     c.before.before.before.before.before.before.before.before.before.before.before.before.before.args.out.now
     refl c.before.before.before.before.before.before.copy.ensures.1 in
-    let second = copied c.before.before.before.before.before.before.before.before.before.before.before.before.before.args.text.now _ c.before.before.copy2.ensures.0 c.before.before.copy2.ensures.1 in
+    let second = copied c.before.before.before.before.before.before.before.before.before.before.before.before.before.args.text.now _ c.before.before.copy-2.ensures.0 c.before.before.copy-2.ensures.1 in
     rw (
       ← c.before.before.before.before.before.before.before.before.before.before.digit.ensures,
       ←
-          c.before.before.before.before.before.before.before.before.before.digit2.ensures,
+          c.before.before.before.before.before.before.before.before.before.digit-2.ensures,
     ) (behind _ _ _ first second refl)
 
-pub put-identified-spec : {M : Type 1} → statement M
-put-identified-spec =
+pub put_identified_spec : {M : Type 1} → statement M
+put_identified_spec =
     tie.close
     (tie.spec (λ c κs. search rules) (λ c κs. search rules) (λ c. search rules) (λ c κs. search rules)
     (λ c. search rules) (λ c. search rules) (λ c. search rules) (λ c κs. search rules) (λ c. search rules)

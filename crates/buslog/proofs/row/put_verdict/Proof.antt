@@ -6,32 +6,32 @@ use Rattle.buslog.proofs.Fronting.{copied}
 use Rattle.buslog.proofs.row.put_verdict.Statement.{statement}
 use Rattle.buslog.proofs.row.put_verdict.Tie as tie
 
-returns : tie.Need-returns
+returns : tie.Need-returns-in-Text
 unfolding verdict_text shown_identifier word
-returns c = rw c.before.before.before.before.before.enum_told.given.1 (copied _ _ c.before.before.copy.ensures.0 c.before.before.copy.ensures.1)
+returns c = rw c.before.before.before.before.before.before.in-Text.is (copied _ _ c.before.before.copy.ensures.0 c.before.before.copy.ensures.1)
 
-returns-2 : tie.Need-returns-2
+returns-2 : tie.Need-returns-in-Parity
 unfolding verdict_text shown_identifier word
-returns-2 c = rw c.before.before.before.before.before.enum-told2.given.1 (copied _ _ c.before.before.copy2.ensures.0 c.before.before.copy2.ensures.1)
+returns-2 c = rw c.before.before.before.before.before.before.in-Parity.is (copied _ _ c.before.before.copy-in-Parity.ensures.0 c.before.before.copy-in-Parity.ensures.1)
 
-returns-3 : tie.Need-returns-3
+returns-3 : tie.Need-returns-in-Unknown
 unfolding verdict_text shown_identifier word
-returns-3 c = rw c.before.before.before.before.before.before.verdict.given.1 c.before.before.put-identified.ensures
+returns-3 c = rw c.before.before.before.before.before.before.in-Unknown.is c.before.before.put_identified.ensures
 
-returns-4 : tie.Need-returns-4
+returns-4 : tie.Need-returns-in-Length
 unfolding verdict_text shown_identifier word
-returns-4 c = rw c.before.before.before.before.before.before.verdict2.given.1 c.before.before.put-identified2.ensures
+returns-4 c = rw c.before.before.before.before.before.before.in-Length.is c.before.before.put_identified-in-Length.ensures
 
-returns-5 : tie.Need-returns-5
+returns-5 : tie.Need-returns-in-Checksum
 unfolding verdict_text shown_identifier word
-returns-5 c = rw c.before.before.before.before.before.before.verdict3.given.1 c.before.before.put-identified3.ensures
+returns-5 c = rw c.before.before.before.before.before.before.in-Checksum.is c.before.before.put_identified-in-Checksum.ensures
 
-returns-6 : tie.Need-returns-6
+returns-6 : tie.Need-returns-in-Ok
 unfolding verdict_text shown_identifier word
-returns-6 c = rw c.before.before.before.before.before.before.verdict4.given.1 c.before.before.put-identified4.ensures
+returns-6 c = rw c.before.before.before.before.before.before.in-Ok.is c.before.before.put_identified-in-Ok.ensures
 
-pub put-verdict-spec : {M : Type 1} → statement M
-put-verdict-spec =
+pub put_verdict_spec : {M : Type 1} → statement M
+put_verdict_spec =
     tie.close
     (tie.spec (λ c. search rules) (λ c. search rules) (λ c κs. search rules) (λ c. search rules)
     (λ c. search rules) (λ c κs. search rules) (λ c. search rules) (λ c. search rules) (λ c κs. search rules)

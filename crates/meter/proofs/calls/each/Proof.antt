@@ -6,10 +6,10 @@ use borrow.Author.Rules.{rules}
 use Rattle.meter.proofs.calls.each.Statement.{statement}
 use Rattle.meter.proofs.calls.each.Tie as tie
 
-abbrev invariant-loop : tie.invariant-loop
+abbrev invariant-loop : tie.invariant-loop-i
 invariant-loop t bytes₀ letters numbers values state₀ digest₀ i₀ bytes state digest i = (i ≤ length letters) × (length bytes ≡ length bytes₀)
 
-abbrev decreases-loop : tie.decreases-loop
+abbrev decreases-loop : tie.decreases-loop-i
 decreases-loop t bytes₀ letters numbers values state₀ digest₀ i₀ bytes state digest i = length letters - i
 
 pub each_spec : {M : Type 1} → statement M

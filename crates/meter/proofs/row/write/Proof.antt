@@ -5,10 +5,10 @@ use borrow.Author.Rules.{rules}
 use Rattle.meter.proofs.row.write.Statement.{statement}
 use Rattle.meter.proofs.row.write.Tie as tie
 
-slice-aggregate-write-row : tie.Need-slice-aggregate-write-row
+slice-aggregate-write-row : tie.Need-slice_bounds-write_row-end
 slice-aggregate-write-row c = sym (length-take-le _ _ (search rules))
 
-slice-aggregate-write-row-2 : tie.Need-slice-aggregate-write-row-2
+slice-aggregate-write-row-2 : tie.Need-slice_bounds-write_row-end-2
 slice-aggregate-write-row-2 c = sym (length-take-le _ _ (search rules))
 
 pub write_spec : {M : Type 1} → statement M

@@ -6,14 +6,14 @@ use borrow.Author.Rules.{rules}
 use Rattle.meter.proofs.row.write_singly.Statement.{statement}
 use Rattle.meter.proofs.row.write_singly.Tie as tie
 
-abbrev invariant-loop : tie.invariant-loop
+abbrev invariant-loop : tie.invariant-loop-i
 invariant-loop t bytes₀ numbers values state₀ code₀ i₀ bytes state code i = (i ≤ 20) × (length bytes ≡ length bytes₀)
 
-abbrev decreases-loop : tie.decreases-loop
+abbrev decreases-loop : tie.decreases-loop-i
 decreases-loop t bytes₀ numbers values state₀ code₀ i₀ bytes state code i = 20 - i
 
-pub write-singly-spec : {M : Type 1} → statement M
-write-singly-spec =
+pub write_singly_spec : {M : Type 1} → statement M
+write_singly_spec =
     tie.close
     (tie.spec invariant-loop decreases-loop (λ c. search rules) (λ c. search rules) (λ c. search rules) (λ c. search rules)
     (λ c. search rules) (λ c κs. search rules) (λ c κs. search rules) (λ c. search rules) (λ c. search rules)

@@ -9,58 +9,58 @@ use Rattle.script.proofs.Reading.{no_decimal, some_decimal, no_digit, too_large,
 use Rattle.script.proofs.fields.decimal.Statement.{statement}
 use Rattle.script.proofs.fields.decimal.Tie as tie
 
-abbrev invariant-loop : tie.invariant-loop
+abbrev invariant-loop : tie.invariant-loop-i
 invariant-loop field limit value₀ i₀ value i =
     (i ≤ length field) × (value ≤ limit) × (decimal_field limit field ≡ digits_from limit value (drop i field))
 
-abbrev decreases-loop : tie.decreases-loop
+abbrev decreases-loop : tie.decreases-loop-i
 decreases-loop field limit value₀ i₀ value i = length field - i
 
-returns : tie.Need-returns invariant-loop decreases-loop
-returns c = no_decimal _ _ c.if1.true
+returns : tie.Need-returns-then-field-eq0 invariant-loop decreases-loop
+returns c = no_decimal _ _ c.if-field-eq0.true
 
-loop-holds : tie.Need-loop-init invariant-loop decreases-loop
-loop-holds c = (omega arith, omega arith, some_decimal _ _ c.if1.false)
+loop-holds : tie.Need-loop-i-init invariant-loop decreases-loop
+loop-holds c = (omega arith, omega arith, some_decimal _ _ c.if-field-eq0.false)
 
-returns-2 : tie.Need-returns-2 invariant-loop decreases-loop
+returns-2 : tie.Need-returns-then-digit-gt9 invariant-loop decreases-loop
 returns-2 c =
-    let c3 = c.before.before.before in
-    let c4 = c3.before in
-    let c7 = c4.before.before.before in
-    sym (c4.loop.invariant.2
-    ∙ no_digit c7.args.limit c7.args.field.now c4.loop.value c4.loop.i c3.loop-test.true
-    (omega (arith, c.before.digit.ensures)))
+    let c3 = c in
+    let c4 = c3 in
+    let c7 = c4 in
+    sym (c4.before.before.before.before.loop-i.invariant.2
+    ∙ no_digit c7.before.before.before.before.before.before.before.args.limit c7.before.before.before.before.before.before.before.args.field.now c4.before.before.before.before.loop-i.value c4.before.before.before.before.loop-i.i c3.before.before.before.loop-i-test.true
+    (omega (arith, c.before.digit-digit.ensures)))
 
-returns-3 : tie.Need-returns-3 invariant-loop decreases-loop
+returns-3 : tie.Need-returns-then-limit-value invariant-loop decreases-loop
 returns-3 c =
-    let c4 = c.before.before.before.before in
-    let c5 = c4.before in
-    let c8 = c5.before.before.before in
-    sym (c5.loop.invariant.2
-    ∙ too_large c8.args.limit c8.args.field.now c5.loop.value c5.loop.i c4.loop-test.true
-    (omega (arith, c.before.before.digit.ensures)))
+    let c4 = c in
+    let c5 = c4 in
+    let c8 = c5 in
+    sym (c5.before.before.before.before.before.loop-i.invariant.2
+    ∙ too_large c8.before.before.before.before.before.before.before.before.args.limit c8.before.before.before.before.before.before.before.before.args.field.now c5.before.before.before.before.before.loop-i.value c5.before.before.before.before.before.loop-i.i c4.before.before.before.before.loop-i-test.true
+    (omega (arith, c.before.before.digit-digit.ensures)))
 
-loop-again : tie.Need-loop-preserved invariant-loop decreases-loop
+loop-again : tie.Need-loop-i-preserved invariant-loop decreases-loop
 loop-again c =
-    let c4 = c.before.before.before.before in
-    let c5 = c4.before in
-    let c8 = c5.before.before.before in
-    let e = c.before.before.digit.ensures in (
+    let c4 = c in
+    let c5 = c4 in
+    let c8 = c5 in
+    let e = c.before.before.digit-digit.ensures in (
       omega arith,
       omega arith,
-      c5.loop.invariant.2
-          ∙ next_digit c8.args.limit c8.args.field.now c5.loop.value c5.loop.i c4.loop-test.true
+      c5.before.before.before.before.before.loop-i.invariant.2
+          ∙ next_digit c8.before.before.before.before.before.before.before.before.args.limit c8.before.before.before.before.before.before.before.before.args.field.now c5.before.before.before.before.before.loop-i.value c5.before.before.before.before.before.loop-i.i c4.before.before.before.before.loop-i-test.true
           (omega (arith, e)) (omega (arith, e))
           ∙ rw (← e),
     )
 
-returns-4 : tie.Need-returns-4 invariant-loop decreases-loop
+returns-4 : tie.Need-returns invariant-loop decreases-loop
 returns-4 c =
-    let c4 = c.before.before.before.before in
-    sym (c.before.loop.invariant.2 ∙ all_digits c4.args.limit c4.args.field.now c.before.loop.value c.before.loop.i c.loop-test.false)
+    let c4 = c in
+    sym (c.before.loop-i.invariant.2 ∙ all_digits c4.before.before.before.before.args.limit c4.before.before.before.before.args.field.now c.before.loop-i.value c.before.loop-i.i c.loop-i-test.false)
 
-pub decimal-spec : {M : Type 1} → statement M
-decimal-spec =
+pub decimal_spec : {M : Type 1} → statement M
+decimal_spec =
     tie.close
     (tie.spec invariant-loop decreases-loop returns loop-holds (λ c. search rules) (λ c κs. search rules) returns-2
     (λ c. search rules) (λ c. search rules) (λ c. search rules) returns-3 (λ c. search rules) (λ c. search rules)

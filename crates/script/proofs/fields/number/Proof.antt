@@ -5,20 +5,20 @@ use Rattle.script.specs.Fields.{number_field}
 use Rattle.script.proofs.fields.number.Statement.{statement}
 use Rattle.script.proofs.fields.number.Tie as tie
 
-returns : tie.Need-returns
+returns : tie.Need-returns-in-Word
 unfolding number_field
-returns c = rw (sym c.before.before.decimal.ensures ∙ c.enum_told.given.1)
+returns c = rw (sym c.before.decimal.ensures ∙ c.in-Word.is)
 
-returns-2 : tie.Need-returns-2
+returns-2 : tie.Need-returns-in-Number
 unfolding number_field
-returns-2 c = rw (sym c.before.before.before.before.decimal.ensures ∙ c.before.before.limit.given.1) c.decimal2.ensures
+returns-2 c = rw (sym c.before.before.decimal.ensures ∙ c.before.in-Number.is) c.decimal-in-Number.ensures
 
-returns-3 : tie.Need-returns-3
+returns-3 : tie.Need-returns-in-Wrong
 unfolding number_field
-returns-3 c = rw (sym c.before.before.decimal.ensures ∙ c.enum-told2.given.1)
+returns-3 c = rw (sym c.before.decimal.ensures ∙ c.in-Wrong.is)
 
-pub number-spec : {M : Type 1} → statement M
-number-spec =
+pub number_spec : {M : Type 1} → statement M
+number_spec =
     tie.close
     (tie.spec (λ c κs. search rules) (λ c. search rules) (λ c. search rules) (λ c κs. search rules)
     (λ c. search rules) returns returns-2 returns-3)

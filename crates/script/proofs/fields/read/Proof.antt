@@ -6,23 +6,23 @@ use Rattle.script.proofs.Reading.{no_form, by_pair, by_word, by_number_lem}
 use Rattle.script.proofs.fields.read.Statement.{statement}
 use Rattle.script.proofs.fields.read.Tie as tie
 
-returns : tie.Need-returns
-returns c = no_form _ _ c.if1.true
+returns : tie.Need-returns-then-form-eq0
+returns c = no_form _ _ c.if-form-eq0.true
 
-returns-2 : tie.Need-returns-2
-returns-2 c = c.pair.ensures ∙ by_pair _ _ c.before.before.before.if1.false c.before.if2.true
+returns-2 : tie.Need-returns-then-form-eq72
+returns-2 c = c.pair.ensures ∙ by_pair _ _ c.before.before.before.if-form-eq0.false c.before.if-form-eq72.true
 
-returns-3 : tie.Need-returns-3
+returns-3 : tie.Need-returns-then-digit-gt9
 returns-3 c =
-    let c4 = c.before.before.before.before in
-    let c6 = c4.before.before in
-    c.word.ensures ∙ by_word _ _ c6.if1.false c4.if2.false (omega (arith, c.before.before.digit.ensures))
+    let c4 = c in
+    let c6 = c4 in
+    c.word.ensures ∙ by_word _ _ c6.before.before.before.before.before.before.if-form-eq0.false c4.before.before.before.before.if-form-eq72.false (omega (arith, c.before.before.digit.ensures))
 
-returns-4 : tie.Need-returns-4
+returns-4 : tie.Need-returns
 returns-4 c =
-    let c4 = c.before.before.before.before in
-    let c6 = c4.before.before in
-    c.number.ensures ∙ by_number_lem _ _ c6.if1.false c4.if2.false (omega (arith, c.before.before.digit.ensures))
+    let c4 = c in
+    let c6 = c4 in
+    c.number.ensures ∙ by_number_lem _ _ c6.before.before.before.before.before.before.if-form-eq0.false c4.before.before.before.before.if-form-eq72.false (omega (arith, c.before.before.digit.ensures))
 
 pub read_spec : {M : Type 1} → statement M
 read_spec =

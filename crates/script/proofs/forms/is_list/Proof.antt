@@ -5,13 +5,13 @@ use Rattle.script.specs.Forms.{is_list}
 use Rattle.script.proofs.forms.is_list.Statement.{statement}
 use Rattle.script.proofs.forms.is_list.Tie as tie
 
-returns : tie.Need-returns
+returns : tie.Need-returns-then-form-eq0
 unfolding is_list
-returns c = simp (eq-eqb _ _ c.if1.true)
+returns c = simp (eq-eqb _ _ c.if-form-eq0.true)
 
-returns-2 : tie.Need-returns-2
+returns-2 : tie.Need-returns
 unfolding is_list
-returns-2 c = simp (ne_eqb _ _ c.before.if1.false)
+returns-2 c = simp (ne_eqb _ _ c.before.if-form-eq0.false)
 
-pub is-list-spec : {M : Type 1} → statement M
-is-list-spec = tie.close (tie.spec returns (λ c. search rules) returns-2)
+pub is_list_spec : {M : Type 1} → statement M
+is_list_spec = tie.close (tie.spec returns (λ c. search rules) returns-2)

@@ -11,48 +11,48 @@ use Rattle.script.proofs.Forming.{forms_begin, no_form_left, this_form, other_fo
 use Rattle.script.proofs.forms.read.Statement.{statement}
 use Rattle.script.proofs.forms.read.Tie as tie
 
-abbrev invariant-loop : tie.invariant-loop
+abbrev invariant-loop : tie.invariant-loop-at
 invariant-loop line forms k₀ at₀ k at = (k ≤ at) × (at ≤ length forms + 1) × (line_of forms line ≡ line_in (fields_from 124 forms at) line k)
 
-abbrev decreases-loop : tie.decreases-loop
+abbrev decreases-loop : tie.decreases-loop-at
 decreases-loop line forms k₀ at₀ k at = length forms + 1 - at
 
-loop-holds : tie.Need-loop-init invariant-loop decreases-loop
+loop-holds : tie.Need-loop-at-init invariant-loop decreases-loop
 loop-holds c = (omega arith, omega arith, forms_begin _ _)
 
-returns : tie.Need-returns invariant-loop decreases-loop
+returns : tie.Need-returns-then-read invariant-loop decreases-loop
 returns c =
-    let c4 = c.before.before.before.before in
-    let c5 = c4.before in
-    let c6 = c5.before in
-    let c9 = c6.before.before.before in
-    let e = c.before.before.read_as.ensures in
-    c.with-form.ensures
-    ∙ ap (formed c6.loop.k) e
-    ∙ sym (c6.loop.invariant.2
-    ∙ this_form c9.args.forms.now c9.args.line.now c6.loop.at c4.find.result c6.loop.k c5.loop-test.true
-    c4.find.ensures.0 c4.find.ensures.1 (ap (λ (r : Reading). r.fits) (sym e) ∙ c.before.if1.true))
+    let c4 = c in
+    let c5 = c4 in
+    let c6 = c5 in
+    let c9 = c6 in
+    let e = c.before.before.read_as-read.ensures in
+    c.with_form.ensures
+    ∙ ap (formed c6.before.before.before.before.before.before.loop-at.k) e
+    ∙ sym (c6.before.before.before.before.before.before.loop-at.invariant.2
+    ∙ this_form c9.before.before.before.before.before.before.before.before.before.args.forms.now c9.before.before.before.before.before.before.before.before.before.args.line.now c6.before.before.before.before.before.before.loop-at.at c4.before.before.before.before.find-end.result c6.before.before.before.before.before.before.loop-at.k c5.before.before.before.before.before.loop-at-test.true
+    c4.before.before.before.before.find-end.ensures.0 c4.before.before.before.before.find-end.ensures.1 (ap (λ (r : Reading). r.fits) (sym e) ∙ c.before.if-read.true))
 
-loop-again : tie.Need-loop-preserved invariant-loop decreases-loop
+loop-again : tie.Need-loop-at-preserved invariant-loop decreases-loop
 loop-again c =
-    let c3 = c.before.before.before in
-    let c4 = c3.before in
-    let c5 = c4.before in
-    let c8 = c5.before.before.before in (
-      omega (arith, c3.find.ensures.0),
-      omega (arith, c3.find.ensures.1),
-      c5.loop.invariant.2
-          ∙ other_form c8.args.forms.now c8.args.line.now c5.loop.at c3.find.result c5.loop.k c4.loop-test.true
-          c3.find.ensures.0 c3.find.ensures.1 (ap (λ (r : Reading). r.fits) (sym c.before.read_as.ensures) ∙ c.if1.false),
+    let c3 = c in
+    let c4 = c3 in
+    let c5 = c4 in
+    let c8 = c5 in (
+      omega (arith, c3.before.before.before.find-end.ensures.0),
+      omega (arith, c3.before.before.before.find-end.ensures.1),
+      c5.before.before.before.before.before.loop-at.invariant.2
+          ∙ other_form c8.before.before.before.before.before.before.before.before.args.forms.now c8.before.before.before.before.before.before.before.before.args.line.now c5.before.before.before.before.before.loop-at.at c3.before.before.before.find-end.result c5.before.before.before.before.before.loop-at.k c4.before.before.before.before.loop-at-test.true
+          c3.before.before.before.find-end.ensures.0 c3.before.before.before.find-end.ensures.1 (ap (λ (r : Reading). r.fits) (sym c.before.read_as-read.ensures) ∙ c.if-read.false),
     )
 
-returns-2 : tie.Need-returns-2 invariant-loop decreases-loop
+returns-2 : tie.Need-returns invariant-loop decreases-loop
 returns-2 c =
-    let c3 = c.before.before.before in
-    let c6 = c3.before.before.before in
-    c.with-form2.ensures
-    ∙ ap (formed c3.loop.k) c.before.unfit.ensures
-    ∙ sym (c3.loop.invariant.2 ∙ no_form_left c6.args.forms.now c6.args.line.now c3.loop.at c3.loop.k c.before.before.loop-test.false)
+    let c3 = c in
+    let c6 = c3 in
+    c.with_form-2.ensures
+    ∙ ap (formed c3.before.before.before.loop-at.k) c.before.unfit.ensures
+    ∙ sym (c3.before.before.before.loop-at.invariant.2 ∙ no_form_left c6.before.before.before.before.before.before.args.forms.now c6.before.before.before.before.before.before.args.line.now c3.before.before.before.loop-at.at c3.before.before.before.loop-at.k c.before.before.loop-at-test.false)
 
 pub read_spec : {M : Type 1} → statement M
 read_spec =

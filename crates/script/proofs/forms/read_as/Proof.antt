@@ -11,99 +11,99 @@ use Rattle.script.proofs.Forming.{begins, form_ends, line_left, list_at, line_en
 use Rattle.script.proofs.forms.read_as.Statement.{statement}
 use Rattle.script.proofs.forms.read_as.Tie as tie
 
-abbrev invariant-loop : tie.invariant-loop
+abbrev invariant-loop : tie.invariant-loop-at
 invariant-loop line form numbers₀ place₀ at₀ numbers place at =
     (at ≤ length form + 1)
     × (place ≤ length line + 1)
     × (read_of form line ≡ read_as (fields_from 32 form at) (fields_from 32 line place) place numbers)
 
-abbrev decreases-loop : tie.decreases-loop
+abbrev decreases-loop : tie.decreases-loop-at
 decreases-loop line form numbers₀ place₀ at₀ numbers place at = length form + 1 - at
 
-loop-holds : tie.Need-loop-init invariant-loop decreases-loop
-loop-holds c = (omega arith, omega arith, begins _ _ ∙ rw (← c.none.ensures))
+loop-holds : tie.Need-loop-at-init invariant-loop decreases-loop
+loop-holds c = (omega arith, omega arith, begins _ _ ∙ rw (← c.none-numbers.ensures))
 
-returns : tie.Need-returns invariant-loop decreases-loop
+returns : tie.Need-returns-then-is_list invariant-loop decreases-loop
 returns c =
-    let c4 = c.before.before.before.before in
-    let c5 = c4.before in
-    let c6 = c5.before in
-    let c10 = c6.before.before.before.before in
+    let c4 = c in
+    let c5 = c4 in
+    let c6 = c5 in
+    let c10 = c6 in
     c.fitting.ensures
-    ∙ sym (c6.loop.invariant.2
-    ∙ list_at c10.args.form.now c10.args.line.now c6.loop.at c6.loop.place c6.loop.numbers c4.find.result
-    c5.loop-test.true c4.find.ensures.0 c4.find.ensures.1 (sym c.before.before.is-list.ensures ∙ c.before.if1.true))
+    ∙ sym (c6.before.before.before.before.before.before.loop-at.invariant.2
+    ∙ list_at c10.before.before.before.before.before.before.before.before.before.before.args.form.now c10.before.before.before.before.before.before.before.before.before.before.args.line.now c6.before.before.before.before.before.before.loop-at.at c6.before.before.before.before.before.before.loop-at.place c6.before.before.before.before.before.before.loop-at.numbers c4.before.before.before.before.find-end.result
+    c5.before.before.before.before.before.loop-at-test.true c4.before.before.before.before.find-end.ensures.0 c4.before.before.before.before.find-end.ensures.1 (sym c.before.before.is_list.ensures ∙ c.before.if-is_list.true))
 
-returns-2 : tie.Need-returns-2 invariant-loop decreases-loop
+returns-2 : tie.Need-returns-then-line-place invariant-loop decreases-loop
 returns-2 c =
-    let c3 = c.before.before.before in
-    let c5 = c3.before.before in
-    let c6 = c5.before in
-    let c7 = c6.before in
-    let c11 = c7.before.before.before.before in
+    let c3 = c in
+    let c5 = c3 in
+    let c6 = c5 in
+    let c7 = c6 in
+    let c11 = c7 in
     c.unfit.ensures
-    ∙ sym (c7.loop.invariant.2
-    ∙ line_ends c11.args.form.now c11.args.line.now c7.loop.at c7.loop.place c7.loop.numbers c5.find.result
-    c6.loop-test.true c5.find.ensures.0 c5.find.ensures.1 (sym c3.is-list.ensures ∙ c.before.before.if1.false)
-    c.before.if2.true)
+    ∙ sym (c7.before.before.before.before.before.before.before.loop-at.invariant.2
+    ∙ line_ends c11.before.before.before.before.before.before.before.before.before.before.before.args.form.now c11.before.before.before.before.before.before.before.before.before.before.before.args.line.now c7.before.before.before.before.before.before.before.loop-at.at c7.before.before.before.before.before.before.before.loop-at.place c7.before.before.before.before.before.before.before.loop-at.numbers c5.before.before.before.before.before.find-end.result
+    c6.before.before.before.before.before.before.loop-at-test.true c5.before.before.before.before.before.find-end.ensures.0 c5.before.before.before.before.before.find-end.ensures.1 (sym c3.before.before.before.is_list.ensures ∙ c.before.before.if-is_list.false)
+    c.before.if-line-place.true)
 
-returns-3 : tie.Need-returns-3 invariant-loop decreases-loop
+returns-3 : tie.Need-returns-then-not-is_right invariant-loop decreases-loop
 returns-3 c =
-    let c3 = c.before.before.before in
-    let c6 = c3.before.before.before in
-    let c7 = c6.before in
-    let c8 = c7.before in
-    let c9 = c8.before in
-    let c11 = c9.before.before in
-    let c12 = c11.before in
-    let c13 = c12.before in
-    let c17 = c13.before.before.before.before in
-    c.unfit2.ensures
-    ∙ sym (c13.loop.invariant.2
-    ∙ wrong_at c17.args.form.now c17.args.line.now c13.loop.at c13.loop.place c13.loop.numbers c11.find.result
-    c12.loop-test.true c11.find.ensures.0 c11.find.ensures.1 (sym c9.is-list.ensures ∙ c8.if1.false)
-    c6.find2.result c7.if2.false c6.find2.ensures.0 c6.find2.ensures.1
-    (ap is_right (sym c3.read.ensures) ∙ sym c.before.before.is_right.ensures ∙ not-true _ c.before.if3.true))
+    let c3 = c in
+    let c6 = c3 in
+    let c7 = c6 in
+    let c8 = c7 in
+    let c9 = c8 in
+    let c11 = c9 in
+    let c12 = c11 in
+    let c13 = c12 in
+    let c17 = c13 in
+    c.unfit-then-not-is_right.ensures
+    ∙ sym (c13.before.before.before.before.before.before.before.before.before.before.before.before.before.loop-at.invariant.2
+    ∙ wrong_at c17.before.before.before.before.before.before.before.before.before.before.before.before.before.before.before.before.before.args.form.now c17.before.before.before.before.before.before.before.before.before.before.before.before.before.before.before.before.before.args.line.now c13.before.before.before.before.before.before.before.before.before.before.before.before.before.loop-at.at c13.before.before.before.before.before.before.before.before.before.before.before.before.before.loop-at.place c13.before.before.before.before.before.before.before.before.before.before.before.before.before.loop-at.numbers c11.before.before.before.before.before.before.before.before.before.before.before.find-end.result
+    c12.before.before.before.before.before.before.before.before.before.before.before.before.loop-at-test.true c11.before.before.before.before.before.before.before.before.before.before.before.find-end.ensures.0 c11.before.before.before.before.before.before.before.before.before.before.before.find-end.ensures.1 (sym c9.before.before.before.before.before.before.before.before.before.is_list.ensures ∙ c8.before.before.before.before.before.before.before.before.if-is_list.false)
+    c6.before.before.before.before.before.before.find-stop.result c7.before.before.before.before.before.before.before.if-line-place.false c6.before.before.before.before.before.before.find-stop.ensures.0 c6.before.before.before.before.before.before.find-stop.ensures.1
+    (ap is_right (sym c3.before.before.before.read-field.ensures) ∙ sym c.before.before.is_right.ensures ∙ not-true _ c.before.if-not-is_right.true-raw))
 
-loop-again : tie.Need-loop-preserved invariant-loop decreases-loop
+loop-again : tie.Need-loop-at-preserved invariant-loop decreases-loop
 loop-again c =
-    let c3 = c.before.before.before in
-    let c6 = c3.before.before.before in
-    let c7 = c6.before in
-    let c8 = c7.before in
-    let c9 = c8.before in
-    let c11 = c9.before.before in
-    let c12 = c11.before in
-    let c13 = c12.before in
-    let c17 = c13.before.before.before.before in (
-      omega (arith, c11.find.ensures.1),
-      omega (arith, c6.find2.ensures.1),
-      c13.loop.invariant.2
-          ∙ right_at c17.args.form.now c17.args.line.now c13.loop.at c13.loop.place c13.loop.numbers c11.find.result
-          c12.loop-test.true c11.find.ensures.0 c11.find.ensures.1 (sym c9.is-list.ensures ∙ c8.if1.false)
-          c6.find2.result c7.if2.false c6.find2.ensures.0 c6.find2.ensures.1
-          (ap is_right (sym c3.read.ensures) ∙ sym c.before.before.is_right.ensures ∙ not-false _ c.before.if3.false)
-          ∙ rw (← c3.read.ensures, ← c.with.ensures),
+    let c3 = c in
+    let c6 = c3 in
+    let c7 = c6 in
+    let c8 = c7 in
+    let c9 = c8 in
+    let c11 = c9 in
+    let c12 = c11 in
+    let c13 = c12 in
+    let c17 = c13 in (
+      omega (arith, c11.before.before.before.before.before.before.before.before.before.before.before.find-end.ensures.1),
+      omega (arith, c6.before.before.before.before.before.before.find-stop.ensures.1),
+      c13.before.before.before.before.before.before.before.before.before.before.before.before.before.loop-at.invariant.2
+          ∙ right_at c17.before.before.before.before.before.before.before.before.before.before.before.before.before.before.before.before.before.args.form.now c17.before.before.before.before.before.before.before.before.before.before.before.before.before.before.before.before.before.args.line.now c13.before.before.before.before.before.before.before.before.before.before.before.before.before.loop-at.at c13.before.before.before.before.before.before.before.before.before.before.before.before.before.loop-at.place c13.before.before.before.before.before.before.before.before.before.before.before.before.before.loop-at.numbers c11.before.before.before.before.before.before.before.before.before.before.before.find-end.result
+          c12.before.before.before.before.before.before.before.before.before.before.before.before.loop-at-test.true c11.before.before.before.before.before.before.before.before.before.before.before.find-end.ensures.0 c11.before.before.before.before.before.before.before.before.before.before.before.find-end.ensures.1 (sym c9.before.before.before.before.before.before.before.before.before.is_list.ensures ∙ c8.before.before.before.before.before.before.before.before.if-is_list.false)
+          c6.before.before.before.before.before.before.find-stop.result c7.before.before.before.before.before.before.before.if-line-place.false c6.before.before.before.before.before.before.find-stop.ensures.0 c6.before.before.before.before.before.before.find-stop.ensures.1
+          (ap is_right (sym c3.before.before.before.read-field.ensures) ∙ sym c.before.before.is_right.ensures ∙ not-false _ c.before.if-not-is_right.false-raw)
+          ∙ rw (← c3.before.before.before.read-field.ensures, ← c.with-numbers.ensures),
     )
 
-returns-4 : tie.Need-returns-4 invariant-loop decreases-loop
+returns-4 : tie.Need-returns-then-place-line invariant-loop decreases-loop
 returns-4 c =
-    let c3 = c.before.before.before in
-    let c7 = c3.before.before.before.before in
-    c.unfit3.ensures
-    ∙ sym (c3.loop.invariant.2
-    ∙ line_left c7.args.form.now c7.args.line.now c3.loop.at c3.loop.place c3.loop.numbers c.before.before.loop-test.false c.before.if4.true)
+    let c3 = c in
+    let c7 = c3 in
+    c.unfit-then-place-line.ensures
+    ∙ sym (c3.before.before.before.loop-at.invariant.2
+    ∙ line_left c7.before.before.before.before.before.before.before.args.form.now c7.before.before.before.before.before.before.before.args.line.now c3.before.before.before.loop-at.at c3.before.before.before.loop-at.place c3.before.before.before.loop-at.numbers c.before.before.loop-at-test.false c.before.if-place-line.true)
 
-returns-5 : tie.Need-returns-5 invariant-loop decreases-loop
+returns-5 : tie.Need-returns invariant-loop decreases-loop
 returns-5 c =
-    let c3 = c.before.before.before in
-    let c7 = c3.before.before.before.before in
-    c.fitting2.ensures
-    ∙ sym (c3.loop.invariant.2
-    ∙ form_ends c7.args.form.now c7.args.line.now c3.loop.at c3.loop.place c3.loop.numbers c.before.before.loop-test.false c.before.if4.false)
+    let c3 = c in
+    let c7 = c3 in
+    c.fitting-2.ensures
+    ∙ sym (c3.before.before.before.loop-at.invariant.2
+    ∙ form_ends c7.before.before.before.before.before.before.before.args.form.now c7.before.before.before.before.before.before.before.args.line.now c3.before.before.before.loop-at.at c3.before.before.before.loop-at.place c3.before.before.before.loop-at.numbers c.before.before.loop-at-test.false c.before.if-place-line.false)
 
-pub read-as-spec : {M : Type 1} → statement M
-read-as-spec =
+pub read_as_spec : {M : Type 1} → statement M
+read_as_spec =
     tie.close
     (tie.spec invariant-loop decreases-loop (λ c κs. search rules) loop-holds (λ c κs. search rules) (λ c. search rules)
     (λ c. search rules) (λ c. search rules) (λ c κs. search rules) (λ c κs. search rules) returns

@@ -12,7 +12,7 @@ use Rattle.script.proofs.Patterns.{patterns_begin, no_pattern, this_pattern, oth
 use Rattle.script.proofs.print.by_number.Statement.{statement}
 use Rattle.script.proofs.print.by_number.Tie as tie
 
-abbrev invariant-loop : tie.invariant-loop
+abbrev invariant-loop : tie.invariant-loop-start
 invariant-loop out₀ at patterns k numbers from passed₀ start₀ out passed start =
     (out ≡ out₀)
     × (passed ≤ k)
@@ -20,52 +20,52 @@ invariant-loop out₀ at patterns k numbers from passed₀ start₀ out passed s
     × (get_or (fields_of 124 patterns) k [] ≡ get_or (fields_from 124 patterns start) (k - passed) [])
     × (length out ≡ length out₀)
 
-abbrev decreases-loop : tie.decreases-loop
+abbrev decreases-loop : tie.decreases-loop-start
 decreases-loop out₀ at patterns k numbers from passed₀ start₀ out passed start = length patterns + 1 - start
 
-loop-holds : tie.Need-loop-init invariant-loop decreases-loop
+loop-holds : tie.Need-loop-start-init invariant-loop decreases-loop
 loop-holds c = (refl, omega arith, omega arith, patterns_begin _ _, refl)
 
-returns : tie.Need-returns invariant-loop decreases-loop
+returns : tie.Need-returns-then-passed-k invariant-loop decreases-loop
 returns c =
-    let c5 = c.before.before.before.before.before in
-    let c6 = c5.before in
-    let c7 = c6.before in
-    let c8 = c7.before in
-    let c12 = c8.before.before.before.before in
+    let c5 = c in
+    let c6 = c5 in
+    let c7 = c6 in
+    let c8 = c7 in
+    let c12 = c8 in
     rw (
-      ← c8.loop.invariant.0,
-      c8.loop.invariant.3
-          ∙ this_pattern c12.args.patterns.now c12.args.k c8.loop.start c6.find.result c8.loop.passed
-          c7.loop-test.true c6.find.ensures.0 c6.find.ensures.1 c5.if1.true,
-    ) c.before.before.by-pattern.ensures
+      ← c8.before.before.before.before.before.before.before.before.loop-start.invariant.0,
+      c8.before.before.before.before.before.before.before.before.loop-start.invariant.3
+          ∙ this_pattern c12.before.before.before.before.before.before.before.before.before.before.before.before.args.patterns.now c12.before.before.before.before.before.before.before.before.before.before.before.before.args.k c8.before.before.before.before.before.before.before.before.loop-start.start c6.before.before.before.before.before.before.find-end.result c8.before.before.before.before.before.before.before.before.loop-start.passed
+          c7.before.before.before.before.before.before.before.loop-start-test.true c6.before.before.before.before.before.before.find-end.ensures.0 c6.before.before.before.before.before.before.find-end.ensures.1 c5.before.before.before.before.before.if-passed-k.true,
+    ) c.before.before.by_pattern.ensures
 
-loop-again : tie.Need-loop-preserved invariant-loop decreases-loop
+loop-again : tie.Need-loop-start-preserved invariant-loop decreases-loop
 loop-again c =
-    let c3 = c.before.before.before in
-    let c7 = c3.before.before.before.before in
-    let i = c3.loop.invariant in
-    let q = c.if1.false in (
+    let c3 = c in
+    let c7 = c3 in
+    let i = c3.before.before.before.loop-start.invariant in
+    let q = c.if-passed-k.false in (
       i.0,
       omega arith,
-      omega (arith, c.before.find.ensures.1),
+      omega (arith, c.before.find-end.ensures.1),
       i.3
-          ∙ other_pattern c7.args.patterns.now c7.args.k c3.loop.start c.before.find.result c3.loop.passed
-          c.before.before.loop-test.true c.before.find.ensures.0 c.before.find.ensures.1 (omega arith),
+          ∙ other_pattern c7.before.before.before.before.before.before.before.args.patterns.now c7.before.before.before.before.before.before.before.args.k c3.before.before.before.loop-start.start c.before.find-end.result c3.before.before.before.loop-start.passed
+          c.before.before.loop-start-test.true c.before.find-end.ensures.0 c.before.find-end.ensures.1 (omega arith),
       i.4,
     )
 
-returns-2 : tie.Need-returns-2 invariant-loop decreases-loop
+returns-2 : tie.Need-returns invariant-loop decreases-loop
 unfolding text_by
 returns-2 c =
-    let c5 = c.before.before.before.before.before in
+    let c5 = c in
     rw (
-      c.before.loop.invariant.0,
-      c.before.loop.invariant.3 ∙ no_pattern c5.args.patterns.now c5.args.k c.before.loop.start c.before.loop.passed c.loop-test.false,
+      c.before.loop-start.invariant.0,
+      c.before.loop-start.invariant.3 ∙ no_pattern c5.before.before.before.before.before.args.patterns.now c5.before.before.before.before.before.args.k c.before.loop-start.start c.before.loop-start.passed c.loop-start-test.false,
     ) (puts_nothing _ _)
 
-pub by-number-spec : {M : Type 1} → statement M
-by-number-spec =
+pub by_number_spec : {M : Type 1} → statement M
+by_number_spec =
     tie.close
     (tie.spec invariant-loop decreases-loop loop-holds (λ c κs. search rules) (λ c. search rules) (λ c. search rules)
     (λ c. search rules) (λ c κs. search rules) (λ c. search rules) returns (λ c. search rules) (λ c. search rules)

@@ -11,45 +11,45 @@ use Rattle.script.proofs.Patterns.{pattern_next, pattern_over}
 use Rattle.script.proofs.print.by_pattern.Statement.{statement}
 use Rattle.script.proofs.print.by_pattern.Tie as tie
 
-abbrev invariant-loop : tie.invariant-loop
+abbrev invariant-loop : tie.invariant-loop-i
 invariant-loop out₀ at pattern numbers from end₀ place₀ i₀ out end place i =
     (i ≤ length pattern)
     × (length out ≡ length out₀)
     × ((r : ℕ) (after : List ℕ) → Puts (text_by (drop i pattern) (drop place numbers)) out end r after
     → Puts (text_by pattern (drop from numbers)) out₀ at r after)
 
-abbrev decreases-loop : tie.decreases-loop
+abbrev decreases-loop : tie.decreases-loop-i
 decreases-loop out₀ at pattern numbers from end₀ place₀ i₀ out end place i = length pattern - i
 
-loop-holds : tie.Need-loop-init invariant-loop decreases-loop
+loop-holds : tie.Need-loop-i-init invariant-loop decreases-loop
 loop-holds c = (omega arith, omega arith, λ r after p. p)
 
-loop-again : tie.Need-loop-preserved invariant-loop decreases-loop
+loop-again : tie.Need-loop-i-preserved invariant-loop decreases-loop
 loop-again c =
-    let c3 = c.before.before.before in
-    let c4 = c3.before in
-    let c7 = c4.before.before.before in
-    let c8 = c7.before in
-    let c12 = c8.before.before.before.before in (
+    let c3 = c in
+    let c4 = c3 in
+    let c7 = c4 in
+    let c8 = c7 in
+    let c12 = c8 in (
       omega arith,
-      omega (arith, c3.shown.auto.0),
+      omega (arith, c3.before.before.before.shown-end.auto.0),
       λ r after p.
-          c8.loop.invariant.2 r after
+          c8.before.before.before.before.before.before.before.before.loop-i.invariant.2 r after
           (rw (
-            pattern_next c12.args.pattern.now (drop c8.loop.place c12.args.numbers.now) c8.loop.i c7.loop-test.true,
-            ← c4.number.ensures,
-            ← c.next.ensures,
-          ) (puts_then _ _ _ _ c3.shown.ensures p)),
+            pattern_next c12.before.before.before.before.before.before.before.before.before.before.before.before.args.pattern.now (drop c8.before.before.before.before.before.before.before.before.loop-i.place c12.before.before.before.before.before.before.before.before.before.before.before.before.args.numbers.now) c8.before.before.before.before.before.before.before.before.loop-i.i c7.before.before.before.before.before.before.before.loop-i-test.true,
+            ← c4.before.before.before.before.number.ensures,
+            ← c.next-place.ensures,
+          ) (puts_then _ _ _ _ c3.before.before.before.shown-end.ensures p)),
     )
 
 returns : tie.Need-returns invariant-loop decreases-loop
 returns c =
-    let c5 = c.before.before.before.before.before in
-    c.before.loop.invariant.2 _ _
-    (rw (pattern_over c5.args.pattern.now (drop c.before.loop.place c5.args.numbers.now) c.before.loop.i c.loop-test.false) (puts_nothing _ _))
+    let c5 = c in
+    c.before.loop-i.invariant.2 _ _
+    (rw (pattern_over c5.before.before.before.before.before.args.pattern.now (drop c.before.loop-i.place c5.before.before.before.before.before.args.numbers.now) c.before.loop-i.i c.loop-i-test.false) (puts_nothing _ _))
 
-pub by-pattern-spec : {M : Type 1} → statement M
-by-pattern-spec =
+pub by_pattern_spec : {M : Type 1} → statement M
+by_pattern_spec =
     tie.close
     (tie.spec invariant-loop decreases-loop loop-holds (λ c. search rules) (λ c κs. search rules) (λ c κs. search rules)
     (λ c κs. search rules) (λ c. search rules) (λ c. search rules) loop-again (λ c. search rules) returns)

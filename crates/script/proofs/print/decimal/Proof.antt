@@ -10,38 +10,38 @@ use Rattle.buslog.proofs.Decimal.{decimal, fewer, shorter, turn, spelled}
 use Rattle.script.proofs.print.decimal.Statement.{statement}
 use Rattle.script.proofs.print.decimal.Tie as tie
 
-abbrev invariant-loop : tie.invariant-loop
+abbrev invariant-loop : tie.invariant-loop-rest
 invariant-loop out at number digits₀ first₀ rest₀ digits first rest =
     (length digits ≡ 20) × (first ≤ 19) × (rest < 10 ^ first) × (decimal_of number ≡ digits_of first rest ++ drop first digits)
 
-abbrev decreases-loop : tie.decreases-loop
+abbrev decreases-loop : tie.decreases-loop-rest
 decreases-loop out at number digits₀ first₀ rest₀ digits first rest = rest
 
-loop-holds : tie.Need-loop-init invariant-loop decreases-loop
+loop-holds : tie.Need-loop-rest-init invariant-loop decreases-loop
 loop-holds c = (refl, omega arith, omega arith, decimal c.before.args.number (omega arith))
 
-sub-first : tie.Need-overflow-sub-first invariant-loop decreases-loop
-sub-first c = fewer c.before.loop.first c.before.loop.rest c.loop-test.true c.before.loop.invariant.2
+sub-first : tie.Need-overflow_sub-first invariant-loop decreases-loop
+sub-first c = fewer c.before.loop-rest.first c.before.loop-rest.rest c.loop-rest-test.true c.before.loop-rest.invariant.2
 
-loop-again : tie.Need-loop-preserved invariant-loop decreases-loop
+loop-again : tie.Need-loop-rest-preserved invariant-loop decreases-loop
 loop-again c =
-    let i = c.before.loop.invariant in
-    let f = fewer c.before.loop.first c.before.loop.rest c.loop-test.true i.2 in (
+    let i = c.before.loop-rest.invariant in
+    let f = fewer c.before.loop-rest.first c.before.loop-rest.rest c.loop-rest-test.true i.2 in (
       simp length-set i.0,
       omega arith,
-      shorter c.before.loop.first c.before.loop.rest c.loop-test.true i.2,
-      i.3 ∙ turn c.before.loop.first c.before.loop.rest c.before.loop.digits c.loop-test.true i.2 (omega arith),
+      shorter c.before.loop-rest.first c.before.loop-rest.rest c.loop-rest-test.true i.2,
+      i.3 ∙ turn c.before.loop-rest.first c.before.loop-rest.rest c.before.loop-rest.digits c.loop-rest-test.true i.2 (omega arith),
     )
 
 returns : tie.Need-returns invariant-loop decreases-loop
 returns c =
-    let c7 = c.before.before.before.before.before.before.before in
-    let c9 = c7.before.before in
-    rw (← spelled c9.args.number c7.loop.first c7.loop.rest c7.loop.digits c7.loop.invariant.3 (omega arith) c7.loop.invariant.0)
+    let c7 = c in
+    let c9 = c7 in
+    rw (← spelled c9.before.before.before.before.before.before.before.before.args.number c7.before.before.before.before.before.before.loop-rest.first c7.before.before.before.before.before.before.loop-rest.rest c7.before.before.before.before.before.before.loop-rest.digits c7.before.before.before.before.before.before.loop-rest.invariant.3 (omega arith) c7.before.before.before.before.before.before.loop-rest.invariant.0)
     c.before.before.text.ensures
 
-pub decimal-spec : {M : Type 1} → statement M
-decimal-spec =
+pub decimal_spec : {M : Type 1} → statement M
+decimal_spec =
     tie.close
     (tie.spec invariant-loop decreases-loop (λ c. search rules) (λ c. search rules) (λ c. search rules) loop-holds sub-first
     (λ c. search rules) (λ c. search rules) (λ c. search rules) (λ c. search rules) loop-again

@@ -5,13 +5,13 @@ use Rattle.buslog.specs.Pairs.{digit_character}
 use Rattle.script.proofs.print.digit.Statement.{statement}
 use Rattle.script.proofs.print.digit.Tie as tie
 
-returns : tie.Need-returns
+returns : tie.Need-returns-then-d-lt10
 unfolding digit_character
-returns c = simp (lt-ltb _ _ c.if1.true)
+returns c = simp (lt-ltb _ _ c.if-d-lt10.true)
 
-returns-2 : tie.Need-returns-2
+returns-2 : tie.Need-returns-else-d-lt10
 unfolding digit_character
-returns-2 c = simp (le-ltb _ _ c.if1.false)
+returns-2 c = simp (le-ltb _ _ c.if-d-lt10.false)
 
-pub digit-spec : {M : Type 1} → statement M
-digit-spec = tie.close (tie.spec (λ c. search rules) (λ c. search rules) (λ c. search rules) returns returns-2)
+pub digit_spec : {M : Type 1} → statement M
+digit_spec = tie.close (tie.spec (λ c. search rules) (λ c. search rules) (λ c. search rules) returns returns-2)

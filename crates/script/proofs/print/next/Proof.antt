@@ -8,21 +8,21 @@ use Rattle.script.specs.Print.{left_behind}
 use Rattle.script.proofs.print.next.Statement.{statement}
 use Rattle.script.proofs.print.next.Tie as tie
 
-returns : tie.Need-returns
+returns : tie.Need-returns-then-not-stands_for
 unfolding left_behind
-returns c = rw (sym c.before.stands-for.ensures ∙ not-true _ c.if1.true)
+returns c = rw (sym c.before.stands_for.ensures ∙ not-true _ c.if-not-stands_for.true-raw)
 
-returns-2 : tie.Need-returns-2
+returns-2 : tie.Need-returns-then-place-numbers
 unfolding left_behind
 returns-2 c =
-    let c4 = c.before.before.before.before in
-    rw (sym c.before.before.stands-for.ensures ∙ not-false _ c.before.if1.false) (sym (drop-drop 1 c4.args.place c4.args.numbers.now))
+    let c4 = c in
+    rw (sym c.before.before.stands_for.ensures ∙ not-false _ c.before.if-not-stands_for.false-raw) (sym (drop-drop 1 c4.before.before.before.before.args.place c4.before.before.before.before.args.numbers.now))
 
-returns-3 : tie.Need-returns-3
+returns-3 : tie.Need-returns-else-place-numbers
 unfolding left_behind
 returns-3 c =
-    rw (sym c.before.before.stands-for.ensures ∙ not-false _ c.before.if1.false)
-    (rw (drop_of_length-le c.before.before.before.before.args.numbers.now {i = c.before.before.before.before.args.place} c.if2.false))
+    rw (sym c.before.before.stands_for.ensures ∙ not-false _ c.before.if-not-stands_for.false-raw)
+    (rw (drop_of_length-le c.before.before.before.before.args.numbers.now {i = c.before.before.before.before.args.place} c.if-place-numbers.false))
 
-pub next-spec : {M : Type 1} → statement M
-next-spec = tie.close (tie.spec (λ c κs. search rules) returns (λ c. search rules) returns-2 returns-3)
+pub next_spec : {M : Type 1} → statement M
+next_spec = tie.close (tie.spec (λ c κs. search rules) returns (λ c. search rules) returns-2 returns-3)

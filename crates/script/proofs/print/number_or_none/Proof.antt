@@ -5,16 +5,16 @@ use Rattle.script.specs.Print.{number_or_none}
 use Rattle.script.proofs.print.number_or_none.Statement.{statement}
 use Rattle.script.proofs.print.number_or_none.Tie as tie
 
-returns : tie.Need-returns
+returns : tie.Need-returns-then-n-eq-NONE
 unfolding number_or_none
-returns c = rw (eq-eqb _ _ c.before.before.before.before.before.if1.true) c.before.before.text.ensures
+returns c = rw (eq-eqb _ _ c.before.before.before.before.before.before.if-n-eq-NONE.true) c.before.before.text.ensures
 
-returns-2 : tie.Need-returns-2
+returns-2 : tie.Need-returns
 unfolding number_or_none
-returns-2 c = rw (ne_eqb _ _ c.before.before.before.before.if1.false) c.before.before.decimal.ensures
+returns-2 c = rw (ne_eqb _ _ c.before.before.before.before.if-n-eq-NONE.false) c.before.before.decimal.ensures
 
-pub number-or-none-spec : {M : Type 1} → statement M
-number-or-none-spec =
+pub number_or_none_spec : {M : Type 1} → statement M
+number_or_none_spec =
     tie.close
     (tie.spec (λ c. search rules) (λ c κs. search rules) (λ c. search rules) returns (λ c κs. search rules)
     (λ c. search rules) returns-2)

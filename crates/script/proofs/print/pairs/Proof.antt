@@ -11,35 +11,35 @@ use Rattle.script.proofs.Patterns.{pairs_next, pairs_over}
 use Rattle.script.proofs.print.pairs.Statement.{statement}
 use Rattle.script.proofs.print.pairs.Tie as tie
 
-abbrev invariant-loop : tie.invariant-loop
+abbrev invariant-loop : tie.invariant-loop-i
 invariant-loop out₀ at bytes end₀ i₀ out end i =
     (i ≤ length bytes)
     × (length out ≡ length out₀)
     × ((r : ℕ) (after : List ℕ) → Puts (spaced_pairs (drop i bytes)) out end r after → Puts (spaced_pairs bytes) out₀ at r after)
 
-abbrev decreases-loop : tie.decreases-loop
+abbrev decreases-loop : tie.decreases-loop-i
 decreases-loop out₀ at bytes end₀ i₀ out end i = length bytes - i
 
-loop-holds : tie.Need-loop-init invariant-loop decreases-loop
+loop-holds : tie.Need-loop-i-init invariant-loop decreases-loop
 loop-holds c = (omega arith, omega arith, λ r after p. p)
 
-loop-again : tie.Need-loop-preserved invariant-loop decreases-loop
+loop-again : tie.Need-loop-i-preserved invariant-loop decreases-loop
 loop-again c =
-    let c5 = c.before.before.before.before.before in
-    let c6 = c5.before in
-    let c9 = c6.before.before.before in (
+    let c5 = c in
+    let c6 = c5 in
+    let c9 = c6 in (
       omega arith,
-      omega (arith, c.before.before.spaced.auto.0),
+      omega (arith, c.before.before.spaced-end.auto.0),
       λ r after p.
-          c6.loop.invariant.2 r after
-          (rw (pairs_next c9.args.bytes.now c6.loop.i c5.loop-test.true) (puts_then _ _ _ _ c.before.before.spaced.ensures p)),
+          c6.before.before.before.before.before.before.loop-i.invariant.2 r after
+          (rw (pairs_next c9.before.before.before.before.before.before.before.before.before.args.bytes.now c6.before.before.before.before.before.before.loop-i.i c5.before.before.before.before.before.loop-i-test.true) (puts_then _ _ _ _ c.before.before.spaced-end.ensures p)),
     )
 
 returns : tie.Need-returns invariant-loop decreases-loop
-returns c = c.before.loop.invariant.2 _ _ (rw (pairs_over c.before.before.before.before.args.bytes.now c.before.loop.i c.loop-test.false) (puts_nothing _ _))
+returns c = c.before.loop-i.invariant.2 _ _ (rw (pairs_over c.before.before.before.before.args.bytes.now c.before.loop-i.i c.loop-i-test.false) (puts_nothing _ _))
 
-pub pairs-spec : {M : Type 1} → statement M
-pairs-spec =
+pub pairs_spec : {M : Type 1} → statement M
+pairs_spec =
     tie.close
     (tie.spec invariant-loop decreases-loop loop-holds (λ c. search rules) (λ c κs. search rules) (λ c. search rules)
     (λ c. search rules) loop-again (λ c. search rules) returns)

@@ -6,10 +6,10 @@ use Rattle.script.proofs.print.spaced.Tie as tie
 
 returns : tie.Need-returns
 unfolding pair_of
-returns c = rw (← c.before.before.before.before.before.before.digit.ensures, ← c.before.before.before.before.before.digit2.ensures) c.before.before.text.ensures
+returns c = rw (← c.before.before.before.before.before.before.digit.ensures, ← c.before.before.before.before.before.digit-2.ensures) c.before.before.text.ensures
 
-pub spaced-spec : {M : Type 1} → statement M
-spaced-spec =
+pub spaced_spec : {M : Type 1} → statement M
+spaced_spec =
     tie.close
     (tie.spec (λ c κs. search rules) (λ c κs. search rules) (λ c. search rules) (λ c κs. search rules)
     (λ c. search rules) returns)

@@ -5,13 +5,13 @@ use Rattle.script.specs.Rows.{is_colon}
 use Rattle.script.proofs.rows.is_colon.Statement.{statement}
 use Rattle.script.proofs.rows.is_colon.Tie as tie
 
-returns : tie.Need-returns
+returns : tie.Need-returns-then-field-ne1
 unfolding is_colon
-returns c = simp (ne_eqb _ _ c.if1.true)
+returns c = simp (ne_eqb _ _ c.if-field-ne1.true)
 
-returns-2 : tie.Need-returns-2
+returns-2 : tie.Need-returns
 unfolding is_colon
-returns-2 c = simp (eq-eqb _ _ c.before.if1.false)
+returns-2 c = simp (eq-eqb _ _ c.before.if-field-ne1.false)
 
-pub is-colon-spec : {M : Type 1} → statement M
-is-colon-spec = tie.close (tie.spec returns (λ c. search rules) returns-2)
+pub is_colon_spec : {M : Type 1} → statement M
+is_colon_spec = tie.close (tie.spec returns (λ c. search rules) returns-2)

@@ -5,13 +5,13 @@ use Rattle.script.specs.Forms.{with_number}
 use Rattle.script.proofs.forms.Numbers.with_number.Statement.{statement}
 use Rattle.script.proofs.forms.Numbers.with_number.Tie as tie
 
-returns : tie.Need-returns
+returns : tie.Need-returns-then-at-ge-MOST
 unfolding with_number
-returns c = simp (le-leb _ _ c.if1.true)
+returns c = simp (le-leb _ _ c.if-at-ge-MOST.true)
 
-returns-2 : tie.Need-returns-2
+returns-2 : tie.Need-returns
 unfolding with_number
-returns-2 c = simp (lt-leb _ _ c.before.if1.false)
+returns-2 c = simp (lt-leb _ _ c.before.if-at-ge-MOST.false)
 
-pub with-number-spec : {M : Type 1} → statement M
-with-number-spec = tie.close (tie.spec returns (λ c. search rules) (λ c. search rules) (λ c. search rules) returns-2)
+pub with_number_spec : {M : Type 1} → statement M
+with_number_spec = tie.close (tie.spec returns (λ c. search rules) (λ c. search rules) (λ c. search rules) returns-2)
