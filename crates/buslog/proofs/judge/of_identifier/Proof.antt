@@ -10,7 +10,7 @@ use Rattle.buslog.proofs.judge.of_identifier.Tie as tie
 returns : tie.Need-returns-then-id-eq60
 returns c =
     c.of_known.ensures
-    ∙ diagnostic _ _ _ (⊎_elim (λ w. rw (eq-eqb _ 60 w)) (λ w. rw (ne_eqb _ 60 w.0, w.1)) c.before.if1.either)
+    ∙ diagnostic _ _ _ (⊎_elim (λ w. rw (eq-eqb _ 60 w)) (λ w. rw (ne_eqb _ 60 w.0, w.1)) c.before.then-id-eq60.either)
 
 of-known-requires-2 : tie.Need-of_known-requires-then-f-count
 of-known-requires-2 c κs =

@@ -33,7 +33,7 @@ add-put : tie.Need-overflow_add-put invariant-loop decreases-loop
 add-put c = omega (
   arith,
   behind_within _ c.before.before.before.before.before.before.before.before.before.before.loop-out.out c.before.before.before.before.before.before.before.before.before.before.loop-out.put (omega arith)
-      c.before.before.put-put.ensures c.before.before.put-put.auto.0,
+      c.before.before.put-put.ensures c.before.before.put-put.auto.out,
 )
 
 loop-again : tie.Need-loop-out-preserved invariant-loop decreases-loop
@@ -43,7 +43,7 @@ loop-again c =
     (omega (arith, c.before.before.before.before.before.before.before.before.find-end.ensures.1))
     (omega (arith, c.before.before.before.before.before.before.before.before.before.before.loop-out.invariant.size)) _ _ _ _ _
     c.before.before.before.before.before.of_line-verdict.ensures c.before.before.before.before.wrapping_add_u64-line.ensures
-    c.before.before.put-put.ensures c.before.before.put-put.auto.0 refl
+    c.before.before.put-put.ensures c.before.before.put-put.auto.out refl
 
 same-length-2 : tie.Need-shape_of-out invariant-loop decreases-loop
 same-length-2 c = c.before.before.loop-out.invariant.size

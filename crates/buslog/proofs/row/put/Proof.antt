@@ -9,7 +9,7 @@ use Rattle.buslog.proofs.row.put.Tie as tie
 add-result : tie.Need-overflow_add-result
 add-result c = omega (
   arith,
-  fronts_within _ c.before.before.put_verdict.ensures c.before.before.put_verdict.auto.0,
+  fronts_within _ c.before.before.put_verdict.ensures c.before.before.put_verdict.auto.out,
   c.before.before.before.before.before.before.put_decimal-digits.ensures.1,
 )
 
