@@ -32,7 +32,7 @@ loop-again c =
     let c8 = c7 in
     let c12 = c8 in (
       omega arith,
-      omega (arith, c3.before.before.before.shown-end.auto.0),
+      omega (arith, c3.before.before.before.shown-end.auto.out),
       λ r after p.
           c8.before.before.before.before.before.before.before.before.loop-i.invariant.2 r after
           (rw (

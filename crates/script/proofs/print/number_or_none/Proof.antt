@@ -16,5 +16,5 @@ returns-2 c = rw (ne_eqb _ _ c.before.before.before.before.if-n-eq-NONE.false) c
 pub number_or_none_spec : {M : Type 1} → statement M
 number_or_none_spec =
     tie.close
-    (tie.spec (λ c. search rules) (λ c κs. search rules) (λ c. search rules) returns (λ c κs. search rules)
+    (tie.spec (λ c κs. search rules) (λ c. search rules) returns (λ c κs. search rules)
     (λ c. search rules) returns-2)

@@ -29,7 +29,7 @@ loop-again c =
     let c6 = c5 in
     let c9 = c6 in (
       omega arith,
-      omega (arith, c.before.before.spaced-end.auto.0),
+      omega (arith, c.before.before.spaced-end.auto.out),
       λ r after p.
           c6.before.before.before.before.before.before.loop-i.invariant.2 r after
           (rw (pairs_next c9.before.before.before.before.before.before.before.before.before.args.bytes.now c6.before.before.before.before.before.before.loop-i.i c5.before.before.before.before.before.loop-i-test.true) (puts_then _ _ _ _ c.before.before.spaced-end.ensures p)),
