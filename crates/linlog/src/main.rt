@@ -29,7 +29,12 @@ fn main(rt: HostRuntime) {
     let mut text = [0u8; 16384];
     // The rows of so much text always fit: 33 characters for each of its characters.
     let mut out = [0u8; 540672];
-    run(rt, &mut text, &mut out);
+    report(rt, &mut text, &mut out);
+}
+
+// Reports the log in parts, over buffers of the sizes that the turns ask for.
+fn report(rt: HostRuntime, text: &mut [u8; 16384], out: &mut [u8; 540672]) {
+    run(rt, text, out);
 }
 
 // Says how the program is used, on standard error, where no row stands.

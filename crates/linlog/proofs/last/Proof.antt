@@ -11,7 +11,7 @@ whole-lines-requires : tie.Need-whole_lines-requires
 whole-lines-requires c κs = (simp length-set (omega arith), simp length-set c.before.before.before.before.before.requires.1)
 
 same_length : tie.Need-shape_of-text
-same_length c = c.before.before.before.before.before.whole_lines.auto.1.0 ∙ simp length-set
+same_length c = c.before.before.before.before.before.whole_lines.auto.text ∙ simp length-set
 
 returns-2 : tie.Need-returns
 returns-2 c =

@@ -36,6 +36,6 @@ returns-3 c =
 pub part_spec : {M : Type 1} → statement M
 part_spec =
     tie.close
-    (tie.spec (λ c. search rules) (λ c κs. search rules) (λ c κs. search rules) returns (λ c. search rules) (λ c. search rules)
-    (λ c. search rules) (λ c κs. search rules) (λ c κs. search rules) (λ c. search rules) (λ c. search rules)
-    returns-2 (λ c. search rules) whole-lines-requires (λ c. search rules) (λ c. search rules) returns-3)
+    (tie.spec (λ c κs. search rules) returns (λ c. search rules) (λ c. search rules) (λ c. search rules) (λ c κs. search rules)
+    (λ c κs. search rules) (λ c. search rules) (λ c. search rules) returns-2 (λ c. search rules) whole-lines-requires
+    (λ c. search rules) (λ c. search rules) returns-3)

@@ -7,12 +7,12 @@ use Rattle.linlog.proofs.run.Statement.{statement}
 use Rattle.linlog.proofs.run.Tie as tie
 
 abbrev invariant-loop : tie.invariant-loop-turns
-invariant-loop text₀ out₀ log₀ turns₀ text out log turns =
+invariant-loop rt text₀ out₀ log₀ turns₀ text out log turns =
     (length text ≡ length text₀) × (length out ≡ length out₀) × (log.kept ≤ kept_length) × (turns ≤ 18446744073709551615)
     × Ran text₀ out₀ (18446744073709551615 - turns) log text out
 
 abbrev decreases-loop : tie.decreases-loop-turns
-decreases-loop text₀ out₀ log₀ turns₀ text out log turns = turns
+decreases-loop rt text₀ out₀ log₀ turns₀ text out log turns = turns
 
 loop-holds : tie.Need-loop-turns-init invariant-loop decreases-loop
 unfolding started
@@ -37,8 +37,8 @@ loop-again c =
     let turn = c.before.before.before.before.turn-log in
     let left = test.before.before.before.before.before.before.before.before.before.loop-turns.turns in
     let more : 18446744073709551615 - (left - 1) ≡ suc (18446744073709551615 - left) = omega (arith, now.3, test.before.before.before.before.before.before.before.before.loop-turns-test.true) in (
-      turn.auto.1.0 ∙ now.0,
-      turn.auto.1.1.0 ∙ now.1,
+      turn.auto.text ∙ now.0,
+      turn.auto.out ∙ now.1,
       few_kept _ _ _ _ _ _ turn.ensures,
       omega (arith, now.3),
       rw more (turned now.4 c.before.before.before.before.before.before.before.if-log.true turn.ensures),

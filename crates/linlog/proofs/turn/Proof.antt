@@ -11,9 +11,9 @@ part-requires c κs =
     let read = c.before.before.before.before.read-got in
     let kept = start.before.before.before.before.before.before.before.before.before.before.args.log.kept in
     let text = start.before.before.before.before.before.before.before.before.before.before.args.text.now in
-    let same = same_len_mid kept (length text - kept) text read.new.1.0 read.auto.1.0 in (
+    let same = same_len_mid kept (length text - kept) text read.new.bytes read.auto.bytes in (
       omega (arith, same, start.before.before.before.before.before.before.before.before.before.before.requires.0),
-      moved_back read.result _ _ (record { sfits = read.type-inv }) read.ensures (simp (length-take, length-drop) (omega (arith, same, start.before.before.before.before.before.before.before.before.before.before.requires.0))),
+      moved_back read.result _ _ (record { sfits = read.type_inv }) read.ensures.0 (simp (length-take, length-drop) (omega (arith, same, start.before.before.before.before.before.before.before.before.before.before.requires.0))),
       omega (arith, same, start.before.before.before.before.before.before.before.before.before.before.requires.1),
     )
 
@@ -24,14 +24,14 @@ returns c =
     let within : start.before.before.before.before.before.before.before.before.before.before.before.before.before.before.before.args.log.kept ≤ length start.before.before.before.before.before.before.before.before.before.before.before.before.before.before.before.args.text.now = omega (arith, start.before.before.before.before.before.before.before.before.before.before.before.before.before.before.before.requires.0) in
     record {
       got = to_z w64 (of_z w64 read.result);
-      moved = moved_back read.result _ (length start.before.before.before.before.before.before.before.before.before.before.before.before.before.before.before.args.text.now - start.before.before.before.before.before.before.before.before.before.before.before.before.before.before.before.args.log.kept) (record { sfits = read.type-inv }) read.ensures (simp (length-take, length-drop) (omega arith));
+      moved = moved_back read.result _ (length start.before.before.before.before.before.before.before.before.before.before.before.before.before.before.before.args.text.now - start.before.before.before.before.before.before.before.before.before.before.before.before.before.before.before.args.log.kept) (record { sfits = read.type_inv }) read.ensures.0 (simp (length-take, length-drop) (omega arith));
       now = _;
       same =
           take_put
           start.before.before.before.before.before.before.before.before.before.before.before.before.before.before.before.args.log.kept
           (length start.before.before.before.before.before.before.before.before.before.before.before.before.before.before.before.args.text.now - start.before.before.before.before.before.before.before.before.before.before.before.before.before.before.before.args.log.kept)
           start.before.before.before.before.before.before.before.before.before.before.before.before.before.before.before.args.text.now
-          read.new.1.0
+          read.new.bytes
           within;
       goes = c.before.before.before.before.part.ensures;
     }
