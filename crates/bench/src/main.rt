@@ -1,4 +1,6 @@
 // A bench master: runs a script of calls from standard input, one a line, and prints the answer to each.
+#![tactic(auto)]
+
 mod answer;
 mod buffers;
 mod bus;

@@ -1,5 +1,5 @@
 -- A line is read exactly where it spells bytes: what is spelled is read back, and what is read was spelled so.
-use Rattle.std.proofs.Common.{◌≡◌, ℕ, zero, suc, ◌+◌, ◌*◌, ◌/◌, ◌%◌, ◌<◌, ◌≤◌, true, false, ◌&&◌, eqb, ltb, leb, ◌↔◌, List, [], ◌∷◌, ◌++◌, length, sym, refl, ap, ◌∙◌, true≢false, arith, ltb-true, lt-ltb, eqb-true, le-leb, leb-true}
+use Rattle.std.proofs.Common.{◌≡◌, ℕ, zero, suc, ◌+◌, ◌*◌, ◌/◌, ◌%◌, ◌<◌, ◌≤◌, true, ◌&&◌, eqb, ltb, leb, ◌↔◌, List, [], ◌∷◌, ◌++◌, length, sym, refl, ap, ◌∙◌, true≢false, arith, ltb-true, lt-ltb, eqb-true, le-leb, leb-true}
 use Rattle.wire.specs.Bits.{Bytes}
 use Rattle.wire.proofs.Tests.{and_left, and_right, whether}
 use Rattle.buslog.specs.Pairs.{digit_of, is_pair, pair_byte, are_pairs, pair_bytes, longest_line, line_bytes, digit_character, pair_of, spelled}

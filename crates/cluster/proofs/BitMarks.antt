@@ -1,7 +1,7 @@
 -- Marks of bits: what the numbers say of the placements before, and what one more does to them.
 use Prim.Native.Nat.{ℕ, suc, ◌+◌, ◌-◌, ◌*◌, ◌≤◌, ◌<◌}
 use mathlib.Core.Path.{◌≡◌, refl, sym, ◌∙◌}
-use mathlib.Core.Bool.{Bool, true, false, ◌&&◌, ◌||◌, or_comm}
+use mathlib.Core.Bool.{Bool, false, ◌&&◌, ◌||◌, or_comm}
 use mathlib.Core.List.{List}
 use native.Mathlib.Decide.{ℕ_discrete}
 use native.Mathlib.Numerals.{add-one}

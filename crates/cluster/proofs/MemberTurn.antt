@@ -7,7 +7,7 @@ use native.Mathlib.Nat.{sub-zero}
 use native.Mathlib.Omega.{arith}
 use lib.ListN.{length, get_or, set, replicate}
 use Rattle.cluster.specs.Check.{fault, faults, member_faults}
-use Rattle.cluster.specs.Columns.{follows, member_columns}
+use Rattle.cluster.specs.Columns.{member_columns}
 use Rattle.cluster.specs.Read.{MemberRead, due, leading, member_seen}
 use Rattle.cluster.specs.Right.{member_right, records}
 use Rattle.cluster.specs.Table.{most_frames, most_members, counted, published, frame_count, member_count, member_words, member_at, word, member_list, member_frame}

@@ -2,7 +2,7 @@
 -- a signal stands in a frame twice, and whether its frames have two publishers.
 use Prim.Native.Nat.{ℕ, zero, suc, ◌+◌, ◌≤◌, ◌<◌}
 use mathlib.Core.Path.{◌≡◌, refl, sym, ◌∙◌}
-use mathlib.Core.Bool.{Bool, true, false, not, cond, ◌&&◌, beq, and-false}
+use mathlib.Core.Bool.{Bool, false, not, cond, ◌&&◌, beq, and-false}
 use mathlib.Core.List.{List}
 use native.Mathlib.Decide.{ℕ_discrete}
 use native.Mathlib.Numerals.{add-one}

@@ -20,7 +20,6 @@ use Rattle.cluster.specs.Right.{frame_bits, again, mixed, sticks_out, overlaps, 
 use Rattle.cluster.specs.Table.{most_frames, counted, frame_count, frame_length, signal_count, signal_width, is_array}
 use Rattle.cluster.specs.Table.{placement_count, placement_words, placement_at, placement_signal, placement_frame, placement_offset, placement_width}
 use Rattle.cluster.specs.declared.Verdict.TheVariants.{Accepted}
-use Rattle.cluster.specs.declared.placements.Before.{Before}
 use Rattle.cluster.specs.declared.placements.Words.{Words}
 use Rattle.cluster.proofs.BitMarks.{BitMarks, none_marked, bits_marked, overlap_is}
 use Rattle.cluster.proofs.Clauses.{signal_says, frame_says, offset_says}

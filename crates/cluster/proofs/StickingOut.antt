@@ -1,13 +1,12 @@
 -- Fit, bit by bit: a placement that begins inside its frame has a bit behind the frame's exactly where it ends behind them.
 use Prim.Native.Nat.{ℕ, ◌+◌, ◌-◌, ◌*◌, ◌≤◌, ◌<◌}
 use mathlib.Core.Path.{◌≡◌, sym, ◌∙◌}
-use mathlib.Core.Bool.{Bool, true, false, ◌&&◌}
+use mathlib.Core.Bool.{Bool, false, ◌&&◌}
 use mathlib.Core.List.{List}
 use native.Mathlib.Omega.{arith}
 use borrow.Author.Tests.{ltb-true, ltb-false, le-leb, leb-true}
 use lib.Dec.{ltb, leb}
 use Rattle.wire.proofs.Tests.{whether, and_left, and_right}
-use Rattle.signal.specs.Signal.{inside}
 use Rattle.signal.proofs.Inside.{inside_true}
 use Rattle.cluster.specs.Places.{place_of, covers}
 use Rattle.cluster.specs.Right.{frame_bits, sticks_out}

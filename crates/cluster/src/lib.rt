@@ -1,5 +1,7 @@
 // The cluster table of documents 01 and 02, a lent slice of 16-bit words: the check, the fields by name, and the bytes a fresh call
 // leaves. Every call accepts every slice and every number. The crates above use these names and never the layout.
+#![tactic(auto)]
+
 use refusal::Refusal;
 
 pub mod entries;

@@ -1,5 +1,7 @@
 // The desk of the bench master: the master's state, the reassembler's, how much of each buffer is in use, and the line at hand, as numbers
 // by name. A call takes the state from here and puts the next one back.
+#![tactic(auto)]
+
 pub mod assembly;
 pub mod state;
 

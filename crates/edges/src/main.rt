@@ -1,5 +1,7 @@
 // Runs the parts of the core that no line of a script reaches, where there is no bit, no record and no frame. The file stdout beside
 // src/ has what the papers say.
+#![tactic(auto)]
+
 mod lengths;
 mod readers;
 mod show;

@@ -3,6 +3,8 @@
 // The calls of the wire answer one number: its low byte is the value, its next byte the refusal number of document 01, 0 for
 // none. The table check and the judge answer one too: its low sixteen bits are the position, or the number of a short entry, the next
 // byte is the refusal number, and the bit above that says that an entry is short.
+#![tactic(auto)]
+
 ghost use Rattle.std.specs.Prelude.{◌+◌, ◌*◌, ◌<◌, ◌≡◌};
 ghost use Rattle.wire.specs.Checksum.{checksum_of};
 ghost use Rattle.wire.specs.Identifier.{protected_of, read_of};

@@ -1,4 +1,6 @@
 // The log program of document 01: judges the frames of a log on standard input, one a line, and prints a row for each.
+#![tactic(auto)]
+
 ghost use Rattle.std.specs.Prelude.{◌≡◌, ◌+◌, ◌-◌, ◌*◌, ◌<◌, ◌≤◌, false, length, take};
 ghost use Rattle.buslog.specs.Row.{header, longest_row};
 ghost use Rattle.buslog.specs.Report.{built_in, kept_length};

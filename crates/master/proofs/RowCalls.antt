@@ -8,9 +8,8 @@ use native.Mathlib.Omega.{arith}
 use lib.Dec.{leb, ltb}
 use lib.ListN.{length}
 use borrow.Author.Tests.{ltb-true, ltb-false, eqb-true, eqb-false, leb-true, leb-false, le-leb}
-use Rattle.cluster.specs.declared.Verdict.{Verdict}
 use Rattle.cluster.specs.declared.Verdict.TheVariants as verdict
-use Rattle.cluster.specs.Check.{then, RightTable}
+use Rattle.cluster.specs.Check.{RightTable}
 use Rattle.cluster.specs.Table.{signal_count, signal_kind, signal_width, is_array}
 use Rattle.cluster.specs.Table.{member_count, member_frame, entry_count, entry_schedule, schedule_count}
 use Rattle.cluster.specs.Values.{signal_published, first_placement, value_fits, array_fits}

@@ -2,6 +2,8 @@
 // "Diagnostic messages"). Every call accepts every table, state, buffer and number; a refused one changes nothing. The calls are
 // methods of `state::State`, one module each; the state is handed back by value beside the answer. What holds of every history of
 // calls is the record `Claim` of specs/Claim.antt, proved as `demand_3` in proofs/History/Claimed.antt.
+#![tactic(auto)]
+
 pub mod admit;
 pub mod ahead;
 pub mod byte;

@@ -1,5 +1,7 @@
 // Makes calls on the largest table, one for each letter on standard input, and prints a digest of their answers and what is left.
 // benchmarks/run counts its instructions beside those of benchmarks/meter.c, which prints the same.
+#![tactic(auto)]
+
 mod calls;
 mod largest;
 mod row;

@@ -13,8 +13,7 @@ use Rattle.master.specs.Put.{Put, puts}
 use Rattle.master.specs.Acts.{nothing, act_of}
 use Rattle.master.specs.Run.{Held, answer_of, held_after, history_of}
 use Rattle.master.specs.Schedule.{schedule, scheduled}
-use Rattle.master.specs.Claim.{record_of, HeldClaim, HistoryClaim, Claim}
-use Rattle.master.specs.Replies.{Replies}
+use Rattle.master.specs.Claim.{record_of, HeldClaim, HistoryClaim}
 use Rattle.master.specs.RowInWords.{row_answer, row_left, after_writes, Admitted}
 use Rattle.master.proofs.Admitted.{admits}
 use Rattle.master.proofs.RowExactly.{row_is_writes, row_refused_unchanged}

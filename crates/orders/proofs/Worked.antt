@@ -27,7 +27,6 @@ use Rattle.master.specs.declared.read.ReadAnswer.TheVariants as read
 use Rattle.master.specs.declared.select.SelectAnswer.TheVariants as select
 use Rattle.master.specs.declared.tick.TickAnswer.TheVariants as tick
 use Rattle.master.specs.declared.byte.ByteAnswer.TheVariants as byte
-use Rattle.master.specs.declared.send.SendAnswer.TheVariants as send
 use Rattle.master.specs.declared.ahead.AheadAnswer.TheVariants as ahead
 use Rattle.master.specs.Admit.{buffer_size, admitted}
 use Rattle.master.specs.Start.{fresh_verdict, fresh_of}
@@ -35,7 +34,7 @@ use Rattle.master.specs.Fresh.{fresh}
 use Rattle.master.specs.Fits.{wait_fits, bit_fits, pending_fits, entry_opens, can_open, count_fits, message_fits, state_fits}
 use Rattle.master.specs.Transfers.{format_of, open_protected, open_checksum, frame_data, sent_data, copied, opening}
 use Rattle.master.specs.Select.{select_verdict, select_of}
-use Rattle.master.specs.Write.{writable, marked_from, rewritten, marked}
+use Rattle.master.specs.Write.{writable, marked_from, rewritten}
 use Rattle.master.specs.Read.{read_verdict, read_scalar_of}
 use Rattle.master.specs.Tick as ticks
 use Rattle.master.specs.Status as reading

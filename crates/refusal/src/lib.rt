@@ -1,4 +1,6 @@
 // The refusal numbers of documents 01 and 02 by name, and the refusal that every refusing answer carries.
+#![tactic(auto)]
+
 ghost use Rattle.std.specs.Prelude.{◌≡◌};
 ghost use Rattle.refusal.specs.Numbers.{numbers, refused, refused_at, tells_place};
 

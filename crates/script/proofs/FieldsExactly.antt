@@ -3,7 +3,7 @@
 use Prim.Native.Nat.{ℕ, suc, ◌+◌, ◌-◌, ◌*◌, ◌/◌, ◌%◌, ◌<◌, ◌≤◌}
 use mathlib.Core.Path.{◌≡◌, refl, sym, ◌∙◌, ap}
 use mathlib.Core.Logic.{◌↔◌}
-use mathlib.Core.Bool.{true, false, ◌&&◌}
+use mathlib.Core.Bool.{true, ◌&&◌}
 use mathlib.Core.List.{List, [], ◌∷◌, ◌++◌}
 use native.Mathlib.Omega.{arith}
 use borrow.Author.Tests.{eqb-true, eqb-false, eq-eqb, ne_eqb, ltb-true, lt-ltb, leb-true, le-leb}
@@ -13,7 +13,6 @@ use Rattle.buslog.specs.Pairs.{digit_of, is_pair, pair_byte, pair_of}
 use Rattle.buslog.proofs.Digits.{below_digits, decimal_digit, between_digits, letter_digit, above_digits, digit_back, character_back}
 use Rattle.wire.proofs.Tests.{whether, and_left, and_right}
 use Rattle.signal.proofs.Inside.{order}
-use Rattle.script.specs.declared.fields.Field.{Field}
 use Rattle.script.specs.declared.fields.Field.TheVariants.{Number, Wrong}
 use Rattle.script.specs.Fields.{joined, fields_of, digits_from, decimal_field, pair_field}
 

@@ -4,7 +4,7 @@ use mathlib.Core.Path.{◌≡◌, sym, ap, ◌∙◌}
 use mathlib.Core.List.{List, [], ◌++◌, append-nil, append_assoc}
 use native.Mathlib.Omega.{arith}
 use borrow.Rule.Slice.PartMut.{put_mid}
-use lib.ListN.{length, take, drop, length-take, length-drop, length-append, drop_of_length-le, take-append-drop}
+use lib.ListN.{length, take, drop, length-drop, length-append, drop_of_length-le, take-append-drop}
 use lib.Seq.{take-nil, take-length, take_all, drop-drop, take-append-le, take-append-add, take_at, drop_at, length-take-le}
 use Rattle.signal.proofs.Inside.{order}
 use Rattle.buslog.specs.Report.{fronted}

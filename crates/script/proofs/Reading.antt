@@ -1,5 +1,5 @@
 -- What reading a field comes to, character by character.
-use Prim.Native.Nat.{ℕ, suc, ◌+◌, ◌-◌, ◌*◌, ◌<◌, ◌≤◌}
+use Prim.Native.Nat.{ℕ, suc, ◌+◌, ◌*◌, ◌<◌, ◌≤◌}
 use mathlib.Core.Path.{◌≡◌, refl, sym, ap}
 use mathlib.Core.Bool.{true, false, ◌&&◌, and-false}
 use mathlib.Core.List.{List, [], ◌∷◌}
@@ -11,7 +11,6 @@ use lib.ListN.{length, get_or, drop, drop_of_length-le}
 use lib.Seq.{drop-cons}
 use Rattle.wire.proofs.Tests.{and_left, and_right, whether}
 use Rattle.buslog.specs.Pairs.{digit_of, is_pair, pair_byte}
-use Rattle.script.specs.declared.fields.Field.{Field}
 use Rattle.script.specs.declared.fields.Field.TheVariants.{Word, Number, Wrong}
 use Rattle.script.specs.Fields.{digits_from, decimal_field, pair_field, same_text, word_field, number_field, field_of}
 

@@ -10,7 +10,6 @@ use Rattle.wire.proofs.Tests.{and_left, whether}
 use Rattle.buslog.specs.Report.{fronted}
 use Rattle.script.specs.declared.lists.Count.{Count}
 use Rattle.script.specs.declared.lists.Count.TheVariants as count
-use Rattle.script.specs.declared.rows.Rows.{Rows}
 use Rattle.script.specs.declared.rows.Rows.TheVariants.{Malformed}
 use Rattle.script.specs.declared.rows.Row.{Row}
 use Rattle.script.specs.Fields.{fields_from, decimal_field, is_number, number_in}

@@ -1,5 +1,7 @@
 // A signal's bits in lent bytes: a frame's, or the whole buffer with the offset counted from its start (document 01,
 // "Signals"). Every offset, width and length is accepted. Bits behind the last byte read as 0, and nothing is put there.
+#![tactic(auto)]
+
 ghost use Rattle.std.specs.Prelude.{◌≡◌, ◌+◌, ◌*◌, ◌^◌, ◌<◌, ◌≤◌, length, get_or, set};
 ghost use Rattle.wire.specs.Bits.{bit};
 ghost use Rattle.signal.specs.Signal.{number, bit_at, replaced, put_bits, scalar_width};

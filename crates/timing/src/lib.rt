@@ -1,5 +1,7 @@
 // A judge of schedules (document 02, Req 02): whether every slot of a table holds its longest frame. It needs no master, since a schedule
 // is judged before one runs.
+#![tactic(auto)]
+
 ghost use Rattle.std.specs.Prelude.{◌&&◌, ◌≡◌, ◌<◌};
 ghost use Rattle.cluster.specs.Check.{RightTable};
 ghost use Rattle.cluster.specs.Table.{entry_count};

@@ -1,4 +1,6 @@
 // What stands on the bus: protected identifiers and checksums (document 01, "Bytes on the bus").
+#![tactic(auto)]
+
 use refusal::Refusal;
 
 pub mod checksum;

@@ -1,14 +1,14 @@
 -- In every history a signal that the master does not publish reads as the last successful reception of a frame that has it brought it, or as its start
 -- value.
-use Prim.Native.Nat.{ℕ, ◌+◌, ◌-◌, ◌*◌, ◌/◌, ◌%◌, ◌<◌, ◌≤◌}
+use Prim.Native.Nat.{ℕ, ◌+◌, ◌*◌, ◌/◌, ◌%◌, ◌<◌, ◌≤◌}
 use mathlib.Core.Path.{◌≡◌, refl, sym, ◌∙◌, ap}
-use mathlib.Core.Bool.{Bool, true, false, not}
+use mathlib.Core.Bool.{Bool, true, false}
 use mathlib.Core.List.{List}
 use native.Mathlib.Nat.{mod-eq_of_lt}
 use native.Mathlib.Omega.{arith}
 use borrow.Author.Tests.{eq-eqb, ltb-true, ltb-false}
 use lib.Dec.{ltb, eqb}
-use lib.ListN.{length, replicate, length-replicate}
+use lib.ListN.{length, length-replicate}
 use Rattle.signal.specs.Signal.{bit_at, get_scalar, get_array}
 use Rattle.signal.proofs.Inside.{order}
 use Rattle.signal.proofs.Numbers.{number_ext}
@@ -38,7 +38,7 @@ use Rattle.master.specs.declared.read.StatusAnswer.TheVariants as status
 use Rattle.master.specs.declared.send.SendAnswer.TheVariants as send
 use Rattle.master.specs.declared.state.Last.{Last}
 use Rattle.master.specs.declared.state.Last.TheVariants.{Never, Placement}
-use Rattle.master.specs.Put.{Value, scalar, array, with_value}
+use Rattle.master.specs.Put.{Value, with_value}
 use Rattle.master.specs.Write.{is_bytes, fits_signal}
 use Rattle.master.specs.Start.{fresh_of}
 use Rattle.master.specs.Admit.{buffer_size}

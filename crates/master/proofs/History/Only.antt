@@ -33,7 +33,7 @@ use Rattle.master.specs.Run.{Held, answer_of, held_after, history_of}
 use Rattle.master.specs.Schedule.{Slot, none, unscheduled, entry, Scheduled, slot_due, plan_after}
 use Rattle.master.specs.History.{Pending}
 use Rattle.master.specs.Answering.{message_after}
-use Rattle.master.specs.Replies.{Takes, takes, leaves, EntryReply, SlotReply, lent_right, TickReply, Count, AheadReply, Replies}
+use Rattle.master.specs.Replies.{Takes, takes, leaves, EntryReply, SlotReply, lent_right, TickReply, AheadReply, Replies}
 use Rattle.master.specs.Claim.{record_of, calls_of, Meets}
 use Rattle.master.specs.Admit.{buffer_size}
 use Rattle.cluster.proofs.TakenLaws.{right_taken}

@@ -1,7 +1,6 @@
 -- `timing::longest_members` meets its contract. The invariant: the numbers are those of the longest member of each list among the members passed.
 use Prim.Native.Nat.{◌-◌, ◌≤◌, ◌<◌}
 use mathlib.Core.Path.{◌≡◌, ◌∙◌, ap}
-use mathlib.Core.Logic.{⊎_elim}
 use native.Mathlib.Omega.{arith}
 use borrow.Author.Rules.{rules}
 use Rattle.cluster.specs.Table.{frame_length, member_count}

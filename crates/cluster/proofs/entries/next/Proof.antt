@@ -1,6 +1,5 @@
 -- `cluster::entries::next` meets its contract, by the cases of the branches.
 use mathlib.Core.Path.{sym, ◌∙◌, ap}
-use mathlib.Core.Logic.{⊎_elim}
 use native.Mathlib.Numerals.{add-one}
 use native.Mathlib.Omega.{arith}
 use Rattle.cluster.specs.Lists.{first_entry}

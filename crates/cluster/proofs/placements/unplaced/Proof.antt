@@ -3,7 +3,6 @@ use mathlib.Core.Path.{◌∙◌}
 use native.Mathlib.Omega.{arith}
 use borrow.Author.Rules.{rules}
 use borrow.Author.Tests.{lt-leb, le-leb}
-use lib.Dec.{leb}
 use Rattle.cluster.specs.Check.{unplaced}
 use Rattle.cluster.specs.Right.{all_placed}
 use Rattle.cluster.specs.Table.{signal_count, placed_signals}

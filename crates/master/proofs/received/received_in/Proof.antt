@@ -1,7 +1,6 @@
 -- `received::received_in` meets its contract. The invariant: the placements before are received.
 use Prim.Native.Nat.{◌-◌, ◌≤◌}
 use mathlib.Core.Path.{◌≡◌, refl, ◌∙◌, ap}
-use mathlib.Core.Logic.{⊎_elim}
 use native.Mathlib.Omega.{arith}
 use borrow.Author.Rules.{rules}
 use lib.ListN.{length, length-set}
@@ -29,17 +28,17 @@ loop-again c =
     let more = c.before.before.loop-k-test.true in
     elim c.if-s-lt-SIGNALS.branch [
       | then-s-lt-SIGNALS w ↦ (
-          loop.invariant.0,
-          omega arith,
-          ap length w.next-is ∙ length-set loop.next _ _ ∙ loop.invariant.2,
-          w.next-is ∙ up_to_here _ _ loop.k _ _ loop.invariant.3 loop.invariant.2 _ is w.if-s-lt-SIGNALS.true,
-        )
+        loop.invariant.0,
+        omega arith,
+        ap length w.next-is ∙ length-set loop.next _ _ ∙ loop.invariant.2,
+        w.next-is ∙ up_to_here _ _ loop.k _ _ loop.invariant.3 loop.invariant.2 _ is w.if-s-lt-SIGNALS.true,
+      )
       | else-s-lt-SIGNALS w ↦ (
-          loop.invariant.0,
-          omega arith,
-          rw w.next-is loop.invariant.2,
-          w.next-is ∙ up_to_not _ _ loop.k _ _ loop.invariant.3 loop.invariant.2 _ is w.if-s-lt-SIGNALS.false,
-        )
+        loop.invariant.0,
+        omega arith,
+        rw w.next-is loop.invariant.2,
+        w.next-is ∙ up_to_not _ _ loop.k _ _ loop.invariant.3 loop.invariant.2 _ is w.if-s-lt-SIGNALS.false,
+      )
     ]
 
 returns : tie.Need-returns invariant-loop decreases-loop

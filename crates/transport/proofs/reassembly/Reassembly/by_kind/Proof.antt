@@ -1,10 +1,10 @@
 -- `Reassembly::by_kind` meets its contract: each range of the match is a kind of the definition.
 use mathlib.Core.Path.{refl}
-use mathlib.Core.Logic.{inl, inr, ⊎_elim}
+use mathlib.Core.Logic.{inl, inr}
 use Rattle.transport.proofs.KindLaws.{NoKind, kind_single, kind_first, kind_next, kind_other}
 use Rattle.transport.proofs.Steps.{step_kind, step_next, step_other}
 use Rattle.transport.proofs.Outcomes.{leaves_plain}
-use Rattle.transport.specs.Reassembly.{frame_pci, single, first, next}
+use Rattle.transport.specs.Reassembly.{frame_pci, single, first}
 use native.Mathlib.Omega.{arith}
 use borrow.Author.Rules.{rules}
 use Rattle.transport.proofs.reassembly.Reassembly.by_kind.Lts.{in_default-via-then-pci-lt1, in_default-via-else-pci-lt1+else-pci-lt7+then-pci-lt16, in_default-via-else-pci-lt1+else-pci-lt7+else-pci-lt16+else-pci-lt32+else-pci-lt48}

@@ -2,7 +2,6 @@
 -- What a call asks follows from what is asked here and from the tests before it.
 use native.Mathlib.Omega.{arith}
 use mathlib.Core.Path.{refl}
-use mathlib.Core.Logic.{⊎_elim}
 use borrow.Author.Tests.{ltb-true, ltb-false}
 use borrow.Author.Rules.{rules}
 use lib.ListN.{length}
