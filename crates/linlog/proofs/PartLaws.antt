@@ -76,8 +76,8 @@ module _ (log r : Log) (text out : List ℕ) where
   nothing_left z e = record { rows = rw z; none_kept = e.0; over = e.1 }
 
   -- a line that was kept is reported with a newline behind it
-  pub line_left : {next : Log} {textAfter after : List ℕ} → 1 ≤ log.kept → log.kept < length text
-      → Reports log (take (log.kept + 1) (set text log.kept 10)) out next textAfter after → (r.kept ≡ 0) × (r.goes_on ≡ false)
+  pub line_left : {next : Log} {text_after after : List ℕ} → 1 ≤ log.kept → log.kept < length text
+      → Reports log (take (log.kept + 1) (set text log.kept 10)) out next text_after after → (r.kept ≡ 0) × (r.goes_on ≡ false)
       → Ends log (take log.kept text) out r after
   line_left some h reports e =
       let few : 1 ≤ length (take log.kept text) = omega (arith, length-take-le log.kept text (omega arith)) in
@@ -108,8 +108,8 @@ counted z most n m fits moved e c same = by z moved (rw (to_z-of_z fits) at e) (
   by (pos k) l h q = ap pos (omega arith)
   by (negsuc k) l h q = absurd (true≢false h)
 
-module _ (log : Log) (got : ℤ) (text out : List ℕ) (r : Log) (textAfter outAfter : List ℕ) where
-  pub goes_failed : (k : ℕ) → got ≡ negsuc k → Fails out r outAfter → Goes log got text out r textAfter outAfter
+module _ (log : Log) (got : ℤ) (text out : List ℕ) (r : Log) (text_after out_after : List ℕ) where
+  pub goes_failed : (k : ℕ) → got ≡ negsuc k → Fails out r out_after → Goes log got text out r text_after out_after
   goes_failed k bad fails =
       record {
         failed = λ _ _. fails;
@@ -117,7 +117,7 @@ module _ (log : Log) (got : ℤ) (text out : List ℕ) (r : Log) (textAfter outA
         came = λ n some _. let z : ◌≡◌ {A = ℕ} 0 1 = cc in absurd (omega arith);
       }
 
-  pub goes_over : got ≡ pos 0 → Ends log (take log.kept text) out r outAfter → Goes log got text out r textAfter outAfter
+  pub goes_over : got ≡ pos 0 → Ends log (take log.kept text) out r out_after → Goes log got text out r text_after out_after
   goes_over none ends =
       record {
         failed = λ k bad. let z : ◌≡◌ {A = ℕ} 0 1 = cc in absurd (omega arith);
@@ -126,7 +126,7 @@ module _ (log : Log) (got : ℤ) (text out : List ℕ) (r : Log) (textAfter outA
       }
 
   pub goes_on : (n : ℕ) → got ≡ pos n → 1 ≤ n → log.kept ≤ length text
-      → Reports log (take (log.kept + n) text) out r textAfter outAfter → Goes log got text out r textAfter outAfter
+      → Reports log (take (log.kept + n) text) out r text_after out_after → Goes log got text out r text_after out_after
   goes_on n some h within reports =
       record {
         failed = λ k bad. let z : ◌≡◌ {A = ℕ} 0 1 = cc in absurd (omega arith);
@@ -135,9 +135,9 @@ module _ (log : Log) (got : ℤ) (text out : List ℕ) (r : Log) (textAfter outA
       }
 
 -- at most 30 characters are kept
-pub few_kept : (log : Log) (text out : List ℕ) (r : Log) (textAfter outAfter : List ℕ) → Turns log text out r textAfter outAfter → r.kept ≤ kept_length
+pub few_kept : (log : Log) (text out : List ℕ) (r : Log) (text_after out_after : List ℕ) → Turns log text out r text_after out_after → r.kept ≤ kept_length
 unfolding line_kept kept_of
-few_kept log text out r textAfter outAfter t = by t.got refl where
+few_kept log text out r text_after out_after t = by t.got refl where
   by : (g : ℤ) → t.got ≡ g → r.kept ≤ kept_length
   by (negsuc k) e = omega (arith, (t.goes.failed k e).none_kept)
   by (pos n) e =

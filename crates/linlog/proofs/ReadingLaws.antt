@@ -19,22 +19,22 @@ unfolding ended last_line whole_lines
 ended_line [] h = refl
 ended_line (c ∷ u) h = line_then [] (c ∷ u) (10 ∷ []) h
 
-module _ (log : Log) (text out : List ℕ) (r : Log) (textAfter outAfter : List ℕ) where
+module _ (log : Log) (text out : List ℕ) (r : Log) (text_after out_after : List ℕ) where
   -- a negative answer: no row is put, and nothing goes on
-  pub failed_reading : (k : ℕ) → Goes log (negsuc k) text out r textAfter outAfter → (outAfter ≡ out) × (r.kept ≡ 0) × (r.goes_on ≡ false)
+  pub failed_reading : (k : ℕ) → Goes log (negsuc k) text out r text_after out_after → (out_after ≡ out) × (r.kept ≡ 0) × (r.goes_on ≡ false)
   failed_reading k g = let f = g.failed k refl in (f.no_rows, f.none_kept, f.over)
 
   -- 0 is the end: the row of the line that was kept is put, if there is one, and nothing goes on
-  pub end_of_input : OneLine (take log.kept text) → Goes log (pos 0) text out r textAfter outAfter
-      → (outAfter ≡ fronted (rows_of built_in log.number (last_line (take log.kept text))) out) × (r.kept ≡ 0) × (r.goes_on ≡ false)
+  pub end_of_input : OneLine (take log.kept text) → Goes log (pos 0) text out r text_after out_after
+      → (out_after ≡ fronted (rows_of built_in log.number (last_line (take log.kept text))) out) × (r.kept ≡ 0) × (r.goes_on ≡ false)
   end_of_input one g = let e = g.over refl in (e.rows ∙ rw (ended_line (take log.kept text) one), e.none_kept, e.over)
 
   -- n characters: the rows of the whole lines are put, of the text that was kept with the n characters behind it, the lines are counted, and what
   -- stands behind the last newline is kept, cut to 30 characters
-  pub characters_read : (n : ℕ) → 1 ≤ n → Goes log (pos n) text out r textAfter outAfter
-      → (outAfter ≡ fronted (rows_of built_in log.number (whole_lines [] (take log.kept text ++ take n (drop log.kept text)))) out)
+  pub characters_read : (n : ℕ) → 1 ≤ n → Goes log (pos n) text out r text_after out_after
+      → (out_after ≡ fronted (rows_of built_in log.number (whole_lines [] (take log.kept text ++ take n (drop log.kept text)))) out)
       × (r.number ≡ (log.number + length (whole_lines [] (take log.kept text ++ take n (drop log.kept text)))) % 2 ^ 64)
-      × (take r.kept textAfter ≡ take 30 (unfinished [] (take log.kept text ++ take n (drop log.kept text))))
+      × (take r.kept text_after ≡ take 30 (unfinished [] (take log.kept text ++ take n (drop log.kept text))))
   unfolding line_kept kept_of
   characters_read n h g =
       let c = g.came n refl h in
@@ -44,10 +44,10 @@ module _ (log : Log) (text out : List ℕ) (r : Log) (textAfter outAfter : List 
 -- ---- a run, turn by turn
 
 -- one turn is what some answer of a reading brings about, and what was kept stays before what was read
-pub turn_exactly : (log : Log) (text out : List ℕ) (r : Log) (textAfter outAfter : List ℕ) → Turns log text out r textAfter outAfter
+pub turn_exactly : (log : Log) (text out : List ℕ) (r : Log) (text_after out_after : List ℕ) → Turns log text out r text_after out_after
     ↔ ((got : ℤ) × (now : List ℕ) × Moved (length text - log.kept) got × (take log.kept now ≡ take log.kept text)
-    × Goes log got now out r textAfter outAfter)
-turn_exactly log text out r textAfter outAfter = (
+    × Goes log got now out r text_after out_after)
+turn_exactly log text out r text_after out_after = (
   (λ t. (t.got, t.now, t.moved, t.same, t.goes)),
   (λ h. record { got = h.0; now = h.1; moved = h.2; same = h.3; goes = h.4 }),
 )
@@ -57,35 +57,35 @@ unfolding started
 is_started log = ((λ e. rw e (refl, refl, refl)), (λ h. rw (← h.0, ← h.1, ← h.2)))
 
 module _ (text out : List ℕ) where
-  before_turns : {k : ℕ} {log : Log} {textNow outNow : List ℕ} → Ran text out k log textNow outNow → k ≡ 0
-      → (log ≡ started) × (textNow ≡ text) × (outNow ≡ out)
+  before_turns : {k : ℕ} {log : Log} {text_now out_now : List ℕ} → Ran text out k log text_now out_now → k ≡ 0
+      → (log ≡ started) × (text_now ≡ text) × (out_now ≡ out)
   before_turns none e = (refl, refl, refl)
   before_turns (turned r g t) e = absurd (omega arith)
 
-  last_turn : {k : ℕ} {r : Log} {textAfter outAfter : List ℕ} → Ran text out k r textAfter outAfter → (n : ℕ) → k ≡ suc n
-      → (log : Log) × (textNow outNow : List ℕ) × Ran text out n log textNow outNow × (log.goes_on ≡ true)
-      × Turns log textNow outNow r textAfter outAfter
+  last_turn : {k : ℕ} {r : Log} {text_after out_after : List ℕ} → Ran text out k r text_after out_after → (n : ℕ) → k ≡ suc n
+      → (log : Log) × (text_now out_now : List ℕ) × Ran text out n log text_now out_now × (log.goes_on ≡ true)
+      × Turns log text_now out_now r text_after out_after
   last_turn none n e = absurd (omega arith)
-  last_turn (turned {n = m} {log = l} {textNow = x} {outNow = y} r g t) n e = let q : m ≡ n = omega arith in (l, x, y, rw q at r, g, t)
+  last_turn (turned {n = m} {log = l} {text_now = x} {out_now = y} r g t) n e = let q : m ≡ n = omega arith in (l, x, y, rw q at r, g, t)
 
   -- no turn yet: the first line is line 1, nothing was kept, and the buffers are as they were
-  pub no_turn : (log : Log) (textNow outNow : List ℕ) → Ran text out 0 log textNow outNow
-      ↔ ((log.number ≡ 1) × (log.kept ≡ 0) × (log.goes_on ≡ true) × (textNow ≡ text) × (outNow ≡ out))
-  no_turn log textNow outNow = (
+  pub no_turn : (log : Log) (text_now out_now : List ℕ) → Ran text out 0 log text_now out_now
+      ↔ ((log.number ≡ 1) × (log.kept ≡ 0) × (log.goes_on ≡ true) × (text_now ≡ text) × (out_now ≡ out))
+  no_turn log text_now out_now = (
     (λ r. let h = before_turns r refl in let s = (is_started log).0 h.0 in (s.0, s.1, s.2, h.1, h.2)),
     (λ h. rw ((is_started log).1 (h.0, h.1, h.2), h.3, h.4) none),
   )
 
   -- one turn more: from what the turns before it left, which goes on
-  pub next_turn : (n : ℕ) (r : Log) (textAfter outAfter : List ℕ) → Ran text out (suc n) r textAfter outAfter
-      ↔ ((log : Log) × (textNow outNow : List ℕ) × Ran text out n log textNow outNow × (log.goes_on ≡ true)
-      × Turns log textNow outNow r textAfter outAfter)
-  next_turn n r textAfter outAfter = ((λ h. last_turn h n refl), (λ h. turned h.3 h.4 h.5))
+  pub next_turn : (n : ℕ) (r : Log) (text_after out_after : List ℕ) → Ran text out (suc n) r text_after out_after
+      ↔ ((log : Log) × (text_now out_now : List ℕ) × Ran text out n log text_now out_now × (log.goes_on ≡ true)
+      × Turns log text_now out_now r text_after out_after)
+  next_turn n r text_after out_after = ((λ h. last_turn h n refl), (λ h. turned h.3 h.4 h.5))
 
   -- a run is over where a turn ended it; 18,446,744,073,709,551,615 turns are more than any run has
-  pub run_exactly : (textAfter outAfter : List ℕ) → Runs text out textAfter outAfter
-      ↔ ((n : ℕ) × (last : Log) × Ran text out n last textAfter outAfter × ((last.goes_on ≡ false) ⊎ (n ≡ 18446744073709551615)))
-  run_exactly textAfter outAfter = (
+  pub run_exactly : (text_after out_after : List ℕ) → Runs text out text_after out_after
+      ↔ ((n : ℕ) × (last : Log) × Ran text out n last text_after out_after × ((last.goes_on ≡ false) ⊎ (n ≡ 18446744073709551615)))
+  run_exactly text_after out_after = (
     (λ h. (h.turns, h.last, h.ran, h.over)),
     (λ h. record { turns = h.0; last = h.1; ran = h.2; over = h.3 }),
   )

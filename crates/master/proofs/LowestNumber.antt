@@ -70,7 +70,7 @@ table_refused t x c r e = by c
     by : (c : Call) → verdict_of t x c ≡ verdict.Refused r
     by (call.write w) = rw f
     by (call.read s) = rw f
-    by (call.readArray s) = rw f
+    by (call.read_array s) = rw f
     by (call.select n) = rw f
     by (call.tick m) = rw f
     by (call.byte_in b) = rw f

@@ -145,7 +145,7 @@ module _ (t : List ℕ) (s : State) (bs : List ℕ) (b : ℕ) where
 abbrev pub Succeeds : (c : Call) → Answer c → Type 0
 Succeeds (call.write w) a = ⊥
 Succeeds (call.read s) a = ⊥
-Succeeds (call.readArray s) a = ⊥
+Succeeds (call.read_array s) a = ⊥
 Succeeds (call.select n) a = ⊥
 Succeeds (call.tick m) a = ⊥
 Succeeds (call.byte_in b) a = a.answer ≡ byte.Success
@@ -159,7 +159,7 @@ pub keeps_received : (t : List ℕ) (x : Held) (c : Call) → ¬ Succeeds c (ans
 unfolding answer_of left_by effect_of
 keeps_received t x (call.write w) n = (write_beside t x.state x.bytes w).received_same
 keeps_received t x (call.read s) n = refl
-keeps_received t x (call.readArray s) n = refl
+keeps_received t x (call.read_array s) n = refl
 keeps_received t x (call.select k) n = by-effect t x (call.select k) (λ y. y.state.received ≡ x.state.received) refl (λ a. refl)
 keeps_received t x (call.tick m) n = by-effect t x (call.tick m) (λ y. y.state.received ≡ x.state.received) refl
     (λ a. ticked_by t x.bytes m (λ w. w.state.received ≡ x.state.received) x.state

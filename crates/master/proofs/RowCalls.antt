@@ -186,22 +186,22 @@ module _ (t : List ℕ) (x : Held) where
       not_6 : is_array t s ≡ false → ¬ Row t x (call.read s) 6
       not_6 a (scalar_of_array e) = no_array t s a e
 
-  array_rows : (s k : ℕ) → Row t x (call.readArray s) k → (k < 5) ⊎ (k ≡ 6)
+  array_rows : (s k : ℕ) → Row t x (call.read_array s) k → (k < 5) ⊎ (k ≡ 6)
   array_rows s k (table_fault r e) = inl (omega arith)
   array_rows s k (buffer_size_lem l n) = inl (omega arith)
   array_rows s k (state_unfit n) = inl (omega arith)
   array_rows s k (no_array_to_read l) = inl (omega arith)
   array_rows s k (array_of_scalar e) = inr refl
 
-  array_lowest : (s : ℕ) → Lowest t x (call.readArray s) (read_verdict t (length x.bytes) x.state s true)
+  array_lowest : (s : ℕ) → Lowest t x (call.read_array s) (read_verdict t (length x.bytes) x.state s true)
   array_lowest s =
-      reading (call.readArray s) refl (λ m e. let z : ◌≡◌ {A = ℕ} 0 1 = cc in omega arith) (array_rows s) s true
+      reading (call.read_array s) refl (λ m e. let z : ◌≡◌ {A = ℕ} 0 1 = cc in omega arith) (array_rows s) s true
       no_array_to_read not_4 (λ a. array_of_scalar (no_array t s a)) not_6
     where
-      not_4 : s < signal_count t → ¬ Row t x (call.readArray s) 4
+      not_4 : s < signal_count t → ¬ Row t x (call.read_array s) 4
       not_4 h (no_array_to_read l) = omega arith
 
-      not_6 : is_array t s ≡ true → ¬ Row t x (call.readArray s) 6
+      not_6 : is_array t s ≡ true → ¬ Row t x (call.read_array s) 6
       not_6 a (array_of_scalar n) = n (is_array_lem t s a)
 
   select_lowest : (n : ℕ) → Lowest t x (call.select n) (select_verdict t x.state n)
@@ -352,7 +352,7 @@ module _ (t : List ℕ) (x : Held) where
   unfolding verdict_of
   call_lowest (call.write w) = write_lowest t x w
   call_lowest (call.read s) = read_lowest s
-  call_lowest (call.readArray s) = array_lowest s
+  call_lowest (call.read_array s) = array_lowest s
   call_lowest (call.select n) = select_lowest n
   call_lowest (call.tick m) = tick_lowest m
   call_lowest (call.byte_in b) = byte_lowest b

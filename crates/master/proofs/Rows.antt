@@ -22,7 +22,7 @@ use Rattle.master.proofs.FitsExactly.{Clauses}
 abbrev pub lent : Call → Bool
 lent (call.write w) = true
 lent (call.read s) = true
-lent (call.readArray s) = true
+lent (call.read_array s) = true
 lent (call.select n) = false
 lent (call.tick m) = true
 lent (call.byte_in b) = true
@@ -44,7 +44,7 @@ pub data Row (t : List ℕ) (x : Held) : Call → ℕ → Type 0 where
   -- "no such signal, schedule, or frame in a list"
   no_signal_to_write : {w : Put} → signal_count t ≤ w.signal → Row t x (call.write w) 4
   no_signal_to_read : {s : ℕ} → signal_count t ≤ s → Row t x (call.read s) 4
-  no_array_to_read : {s : ℕ} → signal_count t ≤ s → Row t x (call.readArray s) 4
+  no_array_to_read : {s : ℕ} → signal_count t ≤ s → Row t x (call.read_array s) 4
   no_schedule : {n : ℕ} → ((e : ℕ) → e < entry_count t → ¬ (entry_schedule t e ≡ n)) → Row t x (call.select n) 4
   no_member : {f : ℕ} → ((m : ℕ) → m < member_count t → ¬ (member_frame t m ≡ f)) → Row t x (call.number_ahead f) 4
   -- "write to a signal the master doesn't publish": one with a placement in a frame that is not published
@@ -54,7 +54,7 @@ pub data Row (t : List ℕ) (x : Held) : Call → ℕ → Type 0 where
   scalar_into_array : {w : Put} → (v : ℕ) → w.value ≡ scalar v → signal_kind t w.signal ≡ 1 → Row t x (call.write w) 6
   array_into_scalar : {w : Put} → (vs : List ℕ) → w.value ≡ array vs → ¬ (signal_kind t w.signal ≡ 1) → Row t x (call.write w) 6
   scalar_of_array : {s : ℕ} → signal_kind t s ≡ 1 → Row t x (call.read s) 6
-  array_of_scalar : {s : ℕ} → ¬ (signal_kind t s ≡ 1) → Row t x (call.readArray s) 6
+  array_of_scalar : {s : ℕ} → ¬ (signal_kind t s ≡ 1) → Row t x (call.read_array s) 6
   -- "value of 2^width or more; array of another length"
   value_too_large : {w : Put} → (v : ℕ) → w.value ≡ scalar v → 2 ^ signal_width t w.signal ≤ v → Row t x (call.write w) 7
   array_length_lem : {w : Put} → (vs : List ℕ) → w.value ≡ array vs → ¬ (8 * length vs ≡ signal_width t w.signal) → Row t x (call.write w) 7

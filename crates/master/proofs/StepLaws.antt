@@ -79,7 +79,7 @@ pub left_by_verdict : (t : List ℕ) (x : Held) (c : Call) → left_by t x c ≡
 unfolding left_by verdict_of effect_of write_of select_of tick_of byte_of status_of send_of
 left_by_verdict t x (call.write w) = commute (λ (z : Step Wrote). held z.given.state z.left) (write_verdict t (length x.bytes) x.state w) _ _
 left_by_verdict t x (call.read s) = either_way (read_verdict t (length x.bytes) x.state s false) x
-left_by_verdict t x (call.readArray s) = either_way (read_verdict t (length x.bytes) x.state s true) x
+left_by_verdict t x (call.read_array s) = either_way (read_verdict t (length x.bytes) x.state s true) x
 left_by_verdict t x (call.select n) = commute (λ (z : Chosen). held z.state x.bytes) (select_verdict t x.state n) _ _
 left_by_verdict t x (call.tick m) = commute (λ (z : Ticked). held z.state x.bytes) (tick_verdict t (length x.bytes) (length m) x.state) _ _
 left_by_verdict t x (call.byte_in b) = commute (λ (z : Step Took). held z.given.state z.left) (byte_verdict t (length x.bytes) x.state) _ _
@@ -101,7 +101,7 @@ pub refused_answer : (t : List ℕ) (x : Held) (c : Call) (r : Refusal) → verd
 unfolding answer_of verdict_of refusal_of write_of read_scalar_of read_array_of select_of tick_of byte_of status_of send_of message_of ahead_of
 refused_answer t x (call.write w) r e = ap (λ (z : Step Wrote). z.given.answer) (refuses _ _ _ r e)
 refused_answer t x (call.read s) r e = refuses _ _ _ r e
-refused_answer t x (call.readArray s) r e = refuses _ _ _ r e
+refused_answer t x (call.read_array s) r e = refuses _ _ _ r e
 refused_answer t x (call.select n) r e = ap (λ (z : Chosen). z.answer) (refuses _ _ _ r e)
 refused_answer t x (call.tick m) r e = ap (λ (z : Ticked). z.answer) (refuses _ _ _ r e)
 refused_answer t x (call.byte_in b) r e =
@@ -129,7 +129,7 @@ accepted_answer : (t : List ℕ) (x : Held) (c : Call) (r : Refusal) → verdict
 unfolding answer_of verdict_of refusal_of write_of read_scalar_of read_array_of select_of tick_of byte_of status_of send_of message_of ahead_of
 accepted_answer t x (call.write w) r a k = let z = sym (ap (λ (z : Step Wrote). z.given.answer) (goes _ _ _ a)) ∙ k in let y : ◌≡◌ {A = ℕ} 0 1 = cc in omega arith
 accepted_answer t x (call.read s) r a k = let z = sym (goes _ _ _ a) ∙ k in let y : ◌≡◌ {A = ℕ} 0 1 = cc in omega arith
-accepted_answer t x (call.readArray s) r a k = let z = ap (λ (w : ReadArray). w.answer) (sym (goes _ _ _ a) ∙ k) in let y : ◌≡◌ {A = ℕ} 0 1 = cc in omega arith
+accepted_answer t x (call.read_array s) r a k = let z = ap (λ (w : ReadArray). w.answer) (sym (goes _ _ _ a) ∙ k) in let y : ◌≡◌ {A = ℕ} 0 1 = cc in omega arith
 accepted_answer t x (call.select n) r a k = let z = sym (ap (λ (z : Chosen). z.answer) (goes _ _ _ a)) ∙ k in let y : ◌≡◌ {A = ℕ} 0 1 = cc in omega arith
 accepted_answer t x (call.tick m) r a k =
     ticked_by t x.bytes m (λ w. w.answer ≡ tick.Refused r → ⊥) x.state
@@ -154,7 +154,7 @@ same_refusal : (c : Call) (r q : Refusal) → refusal_of c r ≡ refusal_of c q 
 unfolding refusal_of
 same_refusal (call.write w) r q e = cc
 same_refusal (call.read s) r q e = cc
-same_refusal (call.readArray s) r q e = let z = ap (λ (w : ReadArray). w.answer) e in cc
+same_refusal (call.read_array s) r q e = let z = ap (λ (w : ReadArray). w.answer) e in cc
 same_refusal (call.select n) r q e = cc
 same_refusal (call.tick m) r q e = cc
 same_refusal (call.byte_in b) r q e = let z = ap (λ (w : Reply). w.answer) e in cc
@@ -198,7 +198,7 @@ pub verdict_told_lem : (t : List ℕ) (x : Held) (c : Call) → told_of c (answe
 unfolding told_of answer_of verdict_of values_of opening write_of read_scalar_of read_array_of select_of tick_of byte_of status_of send_of message_of ahead_of
 verdict_told_lem t x (call.write w) = telling (λ (z : Step Wrote). write_told z.given.answer) (write_verdict t (length x.bytes) x.state w) _ _ _ (λ r. refl) refl
 verdict_told_lem t x (call.read s) = telling read_told (read_verdict t (length x.bytes) x.state s false) _ _ _ (λ r. refl) refl
-verdict_told_lem t x (call.readArray s) = telling (λ (z : ReadArray). array_told z.answer) (read_verdict t (length x.bytes) x.state s true) _ _ _ (λ r. refl) refl
+verdict_told_lem t x (call.read_array s) = telling (λ (z : ReadArray). array_told z.answer) (read_verdict t (length x.bytes) x.state s true) _ _ _ (λ r. refl) refl
 verdict_told_lem t x (call.select n) = telling (λ (z : Chosen). select_told z.answer) (select_verdict t x.state n) _ _ _ (λ r. refl) refl
 verdict_told_lem t x (call.tick m) =
     telling (λ (z : Ticked). tick_told z.answer) (tick_verdict t (length x.bytes) (length m) x.state) _ _ _ (λ r. refl)
@@ -220,7 +220,7 @@ admitted_first : (t : List ℕ) (x : Held) (c : Call) → verdict_of t x c ≡ A
 unfolding verdict_of read_verdict select_verdict tick_verdict byte_verdict send_verdict ahead_verdict
 admitted_first t x (call.write w) a = (_, then_first (admitted t (length x.bytes) x.state) _ a)
 admitted_first t x (call.read s) a = (_, then_first (admitted t (length x.bytes) x.state) _ a)
-admitted_first t x (call.readArray s) a = (_, then_first (admitted t (length x.bytes) x.state) _ a)
+admitted_first t x (call.read_array s) a = (_, then_first (admitted t (length x.bytes) x.state) _ a)
 admitted_first t x (call.select n) a = (_, then_first (admitted t (buffer_size t) x.state) _ a)
 admitted_first t x (call.tick m) a = (_, then_first (admitted t (length x.bytes) x.state) _ a)
 admitted_first t x (call.byte_in b) a = (_, then_first (admitted t (length x.bytes) x.state) _ a)
@@ -244,7 +244,7 @@ effect_fits t x c a =
         let k = writable_signal t w.signal (is_bytes w.value) (fits_signal t w.signal w.value) (then_second (admitted t (length x.bytes) x.state) _ a) in
         fits_all t (marked t w.signal x.state) (marked_fits t x.state fits ok w.signal k.below k.is_published)
     by (call.read s) a ok h fits = h
-    by (call.readArray s) a ok h fits = h
+    by (call.read_array s) a ok h fits = h
     by (call.select n) a ok h fits =
         let k = then_second (admitted t (buffer_size t) x.state) _ a in
         fits_all t _ (asking_fits t x.state fits n (ltb-true n (schedule_count t) (unless_test (ltb n (schedule_count t)) number.unknown _ k)))
@@ -269,7 +269,7 @@ effect_length : (t : List ℕ) (x : Held) (c : Call) → verdict_of t x c ≡ Ac
 unfolding effect_of verdict_of byte_verdict
 effect_length t x (call.write w) a = value_length t x.bytes w.signal w.value
 effect_length t x (call.read s) a = refl
-effect_length t x (call.readArray s) a = refl
+effect_length t x (call.read_array s) a = refl
 effect_length t x (call.select n) a = refl
 effect_length t x (call.tick m) a = refl
 effect_length t x (call.byte_in b) a =
@@ -289,7 +289,7 @@ keeps_bytes t x c = kept t x c (λ y. length y.bytes ≡ length x.bytes) refl (e
 abbrev pub changes_bits : Call → Bool
 changes_bits (call.write w) = true
 changes_bits (call.read s) = false
-changes_bits (call.readArray s) = false
+changes_bits (call.read_array s) = false
 changes_bits (call.select n) = false
 changes_bits (call.tick m) = false
 changes_bits (call.byte_in b) = true
@@ -302,7 +302,7 @@ effect_pending : (t : List ℕ) (x : Held) (c : Call) → changes_bits c ≡ fal
 unfolding effect_of
 effect_pending t x (call.write w) n = absurd (let z : ◌≡◌ {A = ℕ} 0 1 = cc in omega arith)
 effect_pending t x (call.read s) n = refl
-effect_pending t x (call.readArray s) n = refl
+effect_pending t x (call.read_array s) n = refl
 effect_pending t x (call.select k) n = refl
 effect_pending t x (call.tick m) n = ticked_pending t x.bytes m x.state
 effect_pending t x (call.byte_in b) n = absurd (let z : ◌≡◌ {A = ℕ} 0 1 = cc in omega arith)
@@ -320,7 +320,7 @@ effect_bits : (t : List ℕ) (x : Held) (c : Call) → length (effect_of t x c).
 unfolding effect_of marked passed failed sent received
 effect_bits t x (call.write w) = marked_length t w.signal 0 x.state.pending
 effect_bits t x (call.read s) = refl
-effect_bits t x (call.readArray s) = refl
+effect_bits t x (call.read_array s) = refl
 effect_bits t x (call.select n) = refl
 effect_bits t x (call.tick m) = ap length (ticked_pending t x.bytes m x.state)
 effect_bits t x (call.byte_in b) =

@@ -116,7 +116,7 @@ tests_told t x (call.write w) vs =
 tests_told t x (call.read s) vs =
     lent_told t x.state vs (length x.bytes) _ _
     (tested vs (ltb s (signal_count t)) 4 _ _ (tested vs (beq (is_array t s) false) 6 _ _ (done vs)))
-tests_told t x (call.readArray s) vs =
+tests_told t x (call.read_array s) vs =
     lent_told t x.state vs (length x.bytes) _ _
     (tested vs (ltb s (signal_count t)) 4 _ _ (tested vs (beq (is_array t s) true) 6 _ _ (done vs)))
 tests_told t x (call.select n) vs = unlent_told t x.state vs _ _ (tested vs (ltb n (schedule_count t)) 4 _ _ (done vs))
@@ -172,9 +172,9 @@ unfolding answer_of told_of
 read_told_lem t x bs s r e = (e, rw e (call_told_lem t (held x bs) (call.read s)))
 
 pub read_array_told : (t : List ℕ) (x : State) (bs : List ℕ) (s : ℕ) (r : ReadArray) → r ≡ read_array_of t x bs s
-    → (r ≡ read_array_of t x bs s) × (array_told r.answer ≡ call_told t (held x bs) (call.readArray s))
+    → (r ≡ read_array_of t x bs s) × (array_told r.answer ≡ call_told t (held x bs) (call.read_array s))
 unfolding answer_of told_of
-read_array_told t x bs s r e = (e, rw e (call_told_lem t (held x bs) (call.readArray s)))
+read_array_told t x bs s r e = (e, rw e (call_told_lem t (held x bs) (call.read_array s)))
 
 pub tick_told_lem : (t bs m : List ℕ) (x : State) (r : Ticked) → r ≡ tick_of t bs m x
     → (r ≡ tick_of t bs m x) × (tick_told r.answer ≡ call_told t (held x bs) (call.tick m))

@@ -62,7 +62,7 @@ send_act nad n (send.Refused r) = nothing
 abbrev pub act_of : Event → Act
 act_of (call.write w ⇒ a) = write_act w.signal w.value a
 act_of (call.read s ⇒ a) = nothing
-act_of (call.readArray s ⇒ a) = nothing
+act_of (call.read_array s ⇒ a) = nothing
 act_of (call.select n ⇒ a) = select_act n a
 act_of (call.tick m ⇒ a) = tick_act m a
 act_of (call.byte_in b ⇒ r) = byte_act b r.answer

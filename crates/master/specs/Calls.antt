@@ -18,7 +18,7 @@ pub data Call : Type 0 where
   -- a signal and a value, or its bytes
   write : Put → Call
   -- a signal
-  read readArray : ℕ → Call
+  read read_array : ℕ → Call
   -- a schedule
   select : ℕ → Call
   -- the lent message
@@ -41,7 +41,7 @@ pub record Reply : Type 0 where
 abbrev pub Answer : Call → Type 0
 Answer (write w) = WriteAnswer
 Answer (read s) = ReadAnswer
-Answer (readArray s) = ReadArray
+Answer (read_array s) = ReadArray
 Answer (select n) = SelectAnswer
 Answer (tick m) = TickAnswer
 Answer (byte_in b) = Reply

@@ -60,7 +60,7 @@ Alike t bs s j k = (is_array t s ≡ false → scalar_at t bs s j ≡ scalar_at 
 abbrev pub ReadsAs : List ℕ → Held → ℕ → Value → Type 0
 ReadsAs t x s (scalar v) = answer_of t x (call.read s) ≡ read.Value v
 ReadsAs t x s (array vs) =
-    Bytes vs → answer_of t x (call.readArray s) ≡ record { answer = bytes.Bytes (length vs); bytes = vs ++ replicate (8 - length vs) 255 }
+    Bytes vs → answer_of t x (call.read_array s) ≡ record { answer = bytes.Bytes (length vs); bytes = vs ++ replicate (8 - length vs) 255 }
 
 -- ---- what a received signal reads as
 

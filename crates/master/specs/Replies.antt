@@ -51,10 +51,10 @@ test holds number later = cond holds later number
 -- "no such signal"; "write to a signal the master doesn't publish"; "scalar call on an array or the reverse"; "value of 2^width or more; array of
 -- another length"
 unfoldable pub write_number : List ℕ → ℕ → Bool → Bool → ℕ
-write_number t s asArray fits =
+write_number t s as_array fits =
     test (ltb s (signal_count t)) 4
     (test (signal_published t s) 5
-    (test (beq (is_array t s) asArray) 6
+    (test (beq (is_array t s) as_array) 6
     (test fits 7
     0)))
 
@@ -65,9 +65,9 @@ put_number t s (array vs) = write_number t s true (array_fits t s vs)
 
 -- "no such signal"; "scalar call on an array or the reverse"
 unfoldable pub read_number : List ℕ → ℕ → Bool → ℕ
-read_number t s asArray =
+read_number t s as_array =
     test (ltb s (signal_count t)) 4
-    (test (beq (is_array t s) asArray) 6
+    (test (beq (is_array t s) as_array) 6
     0)
 
 -- "no such .. schedule"
@@ -209,7 +209,7 @@ pub record AheadReply (t : List ℕ) (h : Seq Scheduled) (f : ℕ) (a : AheadAns
 abbrev pub Replies : List ℕ → Seq Scheduled → (c : Call) → Answer c → Type 0
 Replies t h (call.write w) a = a ≡ write_reply (put_number t w.signal w.value)
 Replies t h (call.read s) a = a ≡ read_reply (read_number t s false) (scalar_read t (bytes_after t h) s (read_from t h s))
-Replies t h (call.readArray s) a = a ≡ read_array_reply (read_number t s true) (array_given t (bytes_after t h) s (read_from t h s))
+Replies t h (call.read_array s) a = a ≡ read_array_reply (read_number t s true) (array_given t (bytes_after t h) s (read_from t h s))
 Replies t h (call.select n) a = a ≡ select_reply (select_number t n)
 Replies t h (call.tick m) a = TickReply t h m a
 Replies t h (call.byte_in b) a = a ≡ byte_reply t (open_after t h) (due_after t h) (got_after h) b

@@ -12,7 +12,7 @@ use Rattle.master.specs.Status.{status_of}
 use Rattle.master.specs.Message.{send_of, message_of}
 use Rattle.master.specs.Ahead.{ahead_of}
 use Rattle.master.specs.Seq.{Seq, ∅, ◌▹◌}
-use Rattle.master.specs.Calls.{Call, write, read, readArray, select, tick, byte_in, read_status, send, message_state, number_ahead, Answer, Event, ◌⇒◌}
+use Rattle.master.specs.Calls.{Call, write, read, read_array, select, tick, byte_in, read_status, send, message_state, number_ahead, Answer, Event, ◌⇒◌}
 
 -- what one call leaves to the next
 pub record Held : Type 0 where
@@ -23,7 +23,7 @@ pub record Held : Type 0 where
 unfoldable pub answer_of : List ℕ → Held → (c : Call) → Answer c
 answer_of t x (write w) = (write_of t x.state x.bytes w).given.answer
 answer_of t x (read s) = read_scalar_of t x.state x.bytes s
-answer_of t x (readArray s) = read_array_of t x.state x.bytes s
+answer_of t x (read_array s) = read_array_of t x.state x.bytes s
 answer_of t x (select n) = (select_of t x.state n).answer
 answer_of t x (tick m) = (tick_of t x.bytes m x.state).answer
 answer_of t x (byte_in b) =
@@ -44,7 +44,7 @@ held s bs = record { state = s; bytes = bs }
 unfoldable pub left_by : List ℕ → Held → Call → Held
 left_by t x (write w) = held (write_of t x.state x.bytes w).given.state (write_of t x.state x.bytes w).left
 left_by t x (read s) = x
-left_by t x (readArray s) = x
+left_by t x (read_array s) = x
 left_by t x (select n) = held (select_of t x.state n).state x.bytes
 left_by t x (tick m) = held (tick_of t x.bytes m x.state).state x.bytes
 left_by t x (byte_in b) = held (byte_of t x.state x.bytes b).given.state (byte_of t x.state x.bytes b).left

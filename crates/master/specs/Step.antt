@@ -36,7 +36,7 @@ use Rattle.master.specs.Put.{with_value}
 unfoldable pub verdict_of : List ℕ → Held → Call → Verdict
 verdict_of t x (call.write w) = write_verdict t (length x.bytes) x.state w
 verdict_of t x (call.read s) = read_verdict t (length x.bytes) x.state s false
-verdict_of t x (call.readArray s) = read_verdict t (length x.bytes) x.state s true
+verdict_of t x (call.read_array s) = read_verdict t (length x.bytes) x.state s true
 verdict_of t x (call.select n) = select_verdict t x.state n
 verdict_of t x (call.tick m) = tick_verdict t (length x.bytes) (length m) x.state
 verdict_of t x (call.byte_in b) = byte_verdict t (length x.bytes) x.state
@@ -49,7 +49,7 @@ verdict_of t x (call.number_ahead f) = ahead_verdict t x.state f
 unfoldable pub effect_of : List ℕ → Held → Call → Held
 effect_of t x (call.write w) = held (marked t w.signal x.state) (with_value t x.bytes w.signal w.value)
 effect_of t x (call.read s) = x
-effect_of t x (call.readArray s) = x
+effect_of t x (call.read_array s) = x
 effect_of t x (call.select n) = held (with_plan x.state (asking x.state.plan n)) x.bytes
 effect_of t x (call.tick m) = held (tick_effect t x.bytes m x.state).state x.bytes
 effect_of t x (call.byte_in b) = held (byte_effect t x.state x.bytes b).given.state (byte_effect t x.state x.bytes b).left
@@ -62,7 +62,7 @@ effect_of t x (call.number_ahead f) = x
 unfoldable pub refusal_of : (c : Call) → Refusal → Answer c
 refusal_of (call.write w) r = write.Refused r
 refusal_of (call.read s) r = read.Refused r
-refusal_of (call.readArray s) r = record { answer = array.Refused r; bytes = replicate 8 255 }
+refusal_of (call.read_array s) r = record { answer = array.Refused r; bytes = replicate 8 255 }
 refusal_of (call.select n) r = select.Refused r
 refusal_of (call.tick m) r = tick.Refused r
 refusal_of (call.byte_in b) r = record { answer = byte.Refused r; response = replicate 8 255 }
@@ -75,7 +75,7 @@ refusal_of (call.number_ahead f) r = ahead.Refused r
 unfoldable pub told_of : (c : Call) → Answer c → Told
 told_of (call.write w) a = write_told a
 told_of (call.read s) a = read_told a
-told_of (call.readArray s) a = array_told a.answer
+told_of (call.read_array s) a = array_told a.answer
 told_of (call.select n) a = select_told a
 told_of (call.tick m) a = tick_told a
 told_of (call.byte_in b) a = byte_told a.answer

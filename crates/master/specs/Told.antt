@@ -58,7 +58,7 @@ tests_of t x (call.read s) =
     ∷ test 4 (ltb s (signal_count t))
     ∷ test 6 (beq (is_array t s) false)
     ∷ []
-tests_of t x (call.readArray s) =
+tests_of t x (call.read_array s) =
     size_test t (length x.bytes)
     ∷ state_test t x.state
     ∷ test 4 (ltb s (signal_count t))
@@ -83,7 +83,7 @@ opened_value t o = cond (is_open o) (open_protected t o ∷ []) []
 unfoldable pub values_of : List ℕ → Held → Call → List ℕ
 values_of t x (call.write w) = []
 values_of t x (call.read s) = scalar_from t x.bytes s (source_of t x.state.received s) ∷ []
-values_of t x (call.readArray s) = (array_from t x.bytes s (source_of t x.state.received s)).count ∷ []
+values_of t x (call.read_array s) = (array_from t x.bytes s (source_of t x.state.received s)).count ∷ []
 values_of t x (call.select n) = []
 values_of t x (call.tick m) = cond (waits x.state.plan) [] (opened_value t (tick_effect t x.bytes m x.state).state.transfer.opened)
 values_of t x (call.byte_in b) = []

@@ -66,7 +66,7 @@ impl State {
     // Reads an array.
     pub fn read_array(self, t: &[u16], bytes: &[u8], s: u16) -> ReadArray
         ensures value { result ≡ read_array_of t.now self bytes.now s }
-        ensures told { array_told result.answer ≡ call_told t.now (held self bytes.now) (call.readArray s) }
+        ensures told { array_told result.answer ≡ call_told t.now (held self bytes.now) (call.read_array s) }
     {
         if let Verdict::Refused(refusal) = self.judge_read(t, bytes.len(), s, true) {
             return ReadArray {

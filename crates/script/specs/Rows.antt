@@ -54,10 +54,10 @@ rows_of room room2 fs = cond (has_colon fs) (both_of (count_of 0 room (first_row
 
 -- two rows were read into two buffers: their counts are told; the numbers of the first before its first field that is none stand in the first
 -- buffer, and, where the first row is right, those of the second so in the second, each as far as there is room
-pub record ReadsRows (fs : List (List ℕ)) (words numbers : List ℕ) (r : Rows) (wordsAfter numbersAfter : List ℕ) : Type 0 where
+pub record ReadsRows (fs : List (List ℕ)) (words numbers : List ℕ) (r : Rows) (words_after numbers_after : List ℕ) : Type 0 where
   pub told : r ≡ rows_of (length words) (length numbers) fs
-  pub first : wordsAfter ≡ fronted (take (length words) (leading (first_row fs))) words
-  pub second : numbersAfter ≡ cond (is_first 0 (length words) fs) (fronted (take (length numbers) (leading (second_row fs))) numbers) numbers
+  pub first : words_after ≡ fronted (take (length words) (leading (first_row fs))) words
+  pub second : numbers_after ≡ cond (is_first 0 (length words) fs) (fronted (take (length numbers) (leading (second_row fs))) numbers) numbers
 
 -- ---- for private contracts
 

@@ -162,7 +162,7 @@ module _ (t : List ℕ) (h : Seq Scheduled) (f : ℕ) (op : open_after t h ≡ F
   came (call.write w ⇒ write.Written) e y = let z : ◌≡◌ {A = ℕ} 0 1 = cc in absurd (omega arith)
   came (call.write w ⇒ write.Refused r) e y = let z : ◌≡◌ {A = ℕ} 0 1 = cc in absurd (omega arith)
   came (call.read s ⇒ a) e y = let z : ◌≡◌ {A = ℕ} 0 1 = cc in absurd (omega arith)
-  came (call.readArray s ⇒ a) e y = let z : ◌≡◌ {A = ℕ} 0 1 = cc in absurd (omega arith)
+  came (call.read_array s ⇒ a) e y = let z : ◌≡◌ {A = ℕ} 0 1 = cc in absurd (omega arith)
   came (call.select n ⇒ select.Selected) e y = let z : ◌≡◌ {A = ℕ} 0 1 = cc in absurd (omega arith)
   came (call.select n ⇒ select.Refused r) e y = let z : ◌≡◌ {A = ℕ} 0 1 = cc in absurd (omega arith)
   came (call.tick m ⇒ tick.Waiting) e y = let z : ◌≡◌ {A = ℕ} 0 1 = cc in absurd (omega arith)
@@ -265,7 +265,7 @@ module _ (t bs : List ℕ) (accepted : (fresh_of t bs).given.answer ≡ Fresh) (
       let m = signal_width t s / 8 in
       let start = signal_start t s in
       let low : start % 256 ≡ start = mod-eq_of_lt (omega (arith, array_start_high t ok s hs a)) in
-      rw a (λ b. (st (call.readArray s)).replies ∙ rw (read_number_lem t bs accepted s hs true a, theirs, e, n, low, length-replicate m start)))
+      rw a (λ b. (st (call.read_array s)).replies ∙ rw (read_number_lem t bs accepted s hs true a, theirs, e, n, low, length-replicate m start)))
       (λ a. rw a ((st (call.read s)).replies ∙ rw (read_number_lem t bs accepted s hs false a, theirs, e)))
 
   -- a signal that the master does not publish reads as its last reception brought it, or as its start value

@@ -164,7 +164,7 @@ write_allowed t x w r v =
 pub call_allowed : (t : List ℕ) (x : Held) (c : Call) (r : ℕ) (v : Value) → act_of (c ⇒ answer_of t x c) ≡ wrote r v → Writable t r (is_bytes v) (fits_signal t r v)
 call_allowed t x (call.write w) r v e = write_allowed t x w r v e
 call_allowed t x (call.read s) r v e = let z : ◌≡◌ {A = ℕ} 0 1 = cc in absurd (omega arith)
-call_allowed t x (call.readArray s) r v e = let z : ◌≡◌ {A = ℕ} 0 1 = cc in absurd (omega arith)
+call_allowed t x (call.read_array s) r v e = let z : ◌≡◌ {A = ℕ} 0 1 = cc in absurd (omega arith)
 call_allowed t x (call.select n) r v e = absurd (select_wrote n (answer_of t x (call.select n)) r v e)
 call_allowed t x (call.tick m) r v e = absurd (tick_wrote m (answer_of t x (call.tick m)) r v e)
 call_allowed t x (call.byte_in b) r v e = absurd (byte_wrote b (answer_of t x (call.byte_in b)).answer r v e)
@@ -218,7 +218,7 @@ module _ (t bs : List ℕ) (accepted : (fresh_of t bs).given.answer ≡ Fresh) (
           (steps t (table_taken t bs accepted) (record_of t bs cs) (held_after t bs cs) is (call.read s)).replies
           ∙ rw (read_number_lem false h.0, from, ← is.frames.bytes_are, h.1)
       by (array vs) h = λ b.
-          (steps t (table_taken t bs accepted) (record_of t bs cs) (held_after t bs cs) is (call.readArray s)).replies
+          (steps t (table_taken t bs accepted) (record_of t bs cs) (held_after t bs cs) is (call.read_array s)).replies
           ∙ rw (read_number_lem true h.0, from, ← is.frames.bytes_are, h.2 b, ← eqb-true (length vs) (array_length t s) h.1)
 
   -- a published signal reads as its last accepted write left it, or as its start value

@@ -43,10 +43,10 @@ reply_is n refuse go v e = ap (λ (w : Verdict). answered w refuse go) (sym e) �
 
 -- ---- each call
 
-write_verdict_lem : (t : List ℕ) (s : ℕ) (asArray fits : Bool) → writable t s asArray fits ≡ by_number (write_number t s asArray fits)
+write_verdict_lem : (t : List ℕ) (s : ℕ) (as_array fits : Bool) → writable t s as_array fits ≡ by_number (write_number t s as_array fits)
 unfolding writable write_number
-write_verdict_lem t s asArray fits =
-    let k = beq (is_array t s) asArray in
+write_verdict_lem t s as_array fits =
+    let k = beq (is_array t s) as_array in
     ap (λ (v : Verdict). unless (ltb s (signal_count t)) 4 (unless (signal_published t s) 5 (unless k 6 v))) (tested fits 7 0 refl)
     ∙ ap (λ (v : Verdict). unless (ltb s (signal_count t)) 4 (unless (signal_published t s) 5 v)) (tested k 6 (test fits 7 0) refl)
     ∙ ap (λ (v : Verdict). unless (ltb s (signal_count t)) 4 v) (tested (signal_published t s) 5 (test k 6 (test fits 7 0)) refl)
@@ -56,11 +56,11 @@ pub put_verdict_lem : (t : List ℕ) (s : ℕ) (v : Value) → writable t s (is_
 put_verdict_lem t s (scalar v) = write_verdict_lem t s false (value_fits t s v)
 put_verdict_lem t s (array vs) = write_verdict_lem t s true (array_fits t s vs)
 
-pub read_verdict_lem : (t : List ℕ) (s : ℕ) (asArray : Bool)
-    → unless (ltb s (signal_count t)) number.unknown (unless (beq (is_array t s) asArray) number.kind Accepted) ≡ by_number (read_number t s asArray)
+pub read_verdict_lem : (t : List ℕ) (s : ℕ) (as_array : Bool)
+    → unless (ltb s (signal_count t)) number.unknown (unless (beq (is_array t s) as_array) number.kind Accepted) ≡ by_number (read_number t s as_array)
 unfolding read_number
-read_verdict_lem t s asArray =
-    let k = beq (is_array t s) asArray in
+read_verdict_lem t s as_array =
+    let k = beq (is_array t s) as_array in
     ap (λ (v : Verdict). unless (ltb s (signal_count t)) 4 v) (tested k 6 0 refl)
     ∙ tested (ltb s (signal_count t)) 4 (test k 6 0) refl
 

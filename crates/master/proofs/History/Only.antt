@@ -148,7 +148,7 @@ module _ (t : List ℕ) (ok : RightTable t) (h : Seq Scheduled) (x : Held) (is :
   one_reply : (c : Call) (a b : Answer c) → Replies t h c a → Replies t h c b → a ≡ b
   one_reply (call.write w) a b p q = p ∙ sym q
   one_reply (call.read s) a b p q = p ∙ sym q
-  one_reply (call.readArray s) a b p q = p ∙ sym q
+  one_reply (call.read_array s) a b p q = p ∙ sym q
   one_reply (call.select n) a b p q = p ∙ sym q
   one_reply (call.tick m) a b p q = tick_one m a b p q
   one_reply (call.byte_in b') a b p q = p ∙ sym q

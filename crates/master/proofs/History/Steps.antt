@@ -141,11 +141,11 @@ module _ (t : List ℕ) (is-taken : TakenTable t) (h : Seq Scheduled) (x : Held)
       (reply_is (read_number t r false) (λ q. read.Refused q) (read.Value v) (read_verdict t (length x.bytes) s r false) (read_inner r false)
       ∙ ap (λ (w : ℕ). read_reply (read_number t r false) w) (scalar_same r))
 
-  step_read_array : (r : ℕ) → Stepped t h (call.readArray r) (answer_of t x (call.readArray r)) (left_by t x (call.readArray r))
+  step_read_array : (r : ℕ) → Stepped t h (call.read_array r) (answer_of t x (call.read_array r)) (left_by t x (call.read_array r))
   unfolding answer_of left_by read_array_of read_array_reply
   step_read_array r =
       let a = array_from t x.bytes r (source_of t s.received r) in
-      step_nothing (call.readArray r) (read_array_of t s x.bytes r) refl
+      step_nothing (call.read_array r) (read_array_of t s x.bytes r) refl
       (reply_is (read_number t r true) (λ q. record { answer = bytes.Refused q; bytes = replicate 8 255 })
       (record { answer = bytes.Bytes a.count; bytes = a.bytes })
       (read_verdict t (length x.bytes) s r true) (read_inner r true)
@@ -237,7 +237,7 @@ module _ (t : List ℕ) (is-taken : TakenTable t) (h : Seq Scheduled) (x : Held)
   pub steps : (c : Call) → Stepped t h c (answer_of t x c) (left_by t x c)
   steps (call.write w) = step_write w
   steps (call.read r) = step_read r
-  steps (call.readArray r) = step_read_array r
+  steps (call.read_array r) = step_read_array r
   steps (call.select n) = step_select n
   steps (call.tick m) = step_tick m
   steps (call.byte_in b) = step_byte b

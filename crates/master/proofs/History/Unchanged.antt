@@ -41,7 +41,7 @@ only_asks : (t : List ℕ) (x : Held) (c : Call) → verdict_of t x c ≡ Accept
 unfolding answer_of verdict_of effect_of write_of select_of tick_of byte_of status_of send_of
 only_asks t x (call.write w) a e = absurd (let q = sym (ap (λ (z : Step Wrote). write_act w.signal w.value z.given.answer) (goes _ _ _ a)) ∙ e in let z : ◌≡◌ {A = ℕ} 0 1 = cc in omega arith)
 only_asks t x (call.read s) a e = refl
-only_asks t x (call.readArray s) a e = refl
+only_asks t x (call.read_array s) a e = refl
 only_asks t x (call.select n) a e = absurd (let q = sym (ap (λ (z : Chosen). select_act n z.answer) (goes _ _ _ a)) ∙ e in let z : ◌≡◌ {A = ℕ} 0 1 = cc in omega arith)
 only_asks t x (call.tick m) a e =
     absurd (ticked_by t x.bytes m (λ w. tick_act m w.answer ≡ nothing → ⊥) x.state

@@ -232,7 +232,7 @@ ending =
     ▹ more 252
     ▹ more 200
     ▹ succeeds 146
-    ▹ (call.readArray 1 ⇒ record { answer = array.Bytes 3; bytes = 4 ∷ 5 ∷ 6 ∷ 255 ∷ 255 ∷ 255 ∷ 255 ∷ 255 ∷ [] })
+    ▹ (call.read_array 1 ⇒ record { answer = array.Bytes 3; bytes = 4 ∷ 5 ∷ 6 ∷ 255 ∷ 255 ∷ 255 ∷ 255 ∷ 255 ∷ [] })
     ▹ (call.read 0 ⇒ read.Value 100)
     ▹ (call.read 1 ⇒ read.Refused (refused 6))
     ▹ (call.write (put 2 (scalar 1)) ⇒ write.Refused (refused 5))
