@@ -9,6 +9,8 @@ import collections
 import glob
 import re
 
+# Constructors and variables that no line declares by itself.
+OTHERS = "readArray asArray outAfter textAfter outNow textNow wordsAfter numbersAfter".split()
 STOP = r"\s(){}.;,@\"«»\[\]`"
 TOKEN = re.compile(rf"(?<![^{STOP}])[^{STOP}]+")
 DECLARED = re.compile(r"(?m)^ *((?:(?:abbrev|unfoldable|opaque|pub|record|data) )*)([^\s(){}:;,=.]+)((?: [^=\n]*?)?) :(?= |$)")
@@ -47,7 +49,7 @@ def main():
         for m in DECLARED.finditer(plain(texts[p], "--")):
             declares[m[2]].add(p)
     # A name that only proofs of functions declare is one of Rattle's, or local.
-    own = {n for n in declares if wants(n) and declares[n] - by_hand}
+    own = {n for n in declares if wants(n) and declares[n] - by_hand} | set(OTHERS)
 
     groups = collections.defaultdict(set)
     for n in own:
