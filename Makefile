@@ -4,7 +4,7 @@
 # proves and builds the bench master and the log program, and runs the story of the mirror: the script with its answers beside it
 run:
 	@mkdir -p build
-	@echo 'Proving and building the programs; the first time takes some six minutes.' >&2
+	@echo 'Proving and building the programs; the first time takes some five minutes.' >&2
 	@{ tests/build bench linlog 2>&1; echo $$? >build/run.status; } | tests/progress build/run.log 17 0 >&2
 	@[ "$$(cat build/run.status)" = 0 ] || { echo 'make run: not proved; build/run.log has what was said' >&2; exit 1; }
 	@demo/run
