@@ -5,7 +5,7 @@
 run:
 	@mkdir -p build
 	@echo 'Proving and building the programs; the first time takes some five minutes.' >&2
-	@{ tests/build bench linlog 2>&1; echo $$? >build/run.status; } | tests/progress build/run.log 17 0 >&2
+	@{ tests/build bench linlog 2>&1; echo $$? >build/run.status; } | tests/progress build/run.log 14 0 >&2
 	@[ "$$(cat build/run.status)" = 0 ] || { echo 'make run: not proved; build/run.log has what was said' >&2; exit 1; }
 	@demo/run
 

@@ -1,4 +1,4 @@
-/* The entry points of the LIN core for a host in C; link target/staticlib/libhost.a (`rt staticlib host`).
+/* The entry points of the LIN core for a host in C; link target/staticlib/libhost.a (`tests/build host`).
  *
  * Each accepts every number and every slice, and answers one number. Of the calls of the wire the low byte is the value, the
  * next byte the refusal number of documents 01 and 02, 0 for none; of the table check and the judge the low sixteen bits are
