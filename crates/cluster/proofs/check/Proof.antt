@@ -37,35 +37,35 @@ table7 c = table6 c.before.before
 
 -- what is left to be judged behind each section that accepts
 
-header-right : (c : tie.In_default) → header_faults (table1 c) ≡ Accepted
-header-right c = sym c.before.judge.ensures ∙ c.in_default.is
+header_right : (c : tie.In_default) → header_faults (table1 c) ≡ Accepted
+header_right c = sym c.before.judge.ensures ∙ c.in_default.is
 
-frames-left : (c : tie.In_default) → judged (table1 c) ≡ from_frames (table1 c)
-frames-left c = judged_sections (table1 c) ∙ rw (header-right c)
+frames_left : (c : tie.In_default) → judged (table1 c) ≡ from_frames (table1 c)
+frames_left c = judged_sections (table1 c) ∙ rw (header_right c)
 
-frames-right : (c : tie.In_default-judge) → frame_faults (table2 c) ≡ Accepted
-frames-right c = sym c.before.judge-2.ensures ∙ c.in_default-judge.is
+frames_right : (c : tie.In_default-judge) → frame_faults (table2 c) ≡ Accepted
+frames_right c = sym c.before.judge-2.ensures ∙ c.in_default-judge.is
 
-signals-left : (c : tie.In_default-judge) → judged (table2 c) ≡ from_signals (table2 c)
-signals-left c = frames-left c.before.before ∙ rw (frames-right c)
+signals_left : (c : tie.In_default-judge) → judged (table2 c) ≡ from_signals (table2 c)
+signals_left c = frames_left c.before.before ∙ rw (frames_right c)
 
-signals-right : (c : tie.In_default-judge-2) → signal_faults (table3 c) ≡ Accepted
-signals-right c = sym c.before.judge-3.ensures ∙ c.in_default-judge-2.is
+signals_right : (c : tie.In_default-judge-2) → signal_faults (table3 c) ≡ Accepted
+signals_right c = sym c.before.judge-3.ensures ∙ c.in_default-judge-2.is
 
-placements-left : (c : tie.In_default-judge-2) → judged (table3 c) ≡ from_placements (table3 c)
-placements-left c = signals-left c.before.before ∙ rw (signals-right c)
+placements_left : (c : tie.In_default-judge-2) → judged (table3 c) ≡ from_placements (table3 c)
+placements_left c = signals_left c.before.before ∙ rw (signals_right c)
 
-unplaced-left : (c : tie.In_default-judge-3) → judged (table4 c) ≡ from_unplaced (table4 c)
-unplaced-left c = placements-left c.before.before ∙ rw (sym c.before.judge-4.ensures ∙ c.in_default-judge-3.is)
+unplaced_left : (c : tie.In_default-judge-3) → judged (table4 c) ≡ from_unplaced (table4 c)
+unplaced_left c = placements_left c.before.before ∙ rw (sym c.before.judge-4.ensures ∙ c.in_default-judge-3.is)
 
-members-left : (c : tie.In_default-unplaced) → judged (table5 c) ≡ from_members (table5 c)
-members-left c = unplaced-left c.before.before ∙ rw (sym c.before.unplaced.ensures ∙ c.in_default-unplaced.is)
+members_left : (c : tie.In_default-unplaced) → judged (table5 c) ≡ from_members (table5 c)
+members_left c = unplaced_left c.before.before ∙ rw (sym c.before.unplaced.ensures ∙ c.in_default-unplaced.is)
 
-entries-left : (c : tie.In_default-judge-4) → judged (table6 c) ≡ from_entries (table6 c)
-entries-left c = members-left c.before.before ∙ rw (sym c.before.judge-5.ensures ∙ c.in_default-judge-4.is)
+entries_left : (c : tie.In_default-judge-4) → judged (table6 c) ≡ from_entries (table6 c)
+entries_left c = members_left c.before.before ∙ rw (sym c.before.judge-5.ensures ∙ c.in_default-judge-4.is)
 
 nothing_left : (c : tie.In_default-judge-5) → judged (table7 c) ≡ surplus (table7 c)
-nothing_left c = entries-left c.before.before ∙ rw (sym c.before.judge-6.ensures ∙ c.in_default-judge-5.is)
+nothing_left c = entries_left c.before.before ∙ rw (sym c.before.judge-6.ensures ∙ c.in_default-judge-5.is)
 
 -- what the header says, where each section is passed
 
@@ -82,69 +82,69 @@ returns c =
     let refused = sym c.before.judge.ensures ∙ c.in-Refused.is in
     check_told_lem _ _ (rw (judged_sections c.before.before.before.args.t.now, refused))
 
-judge-requires-2 : tie.Need-judge-requires-2
-judge-requires-2 c κs = (header_passed (table1 c) (header-right c)).0
+judge_requires_2 : tie.Need-judge-requires-2
+judge_requires_2 c κs = (header_passed (table1 c) (header_right c)).0
 
-returns-2 : tie.Need-returns-in-Refused-judge
-returns-2 c =
+returns_2 : tie.Need-returns-in-Refused-judge
+returns_2 c =
     let refused = sym c.before.judge-2.ensures ∙ c.in-Refused-judge.is in
-    check_told_lem _ _ (rw (frames-left c.before.before, refused))
+    check_told_lem _ _ (rw (frames_left c.before.before, refused))
 
-judge-requires-3 : tie.Need-judge-requires-3
-judge-requires-3 c κs =
-    let counts = header_passed (table2 c) (header-right c.before.before) in
+judge_requires_3 : tie.Need-judge-requires-3
+judge_requires_3 c κs =
+    let counts = header_passed (table2 c) (header_right c.before.before) in
     (counts.0, counts.1)
 
-returns-3 : tie.Need-returns-in-Refused-judge-2
-returns-3 c =
+returns_3 : tie.Need-returns-in-Refused-judge-2
+returns_3 c =
     let refused = sym c.before.judge-3.ensures ∙ c.in-Refused-judge-2.is in
-    check_told_lem _ _ (rw (signals-left c.before.before, refused))
+    check_told_lem _ _ (rw (signals_left c.before.before, refused))
 
 -- the records that those behind the signals name
-records-there : (c : tie.In_default-judge-2) → RecordsBefore (table3 c)
-records-there c = records_passed (table3 c) (header-right (header3 c)) (frames-right c.before.before) (signals-right c)
+records_there : (c : tie.In_default-judge-2) → RecordsBefore (table3 c)
+records_there c = records_passed (table3 c) (header_right (header3 c)) (frames_right c.before.before) (signals_right c)
 
-judge-requires-4 : tie.Need-judge-requires-4
-judge-requires-4 c κs = ((header_passed (table3 c) (header-right (header3 c))).4, records-there c)
+judge_requires_4 : tie.Need-judge-requires-4
+judge_requires_4 c κs = ((header_passed (table3 c) (header_right (header3 c))).4, records_there c)
 
-returns-4 : tie.Need-returns-in-Refused-judge-3
-returns-4 c =
+returns_4 : tie.Need-returns-in-Refused-judge-3
+returns_4 c =
     let refused = sym c.before.judge-4.ensures ∙ c.in-Refused-judge-3.is in
-    check_told_lem _ _ (rw (placements-left c.before.before, refused))
+    check_told_lem _ _ (rw (placements_left c.before.before, refused))
 
-returns-5 : tie.Need-returns-in-Refused-unplaced
-returns-5 c =
+returns_5 : tie.Need-returns-in-Refused-unplaced
+returns_5 c =
     let refused = sym c.before.unplaced.ensures ∙ c.in-Refused-unplaced.is in
-    check_told_lem _ _ (rw (unplaced-left c.before.before, refused))
+    check_told_lem _ _ (rw (unplaced_left c.before.before, refused))
 
-judge-requires-5 : tie.Need-judge-requires-5
-judge-requires-5 c κs =
-    let counts = header_passed (table5 c) (header-right (header5 c)) in
-    (records-there c.before.before.before.before, counts.2, counts.4)
+judge_requires_5 : tie.Need-judge-requires-5
+judge_requires_5 c κs =
+    let counts = header_passed (table5 c) (header_right (header5 c)) in
+    (records_there c.before.before.before.before, counts.2, counts.4)
 
-returns-6 : tie.Need-returns-in-Refused-judge-4
-returns-6 c =
+returns_6 : tie.Need-returns-in-Refused-judge-4
+returns_6 c =
     let refused = sym c.before.judge-5.ensures ∙ c.in-Refused-judge-4.is in
-    check_told_lem _ _ (rw (members-left c.before.before, refused))
+    check_told_lem _ _ (rw (members_left c.before.before, refused))
 
-judge-requires-6 : tie.Need-judge-requires-6
-judge-requires-6 c κs =
-    let counts = header_passed (table6 c) (header-right (header5 c.before.before)) in
+judge_requires_6 : tie.Need-judge-requires-6
+judge_requires_6 c κs =
+    let counts = header_passed (table6 c) (header_right (header5 c.before.before)) in
     ((counts.0, counts.1, counts.2), (counts.3, counts.4))
 
-returns-7 : tie.Need-returns-in-Refused-judge-5
-returns-7 c =
+returns_7 : tie.Need-returns-in-Refused-judge-5
+returns_7 c =
     let refused = sym c.before.judge-6.ensures ∙ c.in-Refused-judge-5.is in
-    check_told_lem _ _ (rw (entries-left c.before.before, refused))
+    check_told_lem _ _ (rw (entries_left c.before.before, refused))
 
-returns-8 : tie.Need-returns
-returns-8 c = check_told_lem _ _ (c.surplus.ensures ∙ sym (nothing_left c.before))
+returns_8 : tie.Need-returns
+returns_8 c = check_told_lem _ _ (c.surplus.ensures ∙ sym (nothing_left c.before))
 
 pub check_spec : {M : Type 1} → statement M
 check_spec =
     tie.close
-    (tie.spec (λ c κs. search rules) (λ c. search rules) returns (λ c. search rules) judge-requires-2
-    (λ c. search rules) returns-2 (λ c. search rules) judge-requires-3 (λ c. search rules) returns-3
-    (λ c. search rules) judge-requires-4 (λ c. search rules) returns-4 (λ c. search rules) (λ c κs. search rules)
-    (λ c. search rules) returns-5 (λ c. search rules) judge-requires-5 (λ c. search rules) returns-6 (λ c. search rules) judge-requires-6
-    (λ c. search rules) returns-7 (λ c. search rules) (λ c κs. search rules) returns-8)
+    (tie.spec (λ c κs. search rules) (λ c. search rules) returns (λ c. search rules) judge_requires_2
+    (λ c. search rules) returns_2 (λ c. search rules) judge_requires_3 (λ c. search rules) returns_3
+    (λ c. search rules) judge_requires_4 (λ c. search rules) returns_4 (λ c. search rules) (λ c κs. search rules)
+    (λ c. search rules) returns_5 (λ c. search rules) judge_requires_5 (λ c. search rules) returns_6 (λ c. search rules) judge_requires_6
+    (λ c. search rules) returns_7 (λ c. search rules) (λ c κs. search rules) returns_8)

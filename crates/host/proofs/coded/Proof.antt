@@ -9,12 +9,12 @@ returns : tie.Need-returns-in-Byte
 unfolding coded
 returns c = rw c.in-Byte.is (omega arith)
 
-returns-2 : tie.Need-returns-in-Refused
+returns_2 : tie.Need-returns-in-Refused
 unfolding coded
-returns-2 c = rw c.before.in-Refused.is (omega arith)
+returns_2 c = rw c.before.in-Refused.is (omega arith)
 
 pub coded_spec : {M : Type 1} → statement M
 coded_spec =
     tie.close
     (tie.spec (λ c. search rules) (λ c. search rules) (λ c. search rules) (λ c. search rules) (λ c. search rules)
-    returns returns-2)
+    returns returns_2)

@@ -12,18 +12,18 @@ use Rattle.host.proofs.lin_check.Tie as tie
 refused : (c : tie.In-Refused) → taken_of c.before.before.before.args.table.now ≡ Refused c.in-Refused.refusal
 refused c = sym c.before.taken.ensures.0 ∙ c.in-Refused.is
 
-placed-requires : tie.Need-placed-requires
-placed-requires c κs = omega (arith, taken_high _ _ (refused c))
+placed_requires : tie.Need-placed-requires
+placed_requires c κs = omega (arith, taken_high _ _ (refused c))
 
 returns : tie.Need-returns-in-Accepted
 unfolding table_coded
 returns c = rw (sym c.before.taken.ensures.0 ∙ c.in-Accepted.is)
 
-returns-2 : tie.Need-returns-in-Refused
+returns_2 : tie.Need-returns-in-Refused
 unfolding table_coded
-returns-2 c = rw (refused c.before) c.placed.ensures
+returns_2 c = rw (refused c.before) c.placed.ensures
 
 pub lin_check_spec : {M : Type 1} → statement M
 lin_check_spec =
     tie.close
-    (tie.spec (λ c κs. search rules) (λ c. search rules) (λ c. search rules) placed-requires returns returns-2)
+    (tie.spec (λ c κs. search rules) (λ c. search rules) (λ c. search rules) placed_requires returns returns_2)

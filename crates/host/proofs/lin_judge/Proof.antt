@@ -14,23 +14,23 @@ refused : (c : tie.In-Refused)
     ≡ Refused c.in-Refused.refusal
 refused c = sym c.before.judge.ensures.0 ∙ c.in-Refused.is
 
-placed-requires : tie.Need-placed-requires
-placed-requires c κs = omega (arith, refused_high _ _ _ _ (refused c))
+placed_requires : tie.Need-placed-requires
+placed_requires c κs = omega (arith, refused_high _ _ _ _ (refused c))
 
 returns : tie.Need-returns-in-Holds
 unfolding judge_coded
 returns c = rw (sym c.before.judge.ensures.0 ∙ c.in-Holds.is)
 
-returns-2 : tie.Need-returns-in-Short
+returns_2 : tie.Need-returns-in-Short
 unfolding judge_coded
-returns-2 c = rw (sym c.before.judge.ensures.0 ∙ c.in-Short.is) (omega arith)
+returns_2 c = rw (sym c.before.judge.ensures.0 ∙ c.in-Short.is) (omega arith)
 
-returns-3 : tie.Need-returns-in-Refused
+returns_3 : tie.Need-returns-in-Refused
 unfolding judge_coded
-returns-3 c = rw (refused c.before) (c.placed.ensures ∙ omega arith)
+returns_3 c = rw (refused c.before) (c.placed.ensures ∙ omega arith)
 
 pub lin_judge_spec : {M : Type 1} → statement M
 lin_judge_spec =
     tie.close
     (tie.spec (λ c κs. search rules) (λ c. search rules) (λ c. search rules) (λ c. search rules) (λ c. search rules) (λ c. search rules)
-    placed-requires returns returns-2 returns-3)
+    placed_requires returns returns_2 returns_3)

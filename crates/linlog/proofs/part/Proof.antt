@@ -10,8 +10,8 @@ returns c =
     let bad = negative start.before.before.before.before.args.got start.before.before.before.before.ranges.got c.before.if-got-lt0.true in
     goes_failed _ _ _ _ _ _ _ bad.0 bad.1 record { no_rows = refl; none_kept = c.ended.ensures.0; over = c.ended.ensures.1 }
 
-returns-2 : tie.Need-returns-then-more-eq0
-returns-2 c =
+returns_2 : tie.Need-returns-then-more-eq0
+returns_2 c =
     let start = c in
     let was = c in
     let none = counted start.before.before.before.before.before.before.before.before.before.before.before.before.before.args.got _ _ _ start.before.before.before.before.before.before.before.before.before.before.before.before.before.ranges.got start.before.before.before.before.before.before.before.before.before.before.before.before.before.requires.1
@@ -19,13 +19,13 @@ returns-2 c =
     was.before.before.before.before.before.before.before.before.count-more.ensures.1 (simp (length-take, length-drop) (omega arith)) in
     goes_over _ _ _ _ _ _ _ (rw was.before.before.before.before.before.before.before.if-more-eq0.true at none) c.before.before.before.before.last.ensures
 
-whole-lines-requires : tie.Need-whole_lines-requires
-whole-lines-requires c κs =
+whole_lines_requires : tie.Need-whole_lines-requires
+whole_lines_requires c κs =
     let start = c in
     (omega (arith, start.before.before.before.before.before.before.before.before.requires.0, simp (length-take, length-drop) at c.before.before.before.count-more.ensures.0.0), start.before.before.before.before.before.before.before.before.requires.2)
 
-returns-3 : tie.Need-returns
-returns-3 c =
+returns_3 : tie.Need-returns
+returns_3 c =
     let start = c in
     let was = c in
     let some = counted start.before.before.before.before.before.before.before.before.before.before.before.before.before.args.got _ _ _ start.before.before.before.before.before.before.before.before.before.before.before.before.before.ranges.got start.before.before.before.before.before.before.before.before.before.before.before.before.before.requires.1
@@ -37,5 +37,5 @@ pub part_spec : {M : Type 1} → statement M
 part_spec =
     tie.close
     (tie.spec (λ c κs. search rules) returns (λ c. search rules) (λ c. search rules) (λ c. search rules) (λ c κs. search rules)
-    (λ c κs. search rules) (λ c. search rules) (λ c. search rules) returns-2 (λ c. search rules) whole-lines-requires
-    (λ c. search rules) (λ c. search rules) returns-3)
+    (λ c κs. search rules) (λ c. search rules) (λ c. search rules) returns_2 (λ c. search rules) whole_lines_requires
+    (λ c. search rules) (λ c. search rules) returns_3)

@@ -6,32 +6,32 @@ use Rattle.linlog.proofs.PartLaws.{few_kept}
 use Rattle.linlog.proofs.run.Statement.{statement}
 use Rattle.linlog.proofs.run.Tie as tie
 
-abbrev invariant-loop : tie.invariant-loop-turns
-invariant-loop rt text₀ out₀ log₀ turns₀ text out log turns =
+abbrev invariant_loop : tie.invariant-loop-turns
+invariant_loop rt text₀ out₀ log₀ turns₀ text out log turns =
     (length text ≡ length text₀) × (length out ≡ length out₀) × (log.kept ≤ kept_length) × (turns ≤ 18446744073709551615)
     × Ran text₀ out₀ (18446744073709551615 - turns) log text out
 
-abbrev decreases-loop : tie.decreases-loop-turns
-decreases-loop rt text₀ out₀ log₀ turns₀ text out log turns = turns
+abbrev decreases_loop : tie.decreases-loop-turns
+decreases_loop rt text₀ out₀ log₀ turns₀ text out log turns = turns
 
-loop-holds : tie.Need-loop-turns-init invariant-loop decreases-loop
+loop_holds : tie.Need-loop-turns-init invariant_loop decreases_loop
 unfolding started
-loop-holds c = (refl, refl, rw c.started-log.ensures (omega arith), omega arith, rw c.started-log.ensures none)
+loop_holds c = (refl, refl, rw c.started-log.ensures (omega arith), omega arith, rw c.started-log.ensures none)
 
-turn-requires : tie.Need-turn-log-requires invariant-loop decreases-loop
-turn-requires c κs =
+turn_requires : tie.Need-turn-log-requires invariant_loop decreases_loop
+turn_requires c κs =
     let now = c.before.before.before.before.loop-turns.invariant in
     let asked = c.before.before.before.before.before.before.before.before.requires in
     (omega (arith, now.0, now.2, asked.0), omega (arith, now.0, now.1, asked.1))
 
-sub-turns : tie.Need-overflow_sub-turns invariant-loop decreases-loop
-sub-turns c = omega arith
+sub_turns : tie.Need-overflow_sub-turns invariant_loop decreases_loop
+sub_turns c = omega arith
 
-loop-less : tie.Need-loop-turns-smaller invariant-loop decreases-loop
-loop-less c = omega arith
+loop_less : tie.Need-loop-turns-smaller invariant_loop decreases_loop
+loop_less c = omega arith
 
-loop-again : tie.Need-loop-turns-preserved invariant-loop decreases-loop
-loop-again c =
+loop_again : tie.Need-loop-turns-preserved invariant_loop decreases_loop
+loop_again c =
     let test = c in
     let now = test.before.before.before.before.before.before.before.before.before.loop-turns.invariant in
     let turn = c.before.before.before.before.turn-log in
@@ -44,39 +44,39 @@ loop-again c =
       rw more (turned now.4 c.before.before.before.before.before.before.before.if-log.true turn.ensures),
     )
 
-same_length : tie.Need-shape_of-text-else-log invariant-loop decreases-loop
+same_length : tie.Need-shape_of-text-else-log invariant_loop decreases_loop
 same_length c = c.before.before.loop-turns.invariant.0
 
-same-length-2 : tie.Need-shape_of-out-else-log invariant-loop decreases-loop
-same-length-2 c = c.before.before.loop-turns.invariant.1
+same_length_2 : tie.Need-shape_of-out-else-log invariant_loop decreases_loop
+same_length_2 c = c.before.before.loop-turns.invariant.1
 
-returns : tie.Need-returns-else-log invariant-loop decreases-loop
+returns : tie.Need-returns-else-log invariant_loop decreases_loop
 returns c = record { turns = _; last = _; ran = c.before.before.loop-turns.invariant.4; over = inl c.if-log.false }
 
-same-length-3 : tie.Need-shape_of-text-after-loop-turns invariant-loop decreases-loop
-same-length-3 c = c.before.loop-turns.invariant.0
+same_length_3 : tie.Need-shape_of-text-after-loop-turns invariant_loop decreases_loop
+same_length_3 c = c.before.loop-turns.invariant.0
 
-same-length-4 : tie.Need-shape_of-out-after-loop-turns invariant-loop decreases-loop
-same-length-4 c = c.before.loop-turns.invariant.1
+same_length_4 : tie.Need-shape_of-out-after-loop-turns invariant_loop decreases_loop
+same_length_4 c = c.before.loop-turns.invariant.1
 
-returns-2 : tie.Need-returns-after-loop-turns invariant-loop decreases-loop
-returns-2 c = record { turns = _; last = _; ran = c.before.loop-turns.invariant.4; over = inr (omega (arith, c.loop-turns-test.false)) }
+returns_2 : tie.Need-returns-after-loop-turns invariant_loop decreases_loop
+returns_2 c = record { turns = _; last = _; ran = c.before.loop-turns.invariant.4; over = inr (omega (arith, c.loop-turns-test.false)) }
 
 pub run_spec : {M : Type 1} → statement M
 run_spec =
     tie.close
     (tie.spec
-    invariant-loop
-    decreases-loop
+    invariant_loop
+    decreases_loop
     (λ c κs. search rules)
-    loop-holds
-    turn-requires
-    sub-turns
-    loop-less
-    loop-again
+    loop_holds
+    turn_requires
+    sub_turns
+    loop_less
+    loop_again
     same_length
-    same-length-2
+    same_length_2
     returns
-    same-length-3
-    same-length-4
-    returns-2)
+    same_length_3
+    same_length_4
+    returns_2)

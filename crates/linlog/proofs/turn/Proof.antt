@@ -5,8 +5,8 @@ use Rattle.linlog.proofs.PartLaws.{moved_back}
 use Rattle.linlog.proofs.turn.Statement.{statement}
 use Rattle.linlog.proofs.turn.Tie as tie
 
-part-requires : tie.Need-part-requires
-part-requires c κs =
+part_requires : tie.Need-part-requires
+part_requires c κs =
     let start = c in
     let read = c.before.before.before.before.read-got in
     let kept = start.before.before.before.before.before.before.before.before.before.before.args.log.kept in
@@ -40,4 +40,4 @@ pub turn_spec : {M : Type 1} → statement M
 turn_spec =
     tie.close
     (tie.spec (λ c. search rules) (λ c. search rules) (λ c. search rules) (λ c κs. search rules)
-    part-requires (λ c. search rules) (λ c. search rules) returns)
+    part_requires (λ c. search rules) (λ c. search rules) returns)

@@ -6,17 +6,17 @@ use Rattle.linlog.proofs.PartLaws.{step}
 use Rattle.linlog.proofs.whole_lines.Statement.{statement}
 use Rattle.linlog.proofs.whole_lines.Tie as tie
 
-slice-aggregate-write-2 : tie.Need-slice_bounds-write-end-3
-slice-aggregate-write-2 c = sym (length-take-le _ c.before.before.before.before.args.text.now (omega (arith, c.before.before.before.before.requires.0)))
+slice_aggregate_write_2 : tie.Need-slice_bounds-write-end-3
+slice_aggregate_write_2 c = sym (length-take-le _ c.before.before.before.before.args.text.now (omega (arith, c.before.before.before.before.requires.0)))
 
-slice-reshare-prefix-write-out : tie.Need-slice_bounds-write_out-end
-slice-reshare-prefix-write-out c = put_within _ _ _ _ _ _ _ c.before.before.write-written.ensures.0
+slice_reshare_prefix_write_out : tie.Need-slice_bounds-write_out-end
+slice_reshare_prefix_write_out c = put_within _ _ _ _ _ _ _ c.before.before.write-written.ensures.0
 
-slice-aggregate-write-out : tie.Need-slice_bounds-write_out-end-2
-slice-aggregate-write-out c = sym (length-take-le _ _ (put_within _ _ _ _ _ _ _ c.before.before.write-written.ensures.0))
+slice_aggregate_write_out : tie.Need-slice_bounds-write_out-end-2
+slice_aggregate_write_out c = sym (length-take-le _ _ (put_within _ _ _ _ _ _ _ c.before.before.write-written.ensures.0))
 
-slice-aggregate-keep : tie.Need-slice_bounds-keep-end-2
-slice-aggregate-keep c = sym (length-take-le _ c.before.before.before.before.before.before.before.before.before.before.before.args.text.now (omega (
+slice_aggregate_keep : tie.Need-slice_bounds-keep-end-2
+slice_aggregate_keep c = sym (length-take-le _ c.before.before.before.before.before.before.before.before.before.before.before.args.text.now (omega (
   arith,
   c.before.before.before.before.before.before.before.before.before.before.before.requires.0,
 )))
@@ -34,7 +34,7 @@ returns c =
 pub whole_lines_spec : {M : Type 1} → statement M
 whole_lines_spec =
     tie.close
-    (tie.spec (λ c κs. search rules) (λ c. search rules) (λ c. search rules) slice-aggregate-write-2
-    (λ c κs. search rules) slice-reshare-prefix-write-out slice-aggregate-write-out (λ c κs. search rules)
-    (λ c κs. search rules) (λ c. search rules) slice-aggregate-keep (λ c κs. search rules) (λ c. search rules)
+    (tie.spec (λ c κs. search rules) (λ c. search rules) (λ c. search rules) slice_aggregate_write_2
+    (λ c κs. search rules) slice_reshare_prefix_write_out slice_aggregate_write_out (λ c κs. search rules)
+    (λ c κs. search rules) (λ c. search rules) slice_aggregate_keep (λ c κs. search rules) (λ c. search rules)
     (λ c. search rules) returns)

@@ -9,18 +9,18 @@ use Rattle.signal.proofs.Arrays.{gotten, gotten_none, gotten_all, get_turn}
 use Rattle.signal.proofs.get_array.Statement.{statement}
 use Rattle.signal.proofs.get_array.Tie as tie
 
-abbrev invariant-loop : tie.invariant-loop-i
-invariant-loop bytes offset values₀ i₀ values i =
+abbrev invariant_loop : tie.invariant-loop-i
+invariant_loop bytes offset values₀ i₀ values i =
     (i ≤ length values₀) × (length values ≡ length values₀) × (values ≡ gotten (λ k. bit_at bytes (offset + k)) i values₀)
 
-abbrev decreases-loop : tie.decreases-loop-i
-decreases-loop bytes offset values₀ i₀ values i = length values₀ - i
+abbrev decreases_loop : tie.decreases-loop-i
+decreases_loop bytes offset values₀ i₀ values i = length values₀ - i
 
-loop-holds : tie.Need-loop-i-init invariant-loop decreases-loop
-loop-holds c = (omega arith, refl, gotten_none _ _)
+loop_holds : tie.Need-loop-i-init invariant_loop decreases_loop
+loop_holds c = (omega arith, refl, gotten_none _ _)
 
-loop-again : tie.Need-loop-i-preserved invariant-loop decreases-loop
-loop-again c =
+loop_again : tie.Need-loop-i-preserved invariant_loop decreases_loop
+loop_again c =
     let o = c.before.before.before.before.before.args.offset in
     let i = c.before.before.loop-i.i in
     let e : 8 * (o / 8 + i) + o % 8 ≡ o + 8 * i = omega arith in (
@@ -29,15 +29,15 @@ loop-again c =
       get_turn _ _ _ _ _ _ _ _ e (omega arith) c.before.before.loop-i.invariant.2 c.get_at.ensures,
     )
 
-same_length : tie.Need-shape_of-values invariant-loop decreases-loop
+same_length : tie.Need-shape_of-values invariant_loop decreases_loop
 same_length c = c.before.loop-i.invariant.1
 
-returns : tie.Need-returns invariant-loop decreases-loop
+returns : tie.Need-returns invariant_loop decreases_loop
 unfolding get_array
 returns c = c.before.loop-i.invariant.2 ∙ gotten_all _ _ _ (omega arith)
 
 pub get_array_spec : {M : Type 1} → statement M
 get_array_spec =
     tie.close
-    (tie.spec invariant-loop decreases-loop loop-holds (λ c. search rules) (λ c. search rules) (λ c κs. search rules) (λ c. search rules)
-    (λ c. search rules) (λ c. search rules) (λ c. search rules) loop-again same_length returns)
+    (tie.spec invariant_loop decreases_loop loop_holds (λ c. search rules) (λ c. search rules) (λ c κs. search rules) (λ c. search rules)
+    (λ c. search rules) (λ c. search rules) (λ c. search rules) loop_again same_length returns)

@@ -8,8 +8,8 @@ use Rattle.signal.proofs.Windows.{get_window}
 use Rattle.signal.proofs.get_at.Statement.{statement}
 use Rattle.signal.proofs.get_at.Tie as tie
 
-cast-result : tie.Need-overflow_cast-result
-cast-result c =
+cast_result : tie.Need-overflow_cast-result
+cast_result c =
     omega (
       arith,
       mod-lt (c.before.before.window.result / c.before.power.result) c.power-2.ensures.1,
@@ -26,4 +26,4 @@ pub get_at_spec : {M : Type 1} → statement M
 get_at_spec =
     tie.close
     (tie.spec (λ c κs. search rules) (λ c κs. search rules) (λ c. search rules) (λ c κs. search rules)
-    (λ c. search rules) cast-result returns)
+    (λ c. search rules) cast_result returns)

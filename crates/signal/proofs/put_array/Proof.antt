@@ -10,36 +10,36 @@ use Rattle.signal.proofs.PutBits.{put_none, put_length}
 use Rattle.signal.proofs.put_array.Statement.{statement}
 use Rattle.signal.proofs.put_array.Tie as tie
 
-abbrev invariant-loop : tie.invariant-loop-i
-invariant-loop bytes₀ offset values i₀ bytes i =
+abbrev invariant_loop : tie.invariant-loop-i
+invariant_loop bytes₀ offset values i₀ bytes i =
     (i ≤ length values) × (bytes ≡ put_bits bytes₀ offset (8 * i) (bit_at values))
 
-abbrev decreases-loop : tie.decreases-loop-i
-decreases-loop bytes₀ offset values i₀ bytes i = length values - i
+abbrev decreases_loop : tie.decreases-loop-i
+decreases_loop bytes₀ offset values i₀ bytes i = length values - i
 
-loop-holds : tie.Need-loop-i-init invariant-loop decreases-loop
-loop-holds c =
+loop_holds : tie.Need-loop-i-init invariant_loop decreases_loop
+loop_holds c =
     (omega arith, sym (put_none _ _ _ (λ i. (c.before.slice_known-1.given i).fits)))
 
-cast-put-at-2 : tie.Need-overflow_cast-values invariant-loop decreases-loop
-cast-put-at-2 c = omega (arith, c.shared_slice_known-in-loop-i-1.given c.before.before.before.loop-i.i)
+cast_put_at_2 : tie.Need-overflow_cast-values invariant_loop decreases_loop
+cast_put_at_2 c = omega (arith, c.shared_slice_known-in-loop-i-1.given c.before.before.before.loop-i.i)
 
-loop-again : tie.Need-loop-i-preserved invariant-loop decreases-loop
-loop-again c =
+loop_again : tie.Need-loop-i-preserved invariant_loop decreases_loop
+loop_again c =
     let o = c.before.before.before.before.before.before.before.before.before.args.offset in
     let i = c.before.before.before.before.before.before.loop-i.i in
     let e : 8 * (o / 8 + i) + o % 8 ≡ o + 8 * i = omega arith in
     (omega arith, put_turn _ _ _ _ _ _ _ _ e c.before.before.before.before.before.before.loop-i.invariant.1 c.before.before.put_at.ensures)
 
-same_length : tie.Need-shape_of-bytes invariant-loop decreases-loop
+same_length : tie.Need-shape_of-bytes invariant_loop decreases_loop
 same_length c = ap length c.before.loop-i.invariant.1 ∙ put_length _ _ _ _
 
-returns : tie.Need-returns invariant-loop decreases-loop
+returns : tie.Need-returns invariant_loop decreases_loop
 unfolding put_array
 returns c = let e : c.before.loop-i.i ≡ length c.before.before.before.before.args.values.now = omega arith in c.before.loop-i.invariant.1 ∙ rw e
 
 pub put_array_spec : {M : Type 1} → statement M
 put_array_spec =
     tie.close
-    (tie.spec invariant-loop decreases-loop loop-holds (λ c. search rules) (λ c. search rules) (λ c. search rules) cast-put-at-2
-    (λ c κs. search rules) (λ c. search rules) (λ c. search rules) loop-again same_length returns)
+    (tie.spec invariant_loop decreases_loop loop_holds (λ c. search rules) (λ c. search rules) (λ c. search rules) cast_put_at_2
+    (λ c κs. search rules) (λ c. search rules) (λ c. search rules) loop_again same_length returns)

@@ -7,8 +7,8 @@ use Rattle.signal.proofs.Windows.{put_window}
 use Rattle.signal.proofs.put_at.Statement.{statement}
 use Rattle.signal.proofs.put_at.Tie as tie
 
-with-field-requires : tie.Need-with_field-new-requires
-with-field-requires c κs = (rw c.window.ensures (number_below 24 _), search rules, search rules)
+with_field_requires : tie.Need-with_field-new-requires
+with_field_requires c κs = (rw c.window.ensures (number_below 24 _), search rules, search rules)
 
 returns : tie.Need-returns
 returns c =
@@ -21,6 +21,6 @@ returns c =
 pub put_at_spec : {M : Type 1} → statement M
 put_at_spec =
     tie.close
-    (tie.spec (λ c κs. search rules) with-field-requires (λ c. search rules) (λ c κs. search rules)
+    (tie.spec (λ c κs. search rules) with_field_requires (λ c. search rules) (λ c κs. search rules)
     (λ c. search rules) (λ c. search rules) (λ c κs. search rules) (λ c. search rules) (λ c. search rules)
     (λ c κs. search rules) (λ c. search rules) returns)

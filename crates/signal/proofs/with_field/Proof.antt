@@ -26,21 +26,21 @@ fits : (c : tie.After-power-3) →
     < 2 ^ 24
 fits c = rw (returns c) (number_below 24 _)
 
-mul-result : tie.Need-overflow_mul-result
-mul-result c = omega (arith, fits c)
+mul_result : tie.Need-overflow_mul-result
+mul_result c = omega (arith, fits c)
 
-add-result : tie.Need-overflow_add-result
-add-result c = omega (arith, fits c)
+add_result : tie.Need-overflow_add-result
+add_result c = omega (arith, fits c)
 
-mul-result-2 : tie.Need-overflow_mul-result-2
-mul-result-2 c = omega (arith, fits c)
+mul_result_2 : tie.Need-overflow_mul-result-2
+mul_result_2 c = omega (arith, fits c)
 
-add-result-2 : tie.Need-overflow_add-result-2
-add-result-2 c = omega (arith, fits c)
+add_result_2 : tie.Need-overflow_add-result-2
+add_result_2 c = omega (arith, fits c)
 
 pub with_field_spec : {M : Type 1} → statement M
 with_field_spec =
     tie.close
     (tie.spec (λ c κs. search rules) (λ c κs. search rules) (λ c κs. search rules) (λ c. search rules)
-    (λ c κs. search rules) (λ c. search rules) (λ c κs. search rules) mul-result add-result (λ c. search rules)
-    mul-result-2 add-result-2 returns)
+    (λ c κs. search rules) (λ c. search rules) (λ c κs. search rules) mul_result add_result (λ c. search rules)
+    mul_result_2 add_result_2 returns)

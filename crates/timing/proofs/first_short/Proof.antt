@@ -13,18 +13,18 @@ use Rattle.timing.proofs.Steps.{short_by}
 use Rattle.timing.proofs.first_short.Statement.{statement}
 use Rattle.timing.proofs.first_short.Tie as tie
 
-abbrev invariant-loop : tie.invariant-loop-e
-invariant-loop t tick bit longest n e₀ e = (n ≡ entry_count t) × (first_short t tick bit ≡ first_from (λ j. not (entry_holds t tick bit j)) e (n - e))
+abbrev invariant_loop : tie.invariant-loop-e
+invariant_loop t tick bit longest n e₀ e = (n ≡ entry_count t) × (first_short t tick bit ≡ first_from (λ j. not (entry_holds t tick bit j)) e (n - e))
 
-abbrev decreases-loop : tie.decreases-loop-e
-decreases-loop t tick bit longest n e₀ e = n - e
+abbrev decreases_loop : tie.decreases-loop-e
+decreases_loop t tick bit longest n e₀ e = n - e
 
-loop-holds : tie.Need-loop-e-init invariant-loop decreases-loop
+loop_holds : tie.Need-loop-e-init invariant_loop decreases_loop
 unfolding first_short
-loop-holds c = (c.count-n.ensures, rw (c.count-n.ensures, sub-zero))
+loop_holds c = (c.count-n.ensures, rw (c.count-n.ensures, sub-zero))
 
-entry-bytes-requires : tie.Need-entry_bytes-requires invariant-loop decreases-loop
-entry-bytes-requires c κs =
+entry_bytes_requires : tie.Need-entry_bytes-requires invariant_loop decreases_loop
+entry_bytes_requires c κs =
     let at = c.before.before.before.loop-e in (
       c.before.before.before.before.before.before.before.requires,
       omega (arith, at.invariant.0, c.before.before.loop-e-test.true),
@@ -32,7 +32,7 @@ entry-bytes-requires c κs =
     )
 
 -- whether the slot of the entry at hand is short
-short : (c : tie.After-slot_holds invariant-loop decreases-loop)
+short : (c : tie.After-slot_holds invariant_loop decreases_loop)
     → not (entry_holds
     c.before.before.before.before.before.before.before.before.before.args.t.now
     c.before.before.before.before.before.before.before.before.before.args.tick
@@ -41,22 +41,22 @@ short : (c : tie.After-slot_holds invariant-loop decreases-loop)
     ≡ not c.slot_holds.result
 short c = short_by _ _ _ _ _ _ _ c.before.before.before.delay.ensures c.before.entry_bytes.ensures c.slot_holds.ensures
 
-returns : tie.Need-returns-then-not-slot_holds invariant-loop decreases-loop
+returns : tie.Need-returns-then-not-slot_holds invariant_loop decreases_loop
 returns c =
     sym
     (c.before.before.before.before.before.before.loop-e.invariant.1
     ∙ right _ _ _ c.before.before.before.before.before.loop-e-test.true (short c.before ∙ c.if-not-slot_holds.true-raw))
 
-loop-again : tie.Need-loop-e-preserved invariant-loop decreases-loop
-loop-again c =
+loop_again : tie.Need-loop-e-preserved invariant_loop decreases_loop
+loop_again c =
     let inv = c.before.before.before.before.before.before.loop-e.invariant in
     (inv.0, inv.1 ∙ wrong _ _ _ c.before.before.before.before.before.loop-e-test.true (short c.before ∙ c.if-not-slot_holds.false-raw))
 
-returns-2 : tie.Need-returns invariant-loop decreases-loop
-returns-2 c = sym (c.before.loop-e.invariant.1 ∙ ended _ _ _ c.loop-e-test.false)
+returns_2 : tie.Need-returns invariant_loop decreases_loop
+returns_2 c = sym (c.before.loop-e.invariant.1 ∙ ended _ _ _ c.loop-e-test.false)
 
 pub first_short_spec : {M : Type 1} → statement M
 first_short_spec =
     tie.close
-    (tie.spec invariant-loop decreases-loop (λ c κs. search rules) (λ c κs. search rules) loop-holds (λ c κs. search rules) entry-bytes-requires
-    (λ c κs. search rules) returns (λ c. search rules) (λ c. search rules) loop-again returns-2)
+    (tie.spec invariant_loop decreases_loop (λ c κs. search rules) (λ c κs. search rules) loop_holds (λ c κs. search rules) entry_bytes_requires
+    (λ c κs. search rules) returns (λ c. search rules) (λ c. search rules) loop_again returns_2)

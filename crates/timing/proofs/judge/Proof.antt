@@ -26,24 +26,24 @@ times c = sym c.before.times_right.ensures ∙ not-false _ c.if-not-times_right.
 returns : tie.Need-returns-in-Refused
 returns c = judge_told_lem _ _ _ _ (sym (table_refused _ _ _ _ (sym c.before.taken.ensures.0 ∙ c.in-Refused.is)))
 
-returns-2 : tie.Need-returns-then-not-times_right
-returns-2 c =
+returns_2 : tie.Need-returns-then-not-times_right
+returns_2 c =
     judge_told_lem _ _ _ _
     (ap Refused c.of.ensures
     ∙ sym (time_refused _ _ _ (taken c.before.before) (sym c.before.before.times_right.ensures ∙ not-true _ c.before.if-not-times_right.true-raw)))
 
-first-short-requires : tie.Need-first_short-e-requires
-first-short-requires c κs = taken_right _ (taken c.before)
+first_short_requires : tie.Need-first_short-e-requires
+first_short_requires c κs = taken_right _ (taken c.before)
 
-returns-3 : tie.Need-returns-then-e-count
-returns-3 c =
+returns_3 : tie.Need-returns-then-e-count
+returns_3 c =
     let d = c in
     let e = c.before.before.first_short-e.ensures in
     let here = short_told_lem _ _ _ (taken d.before.before.before.before) (times d.before.before.before) (omega (arith, e, c.before.count.ensures, c.if-e-count.true)) in
     judge_told_lem _ _ _ _ (ap Short e ∙ sym here)
 
-returns-4 : tie.Need-returns-else-e-count
-returns-4 c =
+returns_4 : tie.Need-returns-else-e-count
+returns_4 c =
     let d = c in
     let e = c.before.before.first_short-e.ensures in
     let none = none_short _ _ _ (taken d.before.before.before.before) (times d.before.before.before) (omega (arith, e, c.before.count.ensures, c.if-e-count.false)) in
@@ -52,5 +52,5 @@ returns-4 c =
 pub judge_spec : {M : Type 1} → statement M
 judge_spec =
     tie.close
-    (tie.spec (λ c κs. search rules) (λ c. search rules) returns (λ c. search rules) (λ c κs. search rules) (λ c κs. search rules) returns-2
-    first-short-requires (λ c κs. search rules) returns-3 returns-4)
+    (tie.spec (λ c κs. search rules) (λ c. search rules) returns (λ c. search rules) (λ c κs. search rules) (λ c κs. search rules) returns_2
+    first_short_requires (λ c κs. search rules) returns_3 returns_4)

@@ -11,14 +11,14 @@ use Rattle.timing.proofs.longest_members.Lts.{then-longest-l, else-longest-l}
 use Rattle.timing.proofs.longest_members.Statement.{statement}
 use Rattle.timing.proofs.longest_members.Tie as tie
 
-abbrev invariant-loop : tie.invariant-loop-m
-invariant-loop t longest₀ n m₀ longest m = (n ≡ member_count t) × (m ≤ n) × LongestOf t m longest
+abbrev invariant_loop : tie.invariant-loop-m
+invariant_loop t longest₀ n m₀ longest m = (n ≡ member_count t) × (m ≤ n) × LongestOf t m longest
 
-abbrev decreases-loop : tie.decreases-loop-m
-decreases-loop t longest₀ n m₀ longest m = n - m
+abbrev decreases_loop : tie.decreases-loop-m
+decreases_loop t longest₀ n m₀ longest m = n - m
 
 -- the list of the member at hand is one of sixty
-below : (c : tie.After-length-bytes invariant-loop decreases-loop) → c.before.before.list-l.result < 60
+below : (c : tie.After-length-bytes invariant_loop decreases_loop) → c.before.before.list-l.result < 60
 below c =
     let a = c in
     let at = c.before.before.before.before.loop-m in
@@ -31,17 +31,17 @@ below c =
       member_count_lem a.before.before.before.before.before.before.before.args.t.now a.before.before.before.before.before.before.before.requires,
     )
 
-loop-holds : tie.Need-loop-m-init invariant-loop decreases-loop
-loop-holds c = (c.count-n.ensures, omega arith, none_yet c.before.before.args.t.now)
+loop_holds : tie.Need-loop-m-init invariant_loop decreases_loop
+loop_holds c = (c.count-n.ensures, omega arith, none_yet c.before.before.args.t.now)
 
-array-read-if1 : tie.Need-bounds-longest-l invariant-loop decreases-loop
-array-read-if1 c = below c
+array_read_if1 : tie.Need-bounds-longest-l invariant_loop decreases_loop
+array_read_if1 c = below c
 
-array-write-longest : tie.Need-bounds-longest-l-then-longest-l invariant-loop decreases-loop
-array-write-longest c = below c.before
+array_write_longest : tie.Need-bounds-longest-l-then-longest-l invariant_loop decreases_loop
+array_write_longest c = below c.before
 
-loop-again : tie.Need-loop-m-preserved invariant-loop decreases-loop
-loop-again c =
+loop_again : tie.Need-loop-m-preserved invariant_loop decreases_loop
+loop_again c =
     let d = c in
     let t = d.before.before.before.before.before.before.before.before.args.t.now in
     let at = d.before.before.before.before.before.loop-m in
@@ -55,7 +55,7 @@ loop-again c =
       ],
     )
 
-returns : tie.Need-returns invariant-loop decreases-loop
+returns : tie.Need-returns invariant_loop decreases_loop
 returns c =
     let at = c.before.loop-m in
     let end : at.m ≡ member_count c.before.before.before.before.args.t.now = omega (arith, at.invariant.0, at.invariant.1, c.loop-m-test.false) in
@@ -64,6 +64,6 @@ returns c =
 pub longest_members_spec : {M : Type 1} → statement M
 longest_members_spec =
     tie.close
-    (tie.spec invariant-loop decreases-loop (λ c κs. search rules) loop-holds (λ c κs. search rules) (λ c. search rules) (λ c κs. search rules)
-    (λ c κs. search rules) (λ c. search rules) array-read-if1 (λ c. search rules) array-write-longest (λ c. search rules)
-    (λ c. search rules) loop-again returns)
+    (tie.spec invariant_loop decreases_loop (λ c κs. search rules) loop_holds (λ c κs. search rules) (λ c. search rules) (λ c κs. search rules)
+    (λ c κs. search rules) (λ c. search rules) array_read_if1 (λ c. search rules) array_write_longest (λ c. search rules)
+    (λ c. search rules) loop_again returns)

@@ -9,8 +9,8 @@ use Rattle.bench.proofs.buffers.numbers_within.Tie as tie
 returns : tie.Need-returns-then-n-numbers
 returns c = (search rules, sym (length-take-le _ _ (omega arith)))
 
-returns-2 : tie.Need-returns-else-n-numbers
-returns-2 c = (search rules, sym (length-take-le _ _ (omega arith)))
+returns_2 : tie.Need-returns-else-n-numbers
+returns_2 c = (search rules, sym (length-take-le _ _ (omega arith)))
 
 pub numbers_within_spec : {M : Type 1} → statement M
-numbers_within_spec = tie.close (tie.spec returns returns-2)
+numbers_within_spec = tie.close (tie.spec returns returns_2)

@@ -9,8 +9,8 @@ use Rattle.bench.proofs.buffers.within.Tie as tie
 returns : tie.Need-returns-then-n-bytes
 returns c = (search rules, sym (length-take-le _ _ (omega arith)))
 
-returns-2 : tie.Need-returns-else-n-bytes
-returns-2 c = (search rules, sym (length-take-le _ _ (omega arith)))
+returns_2 : tie.Need-returns-else-n-bytes
+returns_2 c = (search rules, sym (length-take-le _ _ (omega arith)))
 
 pub within_spec : {M : Type 1} → statement M
-within_spec = tie.close (tie.spec returns returns-2)
+within_spec = tie.close (tie.spec returns returns_2)

@@ -9,8 +9,8 @@ use Rattle.bench.proofs.buffers.words_within.Tie as tie
 returns : tie.Need-returns-then-n-words
 returns c = (search rules, sym (length-take-le _ _ (omega arith)))
 
-returns-2 : tie.Need-returns-else-n-words
-returns-2 c = (search rules, sym (length-take-le _ _ (omega arith)))
+returns_2 : tie.Need-returns-else-n-words
+returns_2 c = (search rules, sym (length-take-le _ _ (omega arith)))
 
 pub words_within_spec : {M : Type 1} → statement M
-words_within_spec = tie.close (tie.spec returns returns-2)
+words_within_spec = tie.close (tie.spec returns returns_2)

@@ -4,15 +4,15 @@ use borrow.Author.Rules.{rules}
 use Rattle.bench.proofs.forms.put_numbers.Statement.{statement}
 use Rattle.bench.proofs.forms.put_numbers.Tie as tie
 
-abbrev invariant-loop : tie.invariant-loop-i
-invariant-loop desk₀ numbers i₀ desk i = i ≤ 12
+abbrev invariant_loop : tie.invariant-loop-i
+invariant_loop desk₀ numbers i₀ desk i = i ≤ 12
 
-abbrev decreases-loop : tie.decreases-loop-i
-decreases-loop desk₀ numbers i₀ desk i = 12 - i
+abbrev decreases_loop : tie.decreases-loop-i
+decreases_loop desk₀ numbers i₀ desk i = 12 - i
 
 pub put_numbers_spec : {M : Type 1} → statement M
 put_numbers_spec =
     tie.close
-    (tie.spec invariant-loop decreases-loop (λ c. search rules) (λ c. search rules) (λ c. search rules) (λ c. search rules)
+    (tie.spec invariant_loop decreases_loop (λ c. search rules) (λ c. search rules) (λ c. search rules) (λ c. search rules)
     (λ c. search rules) (λ c. search rules) (λ c. search rules) (λ c. search rules) (λ c. search rules)
     (λ c. search rules))

@@ -6,15 +6,15 @@ use borrow.Author.Rules.{rules}
 use Rattle.bench.proofs.run.keep.Statement.{statement}
 use Rattle.bench.proofs.run.keep.Tie as tie
 
-abbrev invariant-loop : tie.invariant-loop-i
-invariant-loop text₀ from start n i₀ text i = (i ≤ n) × (start + n ≤ length text₀) × (length text ≡ length text₀)
+abbrev invariant_loop : tie.invariant-loop-i
+invariant_loop text₀ from start n i₀ text i = (i ≤ n) × (start + n ≤ length text₀) × (length text ≡ length text₀)
 
-abbrev decreases-loop : tie.decreases-loop-i
-decreases-loop text₀ from start n i₀ text i = n - i
+abbrev decreases_loop : tie.decreases-loop-i
+decreases_loop text₀ from start n i₀ text i = n - i
 
 pub keep_spec : {M : Type 1} → statement M
 keep_spec =
     tie.close
-    (tie.spec invariant-loop decreases-loop (λ c κs. search rules) (λ c. search rules) (λ c κs. search rules)
+    (tie.spec invariant_loop decreases_loop (λ c κs. search rules) (λ c. search rules) (λ c κs. search rules)
     (λ c. search rules) (λ c. search rules) (λ c. search rules) (λ c. search rules) (λ c. search rules)
     (λ c. search rules) (λ c. search rules) (λ c. search rules) (λ c. search rules))

@@ -5,8 +5,8 @@ use Rattle.buslog.proofs.Judging.{wrong_parity, by_identifier, read_below}
 use Rattle.buslog.proofs.judge.of_bytes.Statement.{statement}
 use Rattle.buslog.proofs.judge.of_bytes.Tie as tie
 
-of-identifier-requires : tie.Need-of_identifier-requires
-of-identifier-requires c κs = (
+of_identifier_requires : tie.Need-of_identifier-requires
+of_identifier_requires c κs = (
   c.before.before.before.before.before.before.requires.0,
   read_below _
       c.before.in-Byte.id (sym c.before.before.read.ensures.0 ∙ c.before.in-Byte.is),
@@ -15,8 +15,8 @@ of-identifier-requires c κs = (
 returns : tie.Need-returns-in-Refused
 returns c = wrong_parity _ _ c.in-Refused.field-0 c.before.before.before.before.before.requires.1 (sym c.before.read.ensures.0 ∙ c.in-Refused.is)
 
-returns-2 : tie.Need-returns-in-Byte
-returns-2 c =
+returns_2 : tie.Need-returns-in-Byte
+returns_2 c =
     c.of_identifier.ensures
     ∙ by_identifier _ _ _ _ c.before.before.before.before.before.before.before.requires.1 refl
     (sym c.before.before.before.read.ensures.0 ∙ c.before.before.in-Byte.is)
@@ -25,4 +25,4 @@ pub of_bytes_spec : {M : Type 1} → statement M
 of_bytes_spec =
     tie.close
     (tie.spec (λ c. search rules) (λ c κs. search rules) (λ c. search rules) (λ c. search rules)
-    (λ c. search rules) (λ c. search rules) (λ c. search rules) of-identifier-requires returns returns-2)
+    (λ c. search rules) (λ c. search rules) (λ c. search rules) of_identifier_requires returns returns_2)

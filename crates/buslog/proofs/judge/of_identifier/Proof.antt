@@ -12,8 +12,8 @@ returns c =
     c.of_known.ensures
     ∙ diagnostic _ _ _ (⊎_elim (λ w. rw (eq-eqb _ 60 w)) (λ w. rw (ne_eqb _ 60 w.0, w.1)) c.before.then-id-eq60.either)
 
-of-known-requires-2 : tie.Need-of_known-requires-then-f-count
-of-known-requires-2 c κs =
+of_known_requires_2 : tie.Need-of_known-requires-then-f-count
+of_known_requires_2 c κs =
     let s = c in
     let n = c.before.length.ensures in
     let t = s.before.before.before.before.before.before.before.before.before.args.t.now in
@@ -21,8 +21,8 @@ of-known-requires-2 c κs =
     let k : f < frame_count t = omega (arith, c.before.before.before.count.ensures) in
     (s.before.before.before.before.before.before.before.before.before.requires.1, omega (arith, frame_length_low t s.before.before.before.before.before.before.before.before.before.requires.0 f k, n), omega (arith, frame_length_high t s.before.before.before.before.before.before.before.before.before.requires.0 f k, n))
 
-returns-2 : tie.Need-returns-then-f-count
-returns-2 c =
+returns_2 : tie.Need-returns-then-f-count
+returns_2 c =
     c.of_known-then-f-count.ensures
     ∙ listed _ _ _ (rw (
       ne_eqb _ 60 c.before.before.before.before.before.before.before.if-id-eq60.false,
@@ -31,8 +31,8 @@ returns-2 c =
     c.before.before.before.before.before.frame_with-f.ensures
     (omega (arith, c.before.before.before.before.count.ensures)) c.before.before.length.ensures c.before.model.ensures
 
-returns-3 : tie.Need-returns
-returns-3 c = unlisted _ _ _ (rw (
+returns_3 : tie.Need-returns
+returns_3 c = unlisted _ _ _ (rw (
   ne_eqb _ 60 c.before.before.before.before.if-id-eq60.false,
   c.before.before.before.if-id-eq61.false-raw,
 )) _ c.before.before.frame_with-f.ensures (omega (arith, c.before.count.ensures))
@@ -41,4 +41,4 @@ pub of_identifier_spec : {M : Type 1} → statement M
 of_identifier_spec =
     tie.close
     (tie.spec (λ c κs. search rules) returns (λ c κs. search rules) (λ c κs. search rules) (λ c κs. search rules)
-    (λ c κs. search rules) of-known-requires-2 returns-2 returns-3)
+    (λ c κs. search rules) of_known_requires_2 returns_2 returns_3)

@@ -8,11 +8,11 @@ use Rattle.buslog.proofs.judge.of_known.Tie as tie
 returns : tie.Need-returns-then-rest-n
 returns c = other_length _ _ c.before.before.args.wish c.before.before.args.rest.now c.if-rest-n.true
 
-slice-aggregate-of : tie.Need-slice_bounds-of-end
-slice-aggregate-of c = sym (length-take-le _ c.before.before.args.rest.now (omega arith))
+slice_aggregate_of : tie.Need-slice_bounds-of-end
+slice_aggregate_of c = sym (length-take-le _ c.before.before.args.rest.now (omega arith))
 
-returns-2 : tie.Need-returns-then-rest-n-2
-returns-2 c =
+returns_2 : tie.Need-returns-then-rest-n-2
+returns_2 c =
     let a = c.before.before.before.before.before.before.args in
     let h : length a.rest.now ≡ a.length + 1 = c.before.before.before.before.if-rest-n.false in
     let l : length (take a.length a.rest.now) ≡ a.length = length-take-le a.length a.rest.now (omega arith) in
@@ -21,8 +21,8 @@ returns-2 c =
     c.before.before.in-Byte.is) in
     right_sum _ _ a.wish a.rest.now _ h e c.if-rest-n-2.true
 
-returns-3 : tie.Need-returns-else-rest-n-2
-returns-3 c =
+returns_3 : tie.Need-returns-else-rest-n-2
+returns_3 c =
     let a = c.before.before.before.before.before.before.args in
     let h : length a.rest.now ≡ a.length + 1 = c.before.before.before.before.if-rest-n.false in
     let l : length (take a.length a.rest.now) ≡ a.length = length-take-le a.length a.rest.now (omega arith) in
@@ -31,8 +31,8 @@ returns-3 c =
     c.before.before.in-Byte.is) in
     other_sum _ _ a.wish a.rest.now _ h e c.if-rest-n-2.false
 
-returns-4 : tie.Need-returns-in-Refused
-returns-4 c =
+returns_4 : tie.Need-returns-in-Refused
+returns_4 c =
     let a = c.before.before.before.before.args in
     let h : length a.rest.now ≡ a.length + 1 = c.before.before.if-rest-n.false in
     let l : length (take a.length a.rest.now) ≡ a.length = length-take-le a.length a.rest.now (omega arith) in
@@ -42,5 +42,5 @@ returns-4 c =
 pub of_known_spec : {M : Type 1} → statement M
 of_known_spec =
     tie.close
-    (tie.spec (λ c. search rules) returns slice-aggregate-of (λ c κs. search rules) (λ c. search rules)
-    (λ c. search rules) returns-2 (λ c. search rules) returns-3 returns-4)
+    (tie.spec (λ c. search rules) returns slice_aggregate_of (λ c κs. search rules) (λ c. search rules)
+    (λ c. search rules) returns_2 (λ c. search rules) returns_3 returns_4)

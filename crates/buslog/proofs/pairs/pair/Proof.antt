@@ -7,16 +7,16 @@ use Rattle.buslog.proofs.pairs.pair.Tie as tie
 returns : tie.Need-returns-then-high-gt15
 returns c = no_high _ _ (omega (arith, c.before.before.before.digit-high.ensures))
 
-returns-2 : tie.Need-returns-then-low-gt15
-returns-2 c = no_low _ _ (omega (arith, c.before.before.digit-low.ensures))
+returns_2 : tie.Need-returns-then-low-gt15
+returns_2 c = no_low _ _ (omega (arith, c.before.before.digit-low.ensures))
 
-returns-3 : tie.Need-returns
-returns-3 c = pair_there _ _ (omega (arith, c.before.before.before.before.digit-high.ensures))
+returns_3 : tie.Need-returns
+returns_3 c = pair_there _ _ (omega (arith, c.before.before.before.before.digit-high.ensures))
     (omega (arith, c.before.before.digit-low.ensures)) c.before.before.before.before.digit-high.ensures c.before.before.digit-low.ensures
 
 pub pair_spec : {M : Type 1} → statement M
 pair_spec =
     tie.close
     (tie.spec (λ c. search rules) (λ c κs. search rules) (λ c. search rules) (λ c. search rules)
-    (λ c κs. search rules) returns returns-2 (λ c. search rules) (λ c. search rules) (λ c. search rules)
-    returns-3)
+    (λ c κs. search rules) returns returns_2 (λ c. search rules) (λ c. search rules) (λ c. search rules)
+    returns_3)

@@ -6,47 +6,47 @@ use Rattle.buslog.proofs.Reading.{reads_text, reads_last, is_text, too_long, no_
 use Rattle.buslog.proofs.pairs.read.Statement.{statement}
 use Rattle.buslog.proofs.pairs.read.Tie as tie
 
-abbrev invariant-loop : tie.invariant-loop-at
-invariant-loop line bytes₀ count₀ at₀ bytes count at =
+abbrev invariant_loop : tie.invariant-loop-at
+invariant_loop line bytes₀ count₀ at₀ bytes count at =
     (3 * count ≡ at)
     × (at ≤ length line)
     × (length bytes ≡ 10)
     × (are_pairs line ≡ are_pairs (drop at line))
     × (pair_bytes line ≡ take count bytes ++ pair_bytes (drop at line))
 
-abbrev decreases-loop : tie.decreases-loop-at
-decreases-loop line bytes₀ count₀ at₀ bytes count at = length line - at
+abbrev decreases_loop : tie.decreases-loop-at
+decreases_loop line bytes₀ count₀ at₀ bytes count at = length line - at
 
-returns : tie.Need-returns-then-line-gt29 invariant-loop decreases-loop
+returns : tie.Need-returns-then-line-gt29 invariant_loop decreases_loop
 returns c = reads_text _ _ c.text.ensures (too_long _ c.before.if-line-gt29.true)
 
-loop-holds : tie.Need-loop-at-init invariant-loop decreases-loop
-loop-holds c = (refl, omega arith, refl, refl, refl)
+loop_holds : tie.Need-loop-at-init invariant_loop decreases_loop
+loop_holds c = (refl, omega arith, refl, refl, refl)
 
-add-loop : tie.Need-overflow_add-at invariant-loop decreases-loop
-add-loop c = omega arith
+add_loop : tie.Need-overflow_add-at invariant_loop decreases_loop
+add_loop c = omega arith
 
-returns-2 : tie.Need-returns-then-byte-gt255 invariant-loop decreases-loop
-returns-2 c =
+returns_2 : tie.Need-returns-then-byte-gt255 invariant_loop decreases_loop
+returns_2 c =
     let i = c.before.before.before.before.loop-at.invariant in
     reads_text _ _ c.text-then-byte-gt255.ensures
     (is_text _ (i.3 ∙ no_pair _ _ c.before.before.before.loop-at-test.true (omega (arith, c.before.before.pair-byte.ensures))))
 
-returns-3 : tie.Need-returns-then-at-line invariant-loop decreases-loop
-returns-3 c =
+returns_3 : tie.Need-returns-then-at-line invariant_loop decreases_loop
+returns_3 c =
     let i = c.before.before.before.before.loop-at.invariant in
     reads_last _ _ _ (omega arith) _ _ (omega arith) c.before.before.pair-byte.ensures (omega arith) c.if-at-line.true i.3 i.4
 
-returns-4 : tie.Need-returns-then-line-at-ne32 invariant-loop decreases-loop
-returns-4 c =
+returns_4 : tie.Need-returns-then-line-at-ne32 invariant_loop decreases_loop
+returns_4 c =
     let i = c.before.before.before.before.before.before.before.loop-at.invariant in
     let line = c.before.before.before.before.before.before.before.before.before.before.args.line.now in
     let at = c.before.before.before.before.before.before.before.loop-at.at in
     reads_text line _ c.text-then-line-at-ne32.ensures
     (is_text line (i.3 ∙ unspaced line at (omega (arith, c.before.before.before.before.before.pair-byte.ensures)) (omega arith) c.before.if-line-at-ne32.true))
 
-loop-again : tie.Need-loop-at-preserved invariant-loop decreases-loop
-loop-again c =
+loop_again : tie.Need-loop-at-preserved invariant_loop decreases_loop
+loop_again c =
     let i = c.before.before.before.before.before.before.loop-at.invariant in
     let e = c.before.before.before.before.pair-byte.ensures in
     let line = c.before.before.before.before.before.before.before.before.before.args.line.now in
@@ -61,15 +61,15 @@ loop-again c =
           (more_bytes line at p (omega arith) ∙ ap (λ (b : ℕ). b ∷ pair_bytes (drop (at + 3) line)) (sym e)),
     )
 
-returns-5 : tie.Need-returns invariant-loop decreases-loop
-returns-5 c =
+returns_5 : tie.Need-returns invariant_loop decreases_loop
+returns_5 c =
     reads_text _ _ c.text-2.ensures
     (is_text _ (c.before.before.loop-at.invariant.3 ∙ no_more c.before.before.before.before.before.args.line.now c.before.before.loop-at.at (omega arith)))
 
 pub read_spec : {M : Type 1} → statement M
 read_spec =
     tie.close
-    (tie.spec invariant-loop decreases-loop (λ c κs. search rules) returns loop-holds add-loop (λ c κs. search rules)
-    (λ c κs. search rules) returns-2 (λ c. search rules) (λ c. search rules) (λ c. search rules)
-    (λ c. search rules) returns-3 (λ c. search rules) (λ c. search rules) (λ c κs. search rules) returns-4
-    (λ c. search rules) (λ c. search rules) loop-again (λ c κs. search rules) returns-5)
+    (tie.spec invariant_loop decreases_loop (λ c κs. search rules) returns loop_holds add_loop (λ c κs. search rules)
+    (λ c κs. search rules) returns_2 (λ c. search rules) (λ c. search rules) (λ c. search rules)
+    (λ c. search rules) returns_3 (λ c. search rules) (λ c. search rules) (λ c κs. search rules) returns_4
+    (λ c. search rules) (λ c. search rules) loop_again (λ c κs. search rules) returns_5)

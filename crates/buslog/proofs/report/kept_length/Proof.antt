@@ -7,11 +7,11 @@ use Rattle.buslog.proofs.report.kept_length.Tie as tie
 returns : tie.Need-returns-then-length-from
 returns c = let e : c.before.args.length - c.before.args.from ≡ 0 = omega arith in rw e
 
-returns-2 : tie.Need-returns-then-rest-lt30
-returns-2 c = sym (min-eq_right (omega arith))
+returns_2 : tie.Need-returns-then-rest-lt30
+returns_2 c = sym (min-eq_right (omega arith))
 
-returns-3 : tie.Need-returns-else-rest-lt30
-returns-3 c = sym (min-eq_left (omega arith))
+returns_3 : tie.Need-returns-else-rest-lt30
+returns_3 c = sym (min-eq_left (omega arith))
 
 pub kept_length_spec : {M : Type 1} → statement M
-kept_length_spec = tie.close (tie.spec returns (λ c. search rules) returns-2 returns-3)
+kept_length_spec = tie.close (tie.spec returns (λ c. search rules) returns_2 returns_3)

@@ -8,9 +8,9 @@ returns : tie.Need-returns-then-d-lt10
 unfolding digit_character
 returns c = simp (lt-ltb _ _ c.if-d-lt10.true)
 
-returns-2 : tie.Need-returns-else-d-lt10
+returns_2 : tie.Need-returns-else-d-lt10
 unfolding digit_character
-returns-2 c = simp (le-ltb _ _ c.if-d-lt10.false)
+returns_2 c = simp (le-ltb _ _ c.if-d-lt10.false)
 
 pub digit_spec : {M : Type 1} → statement M
-digit_spec = tie.close (tie.spec (λ c. search rules) (λ c. search rules) returns returns-2)
+digit_spec = tie.close (tie.spec (λ c. search rules) (λ c. search rules) returns returns_2)

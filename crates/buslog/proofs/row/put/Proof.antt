@@ -6,8 +6,8 @@ use Rattle.buslog.proofs.Fronting.{behind, fronts_within}
 use Rattle.buslog.proofs.row.put.Statement.{statement}
 use Rattle.buslog.proofs.row.put.Tie as tie
 
-add-result : tie.Need-overflow_add-result
-add-result c = omega (
+add_result : tie.Need-overflow_add-result
+add_result c = omega (
   arith,
   fronts_within _ c.before.before.put_verdict.ensures c.before.before.put_verdict.auto.out,
   c.before.before.before.before.before.before.put_decimal-digits.ensures.1,
@@ -21,4 +21,4 @@ pub put_spec : {M : Type 1} → statement M
 put_spec =
     tie.close
     (tie.spec (λ c κs. search rules) (λ c. search rules) (λ c. search rules) (λ c. search rules)
-    (λ c κs. search rules) add-result (λ c. search rules) returns)
+    (λ c κs. search rules) add_result (λ c. search rules) returns)

@@ -6,20 +6,20 @@ use Rattle.buslog.proofs.Fronting.{copied}
 use Rattle.buslog.proofs.row.put_decimal.Statement.{statement}
 use Rattle.buslog.proofs.row.put_decimal.Tie as tie
 
-abbrev invariant-loop : tie.invariant-loop-rest
-invariant-loop out number digits₀ at₀ rest₀ digits at rest = (length digits ≡ 20) × (at ≤ 19) × (rest < 10 ^ at) × (decimal_of number ≡ digits_of at rest ++ drop at digits)
+abbrev invariant_loop : tie.invariant-loop-rest
+invariant_loop out number digits₀ at₀ rest₀ digits at rest = (length digits ≡ 20) × (at ≤ 19) × (rest < 10 ^ at) × (decimal_of number ≡ digits_of at rest ++ drop at digits)
 
-abbrev decreases-loop : tie.decreases-loop-rest
-decreases-loop out number digits₀ at₀ rest₀ digits at rest = rest
+abbrev decreases_loop : tie.decreases-loop-rest
+decreases_loop out number digits₀ at₀ rest₀ digits at rest = rest
 
-loop-holds : tie.Need-loop-rest-init invariant-loop decreases-loop
-loop-holds c = (refl, omega arith, omega arith, decimal c.before.args.number c.before.ranges.number.fits)
+loop_holds : tie.Need-loop-rest-init invariant_loop decreases_loop
+loop_holds c = (refl, omega arith, omega arith, decimal c.before.args.number c.before.ranges.number.fits)
 
-sub_at : tie.Need-overflow_sub-at invariant-loop decreases-loop
+sub_at : tie.Need-overflow_sub-at invariant_loop decreases_loop
 sub_at c = fewer c.before.loop-rest.at c.before.loop-rest.rest c.loop-rest-test.true c.before.loop-rest.invariant.2
 
-loop-again : tie.Need-loop-rest-preserved invariant-loop decreases-loop
-loop-again c =
+loop_again : tie.Need-loop-rest-preserved invariant_loop decreases_loop
+loop_again c =
     let i = c.before.loop-rest.invariant in
     let f = fewer c.before.loop-rest.at c.before.loop-rest.rest c.loop-rest-test.true i.2 in (
       simp length-set i.0,
@@ -28,10 +28,10 @@ loop-again c =
       i.3 ∙ turn c.before.loop-rest.at c.before.loop-rest.rest c.before.loop-rest.digits c.loop-rest-test.true i.2 (omega arith),
     )
 
-copy-requires : tie.Need-copy-requires invariant-loop decreases-loop
-copy-requires c κs = simp (length-take, length-drop) (omega arith)
+copy_requires : tie.Need-copy-requires invariant_loop decreases_loop
+copy_requires c κs = simp (length-take, length-drop) (omega arith)
 
-returns : tie.Need-returns invariant-loop decreases-loop
+returns : tie.Need-returns invariant_loop decreases_loop
 returns c =
     let e = spelled c.before.before.before.before.before.before.before.before.args.number
     c.before.before.before.before.before.before.loop-rest.at
@@ -56,6 +56,6 @@ returns c =
 pub put_decimal_spec : {M : Type 1} → statement M
 put_decimal_spec =
     tie.close
-    (tie.spec invariant-loop decreases-loop (λ c. search rules) (λ c. search rules) (λ c. search rules) loop-holds sub_at
-    (λ c. search rules) (λ c. search rules) (λ c. search rules) (λ c. search rules) loop-again
-    (λ c. search rules) (λ c. search rules) (λ c. search rules) copy-requires (λ c. search rules) returns)
+    (tie.spec invariant_loop decreases_loop (λ c. search rules) (λ c. search rules) (λ c. search rules) loop_holds sub_at
+    (λ c. search rules) (λ c. search rules) (λ c. search rules) (λ c. search rules) loop_again
+    (λ c. search rules) (λ c. search rules) (λ c. search rules) copy_requires (λ c. search rules) returns)

@@ -10,25 +10,25 @@ returns : tie.Need-returns-in-Text
 unfolding verdict_text shown_identifier word
 returns c = rw c.before.before.before.before.before.before.in-Text.is (copied _ _ c.before.before.copy.ensures.0 c.before.before.copy.ensures.1)
 
-returns-2 : tie.Need-returns-in-Parity
+returns_2 : tie.Need-returns-in-Parity
 unfolding verdict_text shown_identifier word
-returns-2 c = rw c.before.before.before.before.before.before.in-Parity.is (copied _ _ c.before.before.copy-in-Parity.ensures.0 c.before.before.copy-in-Parity.ensures.1)
+returns_2 c = rw c.before.before.before.before.before.before.in-Parity.is (copied _ _ c.before.before.copy-in-Parity.ensures.0 c.before.before.copy-in-Parity.ensures.1)
 
-returns-3 : tie.Need-returns-in-Unknown
+returns_3 : tie.Need-returns-in-Unknown
 unfolding verdict_text shown_identifier word
-returns-3 c = rw c.before.before.before.before.before.before.in-Unknown.is c.before.before.put_identified.ensures
+returns_3 c = rw c.before.before.before.before.before.before.in-Unknown.is c.before.before.put_identified.ensures
 
-returns-4 : tie.Need-returns-in-Length
+returns_4 : tie.Need-returns-in-Length
 unfolding verdict_text shown_identifier word
-returns-4 c = rw c.before.before.before.before.before.before.in-Length.is c.before.before.put_identified-in-Length.ensures
+returns_4 c = rw c.before.before.before.before.before.before.in-Length.is c.before.before.put_identified-in-Length.ensures
 
-returns-5 : tie.Need-returns-in-Checksum
+returns_5 : tie.Need-returns-in-Checksum
 unfolding verdict_text shown_identifier word
-returns-5 c = rw c.before.before.before.before.before.before.in-Checksum.is c.before.before.put_identified-in-Checksum.ensures
+returns_5 c = rw c.before.before.before.before.before.before.in-Checksum.is c.before.before.put_identified-in-Checksum.ensures
 
-returns-6 : tie.Need-returns-in-Ok
+returns_6 : tie.Need-returns-in-Ok
 unfolding verdict_text shown_identifier word
-returns-6 c = rw c.before.before.before.before.before.before.in-Ok.is c.before.before.put_identified-in-Ok.ensures
+returns_6 c = rw c.before.before.before.before.before.before.in-Ok.is c.before.before.put_identified-in-Ok.ensures
 
 pub put_verdict_spec : {M : Type 1} → statement M
 put_verdict_spec =
@@ -36,5 +36,5 @@ put_verdict_spec =
     (tie.spec (λ c. search rules) (λ c κs. search rules) (λ c. search rules) (λ c κs. search rules)
     (λ c. search rules) (λ c κs. search rules) (λ c. search rules) (λ c κs. search rules)
     (λ c. search rules) (λ c κs. search rules) (λ c. search rules) (λ c κs. search rules)
-    (λ c. search rules) returns (λ c. search rules) returns-2 (λ c. search rules) returns-3 (λ c. search rules) returns-4
-    (λ c. search rules) returns-5 (λ c. search rules) returns-6)
+    (λ c. search rules) returns (λ c. search rules) returns_2 (λ c. search rules) returns_3 (λ c. search rules) returns_4
+    (λ c. search rules) returns_5 (λ c. search rules) returns_6)

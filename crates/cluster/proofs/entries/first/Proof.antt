@@ -12,35 +12,35 @@ use Rattle.cluster.proofs.Searching.{right, wrong, ended}
 use Rattle.cluster.proofs.entries.first.Statement.{statement}
 use Rattle.cluster.proofs.entries.first.Tie as tie
 
-abbrev invariant-loop : tie.invariant-loop-e
-invariant-loop t n end e₀ e =
+abbrev invariant_loop : tie.invariant-loop-e
+invariant_loop t n end e₀ e =
     (end ≡ entry_count t) × (first_entry t n ≡ first_from (λ j. eqb (entry_schedule t j) n) e (end - e))
 
-abbrev decreases-loop : tie.decreases-loop-e
-decreases-loop t n end e₀ e = end - e
+abbrev decreases_loop : tie.decreases-loop-e
+decreases_loop t n end e₀ e = end - e
 
-loop-holds : tie.Need-loop-e-init invariant-loop decreases-loop
+loop_holds : tie.Need-loop-e-init invariant_loop decreases_loop
 unfolding first_entry
-loop-holds c = (c.count-end.ensures, rw (c.count-end.ensures, sub-zero) refl)
+loop_holds c = (c.count-end.ensures, rw (c.count-end.ensures, sub-zero) refl)
 
-returns : tie.Need-returns-then-schedule-n invariant-loop decreases-loop
+returns : tie.Need-returns-then-schedule-n invariant_loop decreases_loop
 returns c =
     sym
     (c.before.before.before.loop-e.invariant.1
     ∙ right _ _ _ c.before.before.loop-e-test.true (eq-eqb _ _ (sym c.before.schedule.ensures ∙ c.if-schedule-n.true)))
 
-loop-again : tie.Need-loop-e-preserved invariant-loop decreases-loop
-loop-again c = (
+loop_again : tie.Need-loop-e-preserved invariant_loop decreases_loop
+loop_again c = (
   c.before.before.before.loop-e.invariant.0,
   c.before.before.before.loop-e.invariant.1
       ∙ wrong _ _ _ c.before.before.loop-e-test.true (ne_eqb _ _ (λ e. c.if-schedule-n.false (c.before.schedule.ensures ∙ e))),
 )
 
-returns-2 : tie.Need-returns invariant-loop decreases-loop
-returns-2 c = sym (c.before.loop-e.invariant.1 ∙ ended _ _ _ c.loop-e-test.false)
+returns_2 : tie.Need-returns invariant_loop decreases_loop
+returns_2 c = sym (c.before.loop-e.invariant.1 ∙ ended _ _ _ c.loop-e-test.false)
 
 pub first_spec : {M : Type 1} → statement M
 first_spec =
     tie.close
-    (tie.spec invariant-loop decreases-loop (λ c κs. search rules) loop-holds (λ c κs. search rules) returns (λ c. search rules)
-    (λ c. search rules) loop-again returns-2)
+    (tie.spec invariant_loop decreases_loop (λ c κs. search rules) loop_holds (λ c κs. search rules) returns (λ c. search rules)
+    (λ c. search rules) loop_again returns_2)

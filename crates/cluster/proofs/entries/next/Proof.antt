@@ -19,8 +19,8 @@ returns c =
     rw (add-one e)
     (sym (next_behind t e (omega arith) (rw (add-one e) at k)))
 
-returns-2 : tie.Need-returns
-returns-2 c =
+returns_2 : tie.Need-returns
+returns_2 c =
     c.first.ensures
     ∙ ap (first_entry _) c.before.before.before.schedule-n.ensures
     ∙ sym
@@ -35,4 +35,4 @@ pub next_spec : {M : Type 1} → statement M
 next_spec =
     tie.close
     (tie.spec (λ c κs. search rules) (λ c κs. search rules) (λ c. search rules) (λ c κs. search rules)
-    (λ c. search rules) (λ c κs. search rules) (λ c. search rules) returns (λ c κs. search rules) returns-2)
+    (λ c. search rules) (λ c κs. search rules) (λ c. search rules) returns (λ c κs. search rules) returns_2)

@@ -22,13 +22,13 @@ returns : tie.Need-returns-then-not-follows
 unfolding entry_columns leading
 returns c = simp (sym c.before.follows.ensures ∙ not-true c.before.follows.result c.if-not-follows.true-raw)
 
-returns-2 : tie.Need-returns-then-words-gt3
+returns_2 : tie.Need-returns-then-words-gt3
 unfolding entry_columns leading
-returns-2 c = simp (up c.before.before, lt-leb _ _ c.if-words-gt3.true)
+returns_2 c = simp (up c.before.before, lt-leb _ _ c.if-words-gt3.true)
 
-returns-3 : tie.Need-returns-then-not-target_right
+returns_3 : tie.Need-returns-then-not-target_right
 unfolding entry_columns leading
-returns-3 c =
+returns_3 c =
     let d2 = c in
     simp (
       up d2.before.before.before.before,
@@ -36,23 +36,23 @@ returns-3 c =
       sym c.before.target_right.ensures ∙ not-true c.before.target_right.result c.if-not-target_right.true-raw,
     )
 
-returns-4 : tie.Need-returns-then-words-lt1
+returns_4 : tie.Need-returns-then-words-lt1
 unfolding entry_columns leading
-returns-4 c =
+returns_4 c =
     let d3 = c in
     let d2 = d3 in
     simp (up d2.before.before.before.before.before.before, le-leb _ _ d2.before.before.before.before.if-words-gt3.false, target d3.before.before, lt-leb _ _ c.if-words-lt1.true)
 
-returns-5 : tie.Need-returns-then-words-le65535
+returns_5 : tie.Need-returns-then-words-le65535
 unfolding entry_columns leading
-returns-5 c =
+returns_5 c =
     let d3 = c in
     let d2 = d3 in
     simp (up d2.before.before.before.before.before.before.before.before, le-leb _ _ d2.before.before.before.before.before.before.if-words-gt3.false, target d3.before.before.before.before, le-leb _ _ c.before.before.if-words-lt1.false, le-leb _ _ c.if-words-le65535.true)
 
-returns-6 : tie.Need-returns-else-words-le65535
+returns_6 : tie.Need-returns-else-words-le65535
 unfolding entry_columns leading
-returns-6 c =
+returns_6 c =
     let d3 = c in
     let d2 = d3 in
     simp (up d2.before.before.before.before.before.before.before.before, le-leb _ _ d2.before.before.before.before.before.before.if-words-gt3.false, target d3.before.before.before.before, le-leb _ _ c.before.before.if-words-lt1.false, lt-leb _ _ c.if-words-le65535.false)
@@ -60,4 +60,4 @@ returns-6 c =
 pub right_words_spec : {M : Type 1} → statement M
 right_words_spec =
     tie.close
-    (tie.spec (λ c κs. search rules) returns returns-2 (λ c κs. search rules) returns-3 returns-4 returns-5 returns-6)
+    (tie.spec (λ c κs. search rules) returns returns_2 (λ c κs. search rules) returns_3 returns_4 returns_5 returns_6)

@@ -11,12 +11,12 @@ returns : tie.Need-returns-then-n-eq0
 unfolding schedule_count
 returns c = (sym (counted_none _ _ (sym c.before.count-n.ensures ∙ c.if-n-eq0.true)), omega arith)
 
-returns-2 : tie.Need-returns-else-n-eq0
+returns_2 : tie.Need-returns-else-n-eq0
 unfolding schedule_count
-returns-2 c = (rw (← c.before.before.count-n.ensures, counted_last _ _ c.before.if-n-eq0.false, c.schedule.ensures), omega arith)
+returns_2 c = (rw (← c.before.before.count-n.ensures, counted_last _ _ c.before.if-n-eq0.false, c.schedule.ensures), omega arith)
 
 pub schedules_spec : {M : Type 1} → statement M
 schedules_spec =
     tie.close
     (tie.spec (λ c κs. search rules) (λ c. search rules) (λ c κs. search rules) (λ c. search rules)
-    (λ c. search rules) returns returns-2)
+    (λ c. search rules) returns returns_2)

@@ -9,14 +9,14 @@ returns : tie.Need-returns-then-kind-eq0
 unfolding target_right
 returns c = rw c.if-kind-eq0.true
 
-returns-2 : tie.Need-returns-then-kind-eq1
+returns_2 : tie.Need-returns-then-kind-eq1
 unfolding target_right
-returns-2 c = rw c.if-kind-eq1.true
+returns_2 c = rw c.if-kind-eq1.true
 
-returns-3 : tie.Need-returns
-returns-3 c =
+returns_3 : tie.Need-returns
+returns_3 c =
     let a = c.before.before.args in
     sym (other_kind a.frames a.lists a.kind a.target c.before.if-kind-eq0.false c.if-kind-eq1.false)
 
 pub target_right_spec : {M : Type 1} → statement M
-target_right_spec = tie.close (tie.spec returns returns-2 returns-3)
+target_right_spec = tie.close (tie.spec returns returns_2 returns_3)

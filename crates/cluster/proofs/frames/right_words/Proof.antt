@@ -11,37 +11,37 @@ returns : tie.Need-returns-then-id-ge-IDENTIFIERS
 unfolding frame_columns leading
 returns c = simp (le-ltb _ _ c.if-id-ge-IDENTIFIERS.true)
 
-returns-2 : tie.Need-returns-then-used-id
+returns_2 : tie.Need-returns-then-used-id
 unfolding frame_columns leading
-returns-2 c = simp (c.if-used-id.true, and-false)
+returns_2 c = simp (c.if-used-id.true, and-false)
 
-returns-3 : tie.Need-returns-then-words-lt1
+returns_3 : tie.Need-returns-then-words-lt1
 unfolding frame_columns leading
-returns-3 c =
+returns_3 c =
     let d2 = c in
     simp (lt-ltb _ _ d2.before.before.before.before.if-id-ge-IDENTIFIERS.false, d2.before.before.if-used-id.false, lt-leb _ _ c.if-words-lt1.true)
 
-returns-4 : tie.Need-returns-then-words-gt8
+returns_4 : tie.Need-returns-then-words-gt8
 unfolding frame_columns leading
-returns-4 c =
+returns_4 c =
     let d2 = c in
     simp (lt-ltb _ _ d2.before.before.before.before.before.before.if-id-ge-IDENTIFIERS.false, d2.before.before.before.before.if-used-id.false, lt-leb _ _ c.if-words-gt8.true, and-false)
 
-returns-5 : tie.Need-returns-then-words-le3
+returns_5 : tie.Need-returns-then-words-le3
 unfolding frame_columns leading
-returns-5 c =
+returns_5 c =
     let d4 = c in
     let d3 = d4 in
     let d2 = d3 in
     simp (lt-ltb _ _ d2.before.before.before.before.before.before.before.before.if-id-ge-IDENTIFIERS.false, d2.before.before.before.before.before.before.if-used-id.false, le-leb _ _ d3.before.before.before.before.if-words-lt1.false, le-leb _ _ d4.before.before.if-words-gt8.false, le-leb _ _ c.if-words-le3.true)
 
-returns-6 : tie.Need-returns-else-words-le3
+returns_6 : tie.Need-returns-else-words-le3
 unfolding frame_columns leading
-returns-6 c =
+returns_6 c =
     let d4 = c in
     let d3 = d4 in
     let d2 = d3 in
     simp (lt-ltb _ _ d2.before.before.before.before.before.before.before.before.if-id-ge-IDENTIFIERS.false, d2.before.before.before.before.before.before.if-used-id.false, le-leb _ _ d3.before.before.before.before.if-words-lt1.false, le-leb _ _ d4.before.before.if-words-gt8.false, lt-leb _ _ c.if-words-le3.false)
 
 pub right_words_spec : {M : Type 1} → statement M
-right_words_spec = tie.close (tie.spec returns (λ c. search rules) returns-2 returns-3 returns-4 returns-5 returns-6)
+right_words_spec = tie.close (tie.spec returns (λ c. search rules) returns_2 returns_3 returns_4 returns_5 returns_6)

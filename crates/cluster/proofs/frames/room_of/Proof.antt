@@ -9,11 +9,11 @@ use borrow.Author.Rules.{rules}
 use Rattle.cluster.proofs.frames.room_of.Statement.{statement}
 use Rattle.cluster.proofs.frames.room_of.Tie as tie
 
-cast-t8 : tie.Need-overflow_cast-result
-cast-t8 c = omega (arith, c.shared_slice_known-2-1.given (c.before.frame_at-at.result + 1))
+cast_t8 : tie.Need-overflow_cast-result
+cast_t8 c = omega (arith, c.shared_slice_known-2-1.given (c.before.frame_at-at.result + 1))
 
-mul-t9 : tie.Need-overflow_mul-result
-mul-t9 c = omega (arith, c.shared_slice_known-2-1.given (c.before.frame_at-at.result + 1))
+mul_t9 : tie.Need-overflow_mul-result
+mul_t9 c = omega (arith, c.shared_slice_known-2-1.given (c.before.frame_at-at.result + 1))
 
 returns : tie.Need-returns
 unfolding published flags frame_length word bit
@@ -22,5 +22,5 @@ returns c = rw (pow-zero, div-one) (rw c.before.before.frame_at-at.ensures (refl
 pub room_of_spec : {M : Type 1} → statement M
 room_of_spec =
     tie.close
-    (tie.spec (λ c κs. search rules) (λ c. search rules) (λ c. search rules) (λ c. search rules) cast-t8 mul-t9
+    (tie.spec (λ c κs. search rules) (λ c. search rules) (λ c. search rules) (λ c. search rules) cast_t8 mul_t9
     (λ c. search rules) (λ c. search rules) (λ c. search rules) returns)

@@ -10,25 +10,25 @@ use Rattle.cluster.proofs.Filling.{filled_none, filled_turn, filled_same, filled
 use Rattle.cluster.proofs.fresh.fill.Statement.{statement}
 use Rattle.cluster.proofs.fresh.fill.Tie as tie
 
-abbrev invariant-loop : tie.invariant-loop-k
-invariant-loop t bytes₀ n k₀ bytes k = (k ≤ n) × (bytes ≡ filled t (length bytes₀) k)
+abbrev invariant_loop : tie.invariant-loop-k
+invariant_loop t bytes₀ n k₀ bytes k = (k ≤ n) × (bytes ≡ filled t (length bytes₀) k)
 
-abbrev decreases-loop : tie.decreases-loop-k
-decreases-loop t bytes₀ n k₀ bytes k = n - k
+abbrev decreases_loop : tie.decreases-loop-k
+decreases_loop t bytes₀ n k₀ bytes k = n - k
 
-loop-holds : tie.Need-loop-k-init invariant-loop decreases-loop
-loop-holds c =
+loop_holds : tie.Need-loop-k-init invariant_loop decreases_loop
+loop_holds c =
     let size = length c.before.before.before.before.before.before.before.args.bytes.now in
     (omega arith, filled_none _ _ size c.before.before.before.set_bytes.ensures)
 
-loop-again : tie.Need-loop-k-preserved invariant-loop decreases-loop
-loop-again c =
+loop_again : tie.Need-loop-k-preserved invariant_loop decreases_loop
+loop_again c =
     (omega arith, filled_turn _ _ _ _ _ c.before.before.before.before.before.loop-k.invariant.1 c.before.before.put_start.ensures)
 
-same_length : tie.Need-shape_of-bytes invariant-loop decreases-loop
+same_length : tie.Need-shape_of-bytes invariant_loop decreases_loop
 same_length c = filled_same _ _ _ _ _ c.before.before.before.before.before.set_bytes.ensures c.before.loop-k.invariant.1
 
-returns : tie.Need-returns invariant-loop decreases-loop
+returns : tie.Need-returns invariant_loop decreases_loop
 returns c =
     let e : c.before.loop-k.k ≡ placement_count c.before.before.before.before.before.before.before.before.before.args.t.now = omega arith in
     filled_all _ _ _ _ _ e c.before.before.before.before.before.set_bytes.ensures c.before.loop-k.invariant.1
@@ -36,5 +36,5 @@ returns c =
 pub fill_spec : {M : Type 1} → statement M
 fill_spec =
     tie.close
-    (tie.spec invariant-loop decreases-loop (λ c κs. search rules) (λ c κs. search rules) loop-holds (λ c κs. search rules)
-    (λ c. search rules) (λ c. search rules) loop-again same_length returns)
+    (tie.spec invariant_loop decreases_loop (λ c κs. search rules) (λ c κs. search rules) loop_holds (λ c κs. search rules)
+    (λ c. search rules) (λ c. search rules) loop_again same_length returns)

@@ -9,21 +9,21 @@ use Rattle.cluster.proofs.Filling.{fill_turn, fill_all}
 use Rattle.cluster.proofs.fresh.set_bytes.Statement.{statement}
 use Rattle.cluster.proofs.fresh.set_bytes.Tie as tie
 
-abbrev invariant-loop : tie.invariant-loop-i
-invariant-loop bytes₀ v i₀ bytes i = (i ≤ length bytes₀) × (length bytes ≡ length bytes₀) × (bytes ≡ replicate i v ++ drop i bytes₀)
+abbrev invariant_loop : tie.invariant-loop-i
+invariant_loop bytes₀ v i₀ bytes i = (i ≤ length bytes₀) × (length bytes ≡ length bytes₀) × (bytes ≡ replicate i v ++ drop i bytes₀)
 
-abbrev decreases-loop : tie.decreases-loop-i
-decreases-loop bytes₀ v i₀ bytes i = length bytes₀ - i
+abbrev decreases_loop : tie.decreases-loop-i
+decreases_loop bytes₀ v i₀ bytes i = length bytes₀ - i
 
-loop-again : tie.Need-loop-i-preserved invariant-loop decreases-loop
-loop-again c =
+loop_again : tie.Need-loop-i-preserved invariant_loop decreases_loop
+loop_again c =
     let h : c.before.loop-i.i < length c.before.before.args.bytes.now = omega arith in
     (omega arith, simp length-set c.before.loop-i.invariant.1, fill_turn _ _ _ _ h c.before.loop-i.invariant.2)
 
-same_length : tie.Need-shape_of-bytes invariant-loop decreases-loop
+same_length : tie.Need-shape_of-bytes invariant_loop decreases_loop
 same_length c = c.before.loop-i.invariant.1
 
-returns : tie.Need-returns invariant-loop decreases-loop
+returns : tie.Need-returns invariant_loop decreases_loop
 returns c =
     let e : c.before.loop-i.i ≡ length c.before.before.args.bytes.now = omega arith in
     fill_all _ _ _ _ e c.before.loop-i.invariant.2
@@ -31,5 +31,5 @@ returns c =
 pub set_bytes_spec : {M : Type 1} → statement M
 set_bytes_spec =
     tie.close
-    (tie.spec invariant-loop decreases-loop (λ c. search rules) (λ c. search rules) (λ c. search rules) (λ c. search rules) loop-again
+    (tie.spec invariant_loop decreases_loop (λ c. search rules) (λ c. search rules) (λ c. search rules) (λ c. search rules) loop_again
     same_length returns)

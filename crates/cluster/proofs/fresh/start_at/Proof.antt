@@ -6,8 +6,8 @@ use Rattle.cluster.proofs.Filling.{array_put, scalar_put}
 use Rattle.cluster.proofs.fresh.start_at.Statement.{statement}
 use Rattle.cluster.proofs.fresh.start_at.Tie as tie
 
-slice-aggregate-put-array : tie.Need-slice_bounds-put_array-end
-slice-aggregate-put-array c = sym (length-take-le _ _ c.before.before.array_length-n.ensures.1)
+slice_aggregate_put_array : tie.Need-slice_bounds-put_array-end
+slice_aggregate_put_array c = sym (length-take-le _ _ c.before.before.array_length-n.ensures.1)
 
 returns : tie.Need-returns-then-is_array
 returns c =
@@ -20,8 +20,8 @@ returns c =
     d.before.before.before.before.before.array_length-n.ensures.1
     c.before.before.put_array.ensures
 
-returns-2 : tie.Need-returns-else-is_array
-returns-2 c =
+returns_2 : tie.Need-returns-else-is_array
+returns_2 c =
     let d = c in
     scalar_put _ _ _ _ _ _ _ _
     d.before.before.before.before.before.before.before.is_array.ensures
@@ -34,6 +34,6 @@ pub start_at_spec : {M : Type 1} → statement M
 start_at_spec =
     tie.close
     (tie.spec (λ c κs. search rules) (λ c κs. search rules) (λ c. search rules)
-    (λ c κs. search rules) (λ c. search rules) slice-aggregate-put-array (λ c κs. search rules)
+    (λ c κs. search rules) (λ c. search rules) slice_aggregate_put_array (λ c κs. search rules)
     (λ c κs. search rules) (λ c. search rules) (λ c κs. search rules) (λ c κs. search rules) (λ c. search rules)
-    returns (λ c. search rules) returns-2)
+    returns (λ c. search rules) returns_2)

@@ -17,13 +17,13 @@ put c =
     let a = c.before.args in
     field_put a.bits a.offset a.width (omega arith) (omega arith) c.before.requires.1
 
-add-result : tie.Need-overflow_add-result
-add-result c = rw c.ones.ensures (omega (arith, (put c).0))
+add_result : tie.Need-overflow_add-result
+add_result c = rw c.ones.ensures (omega (arith, (put c).0))
 
 returns : tie.Need-returns
 returns c = rw c.ones.ensures (put c).1
 
 pub with_bits_spec : {M : Type 1} → statement M
 with_bits_spec =
-    tie.close (tie.spec (λ c κs. search rules) (λ c. search rules) (λ c. search rules) (λ c. search rules) add-result
+    tie.close (tie.spec (λ c κs. search rules) (λ c. search rules) (λ c. search rules) (λ c. search rules) add_result
     returns)

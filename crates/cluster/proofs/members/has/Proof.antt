@@ -11,19 +11,19 @@ use Rattle.cluster.proofs.ListWalk.{left_from, left_all, next_member_from, one_o
 use Rattle.cluster.proofs.members.has.Statement.{statement}
 use Rattle.cluster.proofs.members.has.Tie as tie
 
-abbrev invariant-loop : tie.invariant-loop-m
-invariant-loop t l f n m₀ m =
+abbrev invariant_loop : tie.invariant-loop-m
+invariant_loop t l f n m₀ m =
     (n ≡ member_count t) × ((k : ℕ) × (m ≡ next_member t l k) × (is_one_of f (members t l) ≡ is_one_of f (left_from t l k)))
 
-abbrev decreases-loop : tie.decreases-loop-m
-decreases-loop t l f n m₀ m = n - m
+abbrev decreases_loop : tie.decreases-loop-m
+decreases_loop t l f n m₀ m = n - m
 
-loop-holds : tie.Need-loop-m-init invariant-loop decreases-loop
-loop-holds c =
+loop_holds : tie.Need-loop-m-init invariant_loop decreases_loop
+loop_holds c =
     let a = c.before.before.before.args in
     (c.before.count-n.ensures, (0, c.next-m.ensures, ap (is_one_of a.f) (sym (left_all a.t.now a.l))))
 
-returns : tie.Need-returns-then-frame-f invariant-loop decreases-loop
+returns : tie.Need-returns-then-frame-f invariant_loop decreases_loop
 returns c =
     let a = c.before.before.before.before.before.before.before.args in
     let inv = c.before.before.before.loop-m.invariant in
@@ -31,13 +31,13 @@ returns c =
     let at = inv.1.1 in
     sym (inv.1.2 ∙ one_of_here a.t.now a.l a.f k (omega (arith, at)) (ap (member_frame a.t.now) (sym at) ∙ sym c.before.frame.ensures ∙ c.if-frame-f.true))
 
-loop-less : tie.Need-loop-m-smaller invariant-loop decreases-loop
-loop-less c =
+loop_less : tie.Need-loop-m-smaller invariant_loop decreases_loop
+loop_less c =
     let a = c.before.before.before.before.before.before.before.before.args in
     omega (arith, c.next-m-in-loop-m.ensures, next_member_from a.t.now a.l (c.before.before.before.before.loop-m.m + 1))
 
-loop-again : tie.Need-loop-m-preserved invariant-loop decreases-loop
-loop-again c =
+loop_again : tie.Need-loop-m-preserved invariant_loop decreases_loop
+loop_again c =
     let a = c.before.before.before.before.before.before.before.before.args in
     let m = c.before.before.before.before.loop-m.m in
     let inv = c.before.before.before.before.loop-m.invariant in
@@ -46,8 +46,8 @@ loop-again c =
     let later = one_of_later a.t.now a.l a.f k (omega (arith, at)) (λ e. c.before.if-frame-f.false (c.before.before.frame.ensures ∙ ap (member_frame a.t.now) at ∙ e)) in
     (inv.0, (m + 1, c.next-m-in-loop-m.ensures, inv.1.2 ∙ (rw (← at, ← (add-one m)) at later)))
 
-returns-2 : tie.Need-returns invariant-loop decreases-loop
-returns-2 c =
+returns_2 : tie.Need-returns invariant_loop decreases_loop
+returns_2 c =
     let a = c.before.before.before.before.before.args in
     let inv = c.before.loop-m.invariant in
     sym (inv.1.2 ∙ one_of_none a.t.now a.l a.f inv.1.0 (omega (arith, inv.1.1)))
@@ -55,5 +55,5 @@ returns-2 c =
 pub has_spec : {M : Type 1} → statement M
 has_spec =
     tie.close
-    (tie.spec invariant-loop decreases-loop (λ c κs. search rules) (λ c κs. search rules) loop-holds (λ c κs. search rules) returns
-    (λ c. search rules) (λ c κs. search rules) loop-less loop-again returns-2)
+    (tie.spec invariant_loop decreases_loop (λ c κs. search rules) (λ c κs. search rules) loop_holds (λ c κs. search rules) returns
+    (λ c. search rules) (λ c κs. search rules) loop_less loop_again returns_2)

@@ -13,16 +13,16 @@ use Rattle.cluster.proofs.MemberTurn.{Passed, Turn, none_passed, all_passed, mem
 use Rattle.cluster.proofs.members.judge.Statement.{statement}
 use Rattle.cluster.proofs.members.judge.Tie as tie
 
-abbrev invariant-loop : tie.invariant-loop-m
-invariant-loop t listed₀ first n whole lists₀ m₀ listed lists m = Passed t m lists listed
+abbrev invariant_loop : tie.invariant-loop-m
+invariant_loop t listed₀ first n whole lists₀ m₀ listed lists m = Passed t m lists listed
 
-abbrev decreases-loop : tie.decreases-loop-m
-decreases-loop t listed₀ first n whole lists₀ m₀ listed lists m = whole - m
+abbrev decreases_loop : tie.decreases-loop-m
+decreases_loop t listed₀ first n whole lists₀ m₀ listed lists m = whole - m
 
 -- the table, the member, the lists counted and the marks at the loop's test
 
 abbrev Loop : Type 0
-Loop = tie.At-loop-m invariant-loop decreases-loop
+Loop = tie.At-loop-m invariant_loop decreases_loop
 
 abbrev table : Loop → List ℕ
 table c = c.before.before.before.before.before.args.t.now
@@ -47,13 +47,13 @@ here c = omega (arith, c.before.before.before.member_at-first.ensures)
 -- what was found of a record that is whole, and of one that is cut off
 
 abbrev Judged : Type 0
-Judged = tie.After-right_words-right invariant-loop decreases-loop
+Judged = tie.After-right_words-right invariant_loop decreases_loop
 
 abbrev loop : Judged → Loop
 loop c = c.before.before.before.before
 
-turn-whole : (c : Judged) → Turn (table (loop c)) (member (loop c)) (lists (loop c)) (marks (loop c))
-turn-whole c = turn (loop c) (omega (arith, c.before.before.before.loop-m-test.true, (loop c).before.whole_records-whole.ensures.within))
+turn_whole : (c : Judged) → Turn (table (loop c)) (member (loop c)) (lists (loop c)) (marks (loop c))
+turn_whole c = turn (loop c) (omega (arith, c.before.before.before.loop-m-test.true, (loop c).before.whole_records-whole.ensures.within))
 
 read_at : (c : Judged) → MemberRead (table (loop c)) (member_at (table (loop c)) (member (loop c))) c.before.before.read-words.result
 read_at c = rw (here (loop c)) at c.before.before.read-words.ensures
@@ -62,16 +62,16 @@ seen : (c : Judged) → c.right_words-right.result ≡ leading (member_read (tab
 seen c = let l = loop c in c.right_words-right.ensures ∙ ap leading (seen_read (table l) (member l) (lists l) (marks l) _ (read_at c))
 
 abbrev Cut : Type 0
-Cut = tie.After-right_words invariant-loop decreases-loop
+Cut = tie.After-right_words invariant_loop decreases_loop
 
 abbrev end : Cut → Loop
 end c = c.before.before.before.before.before
 
-turn-cut : (c : Cut) → Turn (table (end c)) (member (end c)) (lists (end c)) (marks (end c))
-turn-cut c = turn (end c) c.before.before.before.if-m-n.true
+turn_cut : (c : Cut) → Turn (table (end c)) (member (end c)) (lists (end c)) (marks (end c))
+turn_cut c = turn (end c) c.before.before.before.if-m-n.true
 
-seen-cut : (c : Cut) → c.right_words.result ≡ leading (member_read (table (end c)) (member (end c)) (lists (end c)) (marks (end c)))
-seen-cut c =
+seen_cut : (c : Cut) → c.right_words.result ≡ leading (member_read (table (end c)) (member (end c)) (lists (end c)) (marks (end c)))
+seen_cut c =
     let l = end c in
     c.right_words.ensures ∙ ap leading (seen_read (table l) (member l) (lists l) (marks l) _ (rw (here l) at c.before.read_due.ensures))
 
@@ -80,66 +80,66 @@ cut_right c =
     let l = end c in
     let more = c.before.before.before.if-m-n.true in
     let reached = c.before.before.before.before.loop-m-test.false in
-    cut_off (table l) (member l) (lists l) (marks l) (turn-cut c) (omega (arith, here l, l.before.whole_records-whole.ensures.cut (omega arith)))
+    cut_off (table l) (member l) (lists l) (marks l) (turn_cut c) (omega (arith, here l, l.before.whole_records-whole.ensures.cut (omega arith)))
 
-loop-holds : tie.Need-loop-m-init invariant-loop decreases-loop
-loop-holds c = none_passed c.before.before.before.before.args.t.now
+loop_holds : tie.Need-loop-m-init invariant_loop decreases_loop
+loop_holds c = none_passed c.before.before.before.before.args.t.now
 
-read-requires : tie.Need-read-words-requires invariant-loop decreases-loop
-read-requires c κs = let l = c in omega (arith, l.before.before.whole_records-whole.ensures.there (member l.before) c.loop-m-test.true)
+read_requires : tie.Need-read-words-requires invariant_loop decreases_loop
+read_requires c κs = let l = c in omega (arith, l.before.before.whole_records-whole.ensures.there (member l.before) c.loop-m-test.true)
 
-right-words-requires : tie.Need-right_words-right-requires invariant-loop decreases-loop
-right-words-requires c κs =
+right_words_requires : tie.Need-right_words-right-requires invariant_loop decreases_loop
+right_words_requires c κs =
     let l = c in
     (l.before.before.before.before.before.before.before.before.requires.0, l.before.before.before.loop-m.invariant.1.0, c.before.read-words.ensures.list_high)
 
-returns : tie.Need-returns-then-right-lt-MEMBER invariant-loop decreases-loop
+returns : tie.Need-returns-then-right-lt-MEMBER invariant_loop decreases_loop
 unfolding member_columns
 returns c =
     let d : Judged = c.before.before in
     let l = loop d in
     let right = seen d in
-    c.fault.ensures ∙ stops (table l) (member l) (lists l) (marks l) (turn-whole d) (omega arith) _ (omega (arith, here l))
+    c.fault.ensures ∙ stops (table l) (member l) (lists l) (marks l) (turn_whole d) (omega arith) _ (omega (arith, here l))
 
-array-write-listed : tie.Need-bounds-listed-f invariant-loop decreases-loop
-array-write-listed c =
+array_write_listed : tie.Need-bounds-listed-f invariant_loop decreases_loop
+array_write_listed c =
     let d : Judged = c.before in
     let l = loop d in
     let right = seen d in
-    let below = frame_below (table l) (member l) (lists l) (marks l) (turn-whole d) (omega arith) in
+    let below = frame_below (table l) (member l) (lists l) (marks l) (turn_whole d) (omega arith) in
     omega (arith, (read_at d).frame_is, l.loop-m.invariant.1.0)
 
-loop-again : tie.Need-loop-m-preserved invariant-loop decreases-loop
+loop_again : tie.Need-loop-m-preserved invariant_loop decreases_loop
 unfolding member_columns
-loop-again c =
+loop_again c =
     let d : Judged = c.before.before in
     let l = loop d in
     let right = seen d in
-    passes (table l) (member l) (lists l) (marks l) (turn-whole d) (omega arith) _ (read_at d)
+    passes (table l) (member l) (lists l) (marks l) (turn_whole d) (omega arith) _ (read_at d)
 
-right-words-requires-2 : tie.Need-right_words-requires invariant-loop decreases-loop
-right-words-requires-2 c κs =
+right_words_requires_2 : tie.Need-right_words-requires invariant_loop decreases_loop
+right_words_requires_2 c κs =
     let l = c in
     (l.before.before.before.before.before.before.before.before.before.requires.0, l.before.before.before.before.loop-m.invariant.1.0, c.read_due.ensures.list_high)
 
-add-fault-2 : tie.Need-overflow_add-at-then-m-n-2 invariant-loop decreases-loop
-add-fault-2 c = omega (arith, seen-cut c, cut_right c)
+add_fault_2 : tie.Need-overflow_add-at-then-m-n-2 invariant_loop decreases_loop
+add_fault_2 c = omega (arith, seen_cut c, cut_right c)
 
-returns-2 : tie.Need-returns-then-m-n invariant-loop decreases-loop
-returns-2 c =
+returns_2 : tie.Need-returns-then-m-n invariant_loop decreases_loop
+returns_2 c =
     let d : Cut = c.before in
     let l = end d in
-    c.fault-then-m-n.ensures ∙ stops (table l) (member l) (lists l) (marks l) (turn-cut d) (cut_right d) _ (omega (arith, here l, seen-cut d))
+    c.fault-then-m-n.ensures ∙ stops (table l) (member l) (lists l) (marks l) (turn_cut d) (cut_right d) _ (omega (arith, here l, seen_cut d))
 
-returns-3 : tie.Need-returns invariant-loop decreases-loop
-returns-3 c =
+returns_3 : tie.Need-returns invariant_loop decreases_loop
+returns_3 c =
     let l = c in
     all_passed _ _ _ l.before.before.loop-m.listed l.before.before.loop-m.invariant (omega (arith, l.before.before.before.before.count-n.ensures))
 
 pub judge_spec : {M : Type 1} → statement M
 judge_spec =
     tie.close
-    (tie.spec invariant-loop decreases-loop (λ c κs. search rules) (λ c κs. search rules) (λ c. search rules) (λ c κs. search rules) loop-holds
-    (λ c. search rules) (λ c. search rules) read-requires (λ c. search rules) right-words-requires (λ c. search rules) (λ c κs. search rules)
-    returns array-write-listed (λ c. search rules) (λ c. search rules) (λ c. search rules) loop-again (λ c. search rules) (λ c. search rules)
-    (λ c. search rules) (λ c κs. search rules) right-words-requires-2 add-fault-2 (λ c κs. search rules) returns-2 returns-3)
+    (tie.spec invariant_loop decreases_loop (λ c κs. search rules) (λ c κs. search rules) (λ c. search rules) (λ c κs. search rules) loop_holds
+    (λ c. search rules) (λ c. search rules) read_requires (λ c. search rules) right_words_requires (λ c. search rules) (λ c κs. search rules)
+    returns array_write_listed (λ c. search rules) (λ c. search rules) (λ c. search rules) loop_again (λ c. search rules) (λ c. search rules)
+    (λ c. search rules) (λ c κs. search rules) right_words_requires_2 add_fault_2 (λ c κs. search rules) returns_2 returns_3)

@@ -11,35 +11,35 @@ use Rattle.cluster.proofs.Searching.{right, wrong, ended}
 use Rattle.cluster.proofs.members.next.Statement.{statement}
 use Rattle.cluster.proofs.members.next.Tie as tie
 
-abbrev invariant-loop : tie.invariant-loop-k
-invariant-loop t l m n k₀ k =
+abbrev invariant_loop : tie.invariant-loop-k
+invariant_loop t l m n k₀ k =
     (n ≡ member_count t) × (next_member t l m ≡ first_from (λ j. eqb (member_list t j) l) k (n - k))
 
-abbrev decreases-loop : tie.decreases-loop-k
-decreases-loop t l m n k₀ k = n - k
+abbrev decreases_loop : tie.decreases-loop-k
+decreases_loop t l m n k₀ k = n - k
 
-loop-holds : tie.Need-loop-k-init invariant-loop decreases-loop
+loop_holds : tie.Need-loop-k-init invariant_loop decreases_loop
 unfolding next_member
-loop-holds c = (c.count-n.ensures, rw c.count-n.ensures refl)
+loop_holds c = (c.count-n.ensures, rw c.count-n.ensures refl)
 
-returns : tie.Need-returns-then-list-l invariant-loop decreases-loop
+returns : tie.Need-returns-then-list-l invariant_loop decreases_loop
 returns c =
     sym
     (c.before.before.before.loop-k.invariant.1
     ∙ right _ _ _ c.before.before.loop-k-test.true (eq-eqb _ _ (sym c.before.list.ensures ∙ c.if-list-l.true)))
 
-loop-again : tie.Need-loop-k-preserved invariant-loop decreases-loop
-loop-again c = (
+loop_again : tie.Need-loop-k-preserved invariant_loop decreases_loop
+loop_again c = (
   c.before.before.before.loop-k.invariant.0,
   c.before.before.before.loop-k.invariant.1
       ∙ wrong _ _ _ c.before.before.loop-k-test.true (ne_eqb _ _ (λ e. c.if-list-l.false (c.before.list.ensures ∙ e))),
 )
 
-returns-2 : tie.Need-returns invariant-loop decreases-loop
-returns-2 c = sym (c.before.loop-k.invariant.1 ∙ ended _ _ _ c.loop-k-test.false)
+returns_2 : tie.Need-returns invariant_loop decreases_loop
+returns_2 c = sym (c.before.loop-k.invariant.1 ∙ ended _ _ _ c.loop-k-test.false)
 
 pub next_spec : {M : Type 1} → statement M
 next_spec =
     tie.close
-    (tie.spec invariant-loop decreases-loop (λ c κs. search rules) loop-holds (λ c κs. search rules) returns (λ c. search rules)
-    (λ c. search rules) loop-again returns-2)
+    (tie.spec invariant_loop decreases_loop (λ c κs. search rules) loop_holds (λ c κs. search rules) returns (λ c. search rules)
+    (λ c. search rules) loop_again returns_2)

@@ -8,11 +8,11 @@ use borrow.Author.Rules.{rules}
 use Rattle.cluster.proofs.members.read.Statement.{statement}
 use Rattle.cluster.proofs.members.read.Tie as tie
 
-cast-t6 : tie.Need-overflow_cast-result
-cast-t6 c = omega (arith, c.shared_slice_known-1.given c.before.args.at)
+cast_t6 : tie.Need-overflow_cast-result
+cast_t6 c = omega (arith, c.shared_slice_known-1.given c.before.args.at)
 
-cast-t11 : tie.Need-overflow_cast-result-2
-cast-t11 c = omega (arith, c.shared_slice_known-2-1.given (c.before.before.args.at + 1))
+cast_t11 : tie.Need-overflow_cast-result-2
+cast_t11 c = omega (arith, c.shared_slice_known-2-1.given (c.before.before.args.at + 1))
 
 returns : tie.Need-returns
 unfolding word
@@ -27,4 +27,4 @@ returns c =
 pub read_spec : {M : Type 1} → statement M
 read_spec =
     tie.close
-    (tie.spec (λ c. search rules) (λ c. search rules) cast-t6 (λ c. search rules) (λ c. search rules) (λ c. search rules) cast-t11 returns)
+    (tie.spec (λ c. search rules) (λ c. search rules) cast_t6 (λ c. search rules) (λ c. search rules) (λ c. search rules) cast_t11 returns)

@@ -17,38 +17,38 @@ start c = c.before.before.before.before.before.before
 up : (c : tie.Else-not-follows) → let a = c.before.before.before.before.args in follows a.lists a.words.list ≡ true
 up c = sym c.before.follows.ensures ∙ not-false c.before.follows.result c.if-not-follows.false-raw
 
-frame-there : (c : tie.Else-count-f) → (start c).args.words.frame < frame_count (start c).args.t.now
-frame-there c = omega (arith, c.before.count.ensures, c.if-count-f.false)
+frame_there : (c : tie.Else-count-f) → (start c).args.words.frame < frame_count (start c).args.t.now
+frame_there c = omega (arith, c.before.count.ensures, c.if-count-f.false)
 
 returns : tie.Need-returns-then-not-follows
 unfolding member_columns leading
 returns c = simp (sym c.before.follows.ensures ∙ not-true c.before.follows.result c.if-not-follows.true-raw)
 
-returns-2 : tie.Need-returns-then-count-f
+returns_2 : tie.Need-returns-then-count-f
 unfolding member_columns leading
-returns-2 c =
+returns_2 c =
     let d = c in
     let a = d.before.before.before.before.before.before.args in
     simp (up d.before.before, le-ltb a.words.frame (frame_count a.t.now) (omega (arith, c.before.count.ensures, c.if-count-f.true)))
 
-returns-3 : tie.Need-returns-then-listed-f
+returns_3 : tie.Need-returns-then-listed-f
 unfolding member_columns leading
-returns-3 c = simp (up c.before.before.before.before, c.if-listed-f.true, and-false)
+returns_3 c = simp (up c.before.before.before.before, c.if-listed-f.true, and-false)
 
-returns-4 : tie.Need-returns-then-room
+returns_4 : tie.Need-returns-then-room
 unfolding member_columns leading
-returns-4 c =
+returns_4 c =
     let e = c in
-    simp (up e.before.before.before.before.before.before, lt-ltb _ _ (frame-there e.before.before.before.before), c.before.before.if-listed-f.false, sym c.before.room_of-room.ensures.1 ∙ c.if-room.true)
+    simp (up e.before.before.before.before.before.before, lt-ltb _ _ (frame_there e.before.before.before.before), c.before.before.if-listed-f.false, sym c.before.room_of-room.ensures.1 ∙ c.if-room.true)
 
-returns-5 : tie.Need-returns-else-room
+returns_5 : tie.Need-returns-else-room
 unfolding member_columns leading
-returns-5 c =
+returns_5 c =
     let e = c in
     simp (up e.before.before.before.before.before.before, sym c.before.room_of-room.ensures.1 ∙ c.if-room.false, and-false)
 
 pub right_words_spec : {M : Type 1} → statement M
 right_words_spec =
     tie.close
-    (tie.spec (λ c κs. search rules) returns (λ c κs. search rules) (λ c. search rules) returns-2 (λ c. search rules) returns-3
-    (λ c κs. search rules) returns-4 returns-5)
+    (tie.spec (λ c κs. search rules) returns (λ c κs. search rules) (λ c. search rules) returns_2 (λ c. search rules) returns_3
+    (λ c κs. search rules) returns_4 returns_5)

@@ -12,34 +12,34 @@ use Rattle.cluster.proofs.Searching.{right, wrong, ended}
 use Rattle.cluster.proofs.placements.first.Statement.{statement}
 use Rattle.cluster.proofs.placements.first.Tie as tie
 
-abbrev invariant-loop : tie.invariant-loop-k
-invariant-loop t s n k₀ k = (n ≡ placement_count t) × (first_placement t s ≡ first_from (places t s) k (n - k))
+abbrev invariant_loop : tie.invariant-loop-k
+invariant_loop t s n k₀ k = (n ≡ placement_count t) × (first_placement t s ≡ first_from (places t s) k (n - k))
 
-abbrev decreases-loop : tie.decreases-loop-k
-decreases-loop t s n k₀ k = n - k
+abbrev decreases_loop : tie.decreases-loop-k
+decreases_loop t s n k₀ k = n - k
 
-loop-holds : tie.Need-loop-k-init invariant-loop decreases-loop
+loop_holds : tie.Need-loop-k-init invariant_loop decreases_loop
 unfolding first_placement
-loop-holds c = (c.count-n.ensures, rw (c.count-n.ensures, sub-zero))
+loop_holds c = (c.count-n.ensures, rw (c.count-n.ensures, sub-zero))
 
-returns : tie.Need-returns-then-signal-s invariant-loop decreases-loop
+returns : tie.Need-returns-then-signal-s invariant_loop decreases_loop
 returns c =
     sym
     (c.before.before.before.loop-k.invariant.1
     ∙ right _ _ _ c.before.before.loop-k-test.true (eq-eqb _ _ (sym c.before.signal.ensures ∙ c.if-signal-s.true)))
 
-loop-again : tie.Need-loop-k-preserved invariant-loop decreases-loop
-loop-again c = (
+loop_again : tie.Need-loop-k-preserved invariant_loop decreases_loop
+loop_again c = (
   c.before.before.before.loop-k.invariant.0,
   c.before.before.before.loop-k.invariant.1
       ∙ wrong _ _ _ c.before.before.loop-k-test.true (ne_eqb _ _ (λ e. c.if-signal-s.false (c.before.signal.ensures ∙ e))),
 )
 
-returns-2 : tie.Need-returns invariant-loop decreases-loop
-returns-2 c = sym (c.before.loop-k.invariant.1 ∙ ended _ _ _ c.loop-k-test.false)
+returns_2 : tie.Need-returns invariant_loop decreases_loop
+returns_2 c = sym (c.before.loop-k.invariant.1 ∙ ended _ _ _ c.loop-k-test.false)
 
 pub first_spec : {M : Type 1} → statement M
 first_spec =
     tie.close
-    (tie.spec invariant-loop decreases-loop (λ c κs. search rules) loop-holds (λ c κs. search rules) returns (λ c. search rules)
-    (λ c. search rules) loop-again returns-2)
+    (tie.spec invariant_loop decreases_loop (λ c κs. search rules) loop_holds (λ c κs. search rules) returns (λ c. search rules)
+    (λ c. search rules) loop_again returns_2)

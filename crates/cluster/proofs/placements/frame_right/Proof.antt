@@ -19,8 +19,8 @@ frame_there : (c : tie.Else-count-f) → (start c).args.f < frame_count (start c
 frame_there c = omega (arith, c.before.count.ensures, c.if-count-f.false)
 
 -- where the signal is not the next one, it is that of the placement before
-placed-before : (c : tie.Else-s-known) → let a = (start c.before.before).args in a.s + 1 ≡ a.known.placed
-placed-before c =
+placed_before : (c : tie.Else-s-known) → let a = (start c.before.before).args in a.s + 1 ≡ a.known.placed
+placed_before c =
     let d = start c.before.before in
     eqb-true (d.args.s + 1) d.args.known.placed (follows_same d.args.known.placed d.args.s c.if-s-known.false ∙ d.requires.1.1)
 
@@ -29,33 +29,33 @@ returns c =
     let a = c.before.before.before.before.args in
     rw (le-ltb a.f (frame_count a.t.now) (omega (arith, c.before.count.ensures, c.if-count-f.true)))
 
-returns-2 : tie.Need-returns-then-s-known
-returns-2 c =
+returns_2 : tie.Need-returns-then-s-known
+returns_2 c =
     let e = c in
     let a = (start e.before.before).args in
     let marks = (start e.before.before).requires.0.1.marks a.f in
     rw (lt-ltb _ _ (frame_there e.before.before), ne_eqb (get_or a.last.now a.f 0) (a.s + 1) (λ q. omega arith), ne_eqb (a.s + 1) a.known.placed (λ q. omega arith))
 
-cast-if3 : tie.Need-overflow_cast-last
-cast-if3 c = omega (arith, c.shared_slice_known-3-1.given (start c.before.before.before).args.f)
+cast_if3 : tie.Need-overflow_cast-last
+cast_if3 c = omega (arith, c.shared_slice_known-3-1.given (start c.before.before.before).args.f)
 
-returns-3 : tie.Need-returns-then-last-f
-returns-3 c = rw (lt-ltb _ _ (frame_there c.before.before.before.before), eq-eqb _ _ c.if-last-f.true)
+returns_3 : tie.Need-returns-then-last-f
+returns_3 c = rw (lt-ltb _ _ (frame_there c.before.before.before.before), eq-eqb _ _ c.if-last-f.true)
 
-room-of-requires : tie.Need-room_of-before-requires
-room-of-requires c κs =
+room_of_requires : tie.Need-room_of-before-requires
+room_of_requires c κs =
     let e = c in
     let pre = (start e.before.before.before.before).requires.0 in
-    let there = pre.1.frame (omega (arith, placed-before e.before.before)) in
+    let there = pre.1.frame (omega (arith, placed_before e.before.before)) in
     (omega (arith, pre.0.frames), omega (arith, pre.0.all))
 
-room-of-requires-2 : tie.Need-room_of-room-requires
-room-of-requires-2 c κs =
+room_of_requires_2 : tie.Need-room_of-room-requires
+room_of_requires_2 c κs =
     let e = c in
     (omega (arith, frame_there e.before.before.before.before.before, (start e.before.before.before.before.before).requires.0.0.frames), omega (arith, frame_there e.before.before.before.before.before, (start e.before.before.before.before.before).requires.0.0.all))
 
-returns-4 : tie.Need-returns
-returns-4 c =
+returns_4 : tie.Need-returns
+returns_4 c =
     let rooms = c in
     let e = rooms in
     let a = (start e.before.before.before.before.before.before.before.before).args in
@@ -64,12 +64,12 @@ returns-4 c =
       rooms.before.before.room_of-room.ensures.1,
       lt-ltb _ _ (frame_there e.before.before.before.before.before.before.before.before),
       ne_eqb _ _ rooms.before.before.before.before.if-last-f.false,
-      eq-eqb _ _ (placed-before e.before.before.before.before.before.before),
+      eq-eqb _ _ (placed_before e.before.before.before.before.before.before),
     )
     (whether (beq (published a.t.now a.known.frame) (published a.t.now a.f)) (λ y. rw y) (λ z. rw z))
 
 pub frame_right_spec : {M : Type 1} → statement M
 frame_right_spec =
     tie.close
-    (tie.spec (λ c κs. search rules) (λ c. search rules) returns returns-2 (λ c. search rules) (λ c. search rules) cast-if3 (λ c. search rules)
-    returns-3 room-of-requires room-of-requires-2 returns-4)
+    (tie.spec (λ c κs. search rules) (λ c. search rules) returns returns_2 (λ c. search rules) (λ c. search rules) cast_if3 (λ c. search rules)
+    returns_3 room_of_requires room_of_requires_2 returns_4)

@@ -11,17 +11,17 @@ use Rattle.cluster.proofs.PlacementTurn.{Passed, Turn, none_passed, all_passed, 
 use Rattle.cluster.proofs.placements.judge.Statement.{statement}
 use Rattle.cluster.proofs.placements.judge.Tie as tie
 
-abbrev invariant-loop : tie.invariant-loop-at
-invariant-loop t occupied₀ last₀ first end placed₀ frame₀ at₀ occupied last placed frame at =
+abbrev invariant_loop : tie.invariant-loop-at
+invariant_loop t occupied₀ last₀ first end placed₀ frame₀ at₀ occupied last placed frame at =
     (k : ℕ) × (at ≡ placement_at t k) × Passed t k placed frame last occupied
 
-abbrev decreases-loop : tie.decreases-loop-at
-decreases-loop t occupied₀ last₀ first end placed₀ frame₀ at₀ occupied last placed frame at = end - at
+abbrev decreases_loop : tie.decreases-loop-at
+decreases_loop t occupied₀ last₀ first end placed₀ frame₀ at₀ occupied last placed frame at = end - at
 
 -- the table, the placement and the marks where a record was read
 
 abbrev Seen : Type 0
-Seen = tie.After-read-words invariant-loop decreases-loop
+Seen = tie.After-read-words invariant_loop decreases_loop
 
 abbrev table : Seen → List ℕ
 table c = c.before.before.before.before.before.before.args.t.now
@@ -59,7 +59,7 @@ read_at c = rw (here c) at c.read-words.ensures
 -- what was found of its words
 
 abbrev Judged : Type 0
-Judged = tie.After-right_words-right invariant-loop decreases-loop
+Judged = tie.After-right_words-right invariant_loop decreases_loop
 
 abbrev read : Judged → Seen
 read c = c.before.before.before
@@ -76,22 +76,22 @@ place c right =
     placed_right (table (read c)) (placement (read c)) (placed (read c)) (frame (read c)) (lasts (read c)) (bits (read c)) (turn (read c))
     (omega (arith, found c))
 
-loop-holds : tie.Need-loop-at-init invariant-loop decreases-loop
-loop-holds c = (0, omega (arith, c.before.placement_at-first.ensures), none_passed c.before.before.before.args.t.now)
+loop_holds : tie.Need-loop-at-init invariant_loop decreases_loop
+loop_holds c = (0, omega (arith, c.before.placement_at-first.ensures), none_passed c.before.before.before.args.t.now)
 
-read-requires : tie.Need-read-words-requires invariant-loop decreases-loop
-read-requires c κs =
+read_requires : tie.Need-read-words-requires invariant_loop decreases_loop
+read_requires c κs =
     let start = c in
     omega (arith, c.loop-at-test.true, start.before.before.count.ensures, start.before.before.before.placement_at-first.ensures, start.before.before.before.before.before.requires)
 
-right-words-requires : tie.Need-right_words-right-requires invariant-loop decreases-loop
-right-words-requires c κs =
+right_words_requires : tie.Need-right_words-right-requires invariant_loop decreases_loop
+right_words_requires c κs =
     let d : Seen = c.before.before in (
       ((turn d).records, (turn d).passed.there),
       (((turn d).passed.bits.0, (turn d).passed.lasts.0), (d.read-words.ensures.signal_high, d.read-words.ensures.offset_high)),
     )
 
-returns : tie.Need-returns-then-right-lt-PLACEMENT invariant-loop decreases-loop
+returns : tie.Need-returns-then-right-lt-PLACEMENT invariant_loop decreases_loop
 unfolding placement_columns
 returns c =
     let d : Judged = c.before.before in
@@ -99,58 +99,58 @@ returns c =
     let right = found d in
     c.fault.ensures ∙ stops (table e) (placement e) (placed e) (frame e) (lasts e) (bits e) (turn e) (omega arith) _ (omega (arith, here e))
 
-shape-of-requires : tie.Need-shape_of-shape-requires-in-loop-at invariant-loop decreases-loop
-shape-of-requires c κs =
+shape_of_requires : tie.Need-shape_of-shape-requires-in-loop-at invariant_loop decreases_loop
+shape_of_requires c κs =
     let d : Judged = c.before in
     let e = read d in
     (e.read-words.ensures.signal_high, omega (arith, (read_at e).signal_is, (place d (omega arith)).signal_there, (turn e).records.all))
 
-array-read-with-bits : tie.Need-bounds-occupied-f invariant-loop decreases-loop
-array-read-with-bits c =
+array_read_with_bits : tie.Need-bounds-occupied-f invariant_loop decreases_loop
+array_read_with_bits c =
     let d : Judged = c.before.before in
     omega (arith, (read_at (read d)).frame_is, (place d (omega arith)).below, (turn (read d)).passed.bits.0)
 
-mul-with-bits : tie.Need-offset_bounds-occupied-f invariant-loop decreases-loop
-mul-with-bits c =
+mul_with_bits : tie.Need-offset_bounds-occupied-f invariant_loop decreases_loop
+mul_with_bits c =
     let d : Judged = c.before.before in
     omega (arith, (read_at (read d)).frame_is, (place d (omega arith)).below)
 
-with-bits-requires : tie.Need-with_bits-requires invariant-loop decreases-loop
-with-bits-requires c κs =
+with_bits_requires : tie.Need-with_bits-requires invariant_loop decreases_loop
+with_bits_requires c κs =
     let d : Judged = c.before.before in
     let e = read d in
     let right = found d in
     free_read (table e) (placement e) (placed e) (frame e) (lasts e) (bits e) (turn e) (omega arith) _ (read_at e) _ _
     c.shape_of-shape.ensures.1 refl
 
-mul-occupied : tie.Need-offset_bounds-occupied-f-in-loop-at invariant-loop decreases-loop
-mul-occupied c =
+mul_occupied : tie.Need-offset_bounds-occupied-f-in-loop-at invariant_loop decreases_loop
+mul_occupied c =
     let d : Judged = c.before.before.before in
     omega (arith, (read_at (read d)).frame_is, (place d (omega arith)).below)
 
-array-write-occupied : tie.Need-bounds-occupied-f-in-loop-at invariant-loop decreases-loop
-array-write-occupied c =
+array_write_occupied : tie.Need-bounds-occupied-f-in-loop-at invariant_loop decreases_loop
+array_write_occupied c =
     let d : Judged = c.before.before.before in
     omega (arith, (read_at (read d)).frame_is, (place d (omega arith)).below, (turn (read d)).passed.bits.0)
 
-cast-last : tie.Need-overflow_cast-last invariant-loop decreases-loop
-cast-last c =
+cast_last : tie.Need-overflow_cast-last invariant_loop decreases_loop
+cast_last c =
     let d : Judged = c.before.before.before.before in
     omega (arith, (read_at (read d)).signal_is, (place d (omega arith)).signal_there, (turn (read d)).records.signals)
 
-mul-last : tie.Need-offset_bounds-last-f invariant-loop decreases-loop
-mul-last c =
+mul_last : tie.Need-offset_bounds-last-f invariant_loop decreases_loop
+mul_last c =
     let d : Judged = c.before.before.before.before in
     omega (arith, (read_at (read d)).frame_is, (place d (omega arith)).below)
 
-array-write-last : tie.Need-bounds-last-f invariant-loop decreases-loop
-array-write-last c =
+array_write_last : tie.Need-bounds-last-f invariant_loop decreases_loop
+array_write_last c =
     let d : Judged = c.before.before.before.before in
     omega (arith, (read_at (read d)).frame_is, (place d (omega arith)).below, (turn (read d)).passed.lasts.0)
 
-loop-again : tie.Need-loop-at-preserved invariant-loop decreases-loop
+loop_again : tie.Need-loop-at-preserved invariant_loop decreases_loop
 unfolding placement_columns
-loop-again c =
+loop_again c =
     let w = c in
     let d : Judged = w.before.before.before.before.before in
     let e = read d in
@@ -161,8 +161,8 @@ loop-again c =
           w.before.before.before.shape_of-shape.ensures.1 refl _ w.before.before.with_bits.ensures,
     )
 
-returns-2 : tie.Need-returns invariant-loop decreases-loop
-returns-2 c =
+returns_2 : tie.Need-returns invariant_loop decreases_loop
+returns_2 c =
     let inv = c.before.loop-at.invariant in
     let start = c in
     all_passed _ inv.0 _ _ _ _ inv.2 (omega (arith, inv.1, start.before.before.count.ensures, start.before.before.before.placement_at-first.ensures))
@@ -170,8 +170,8 @@ returns-2 c =
 pub judge_spec : {M : Type 1} → statement M
 judge_spec =
     tie.close
-    (tie.spec invariant-loop decreases-loop (λ c κs. search rules) (λ c κs. search rules) (λ c. search rules) (λ c. search rules) (λ c. search rules)
-    loop-holds read-requires (λ c. search rules) (λ c. search rules) right-words-requires (λ c. search rules)
-    (λ c κs. search rules) returns shape-of-requires mul-with-bits array-read-with-bits with-bits-requires
-    mul-occupied array-write-occupied (λ c. search rules) cast-last mul-last array-write-last (λ c. search rules) (λ c. search rules)
-    (λ c. search rules) loop-again returns-2)
+    (tie.spec invariant_loop decreases_loop (λ c κs. search rules) (λ c κs. search rules) (λ c. search rules) (λ c. search rules) (λ c. search rules)
+    loop_holds read_requires (λ c. search rules) (λ c. search rules) right_words_requires (λ c. search rules)
+    (λ c κs. search rules) returns shape_of_requires mul_with_bits array_read_with_bits with_bits_requires
+    mul_occupied array_write_occupied (λ c. search rules) cast_last mul_last array_write_last (λ c. search rules) (λ c. search rules)
+    (λ c. search rules) loop_again returns_2)

@@ -8,14 +8,14 @@ use borrow.Author.Rules.{rules}
 use Rattle.cluster.proofs.placements.read.Statement.{statement}
 use Rattle.cluster.proofs.placements.read.Tie as tie
 
-cast-t9 : tie.Need-overflow_cast-result
-cast-t9 c = omega (arith, c.shared_slice_known-then-at-t-1.given c.before.before.before.args.at)
+cast_t9 : tie.Need-overflow_cast-result
+cast_t9 c = omega (arith, c.shared_slice_known-then-at-t-1.given c.before.before.before.args.at)
 
-cast-t14 : tie.Need-overflow_cast-result-then-at-t
-cast-t14 c = omega (arith, c.shared_slice_known-then-at-t-2-1.given (c.before.before.before.before.args.at + 1))
+cast_t14 : tie.Need-overflow_cast-result-then-at-t
+cast_t14 c = omega (arith, c.shared_slice_known-then-at-t-2-1.given (c.before.before.before.before.args.at + 1))
 
-cast-t19 : tie.Need-overflow_cast-result-then-at-t-2
-cast-t19 c = omega (arith, c.shared_slice_known-then-at-t-3-1.given (c.before.before.before.before.before.args.at + 2))
+cast_t19 : tie.Need-overflow_cast-result-then-at-t-2
+cast_t19 c = omega (arith, c.shared_slice_known-then-at-t-3-1.given (c.before.before.before.before.before.args.at + 2))
 
 returns : tie.Need-returns-then-at-t
 unfolding word
@@ -32,7 +32,7 @@ returns c =
 pub read_spec : {M : Type 1} → statement M
 read_spec =
     tie.close
-    (tie.spec (λ c. search rules) (λ c. search rules) (λ c. search rules) cast-t9 (λ c. search rules)
-    (λ c. search rules) (λ c. search rules) cast-t14 (λ c. search rules) (λ c. search rules) (λ c. search rules)
-    cast-t19 returns (λ c κs. search rules) (λ c. search rules)
+    (tie.spec (λ c. search rules) (λ c. search rules) (λ c. search rules) cast_t9 (λ c. search rules)
+    (λ c. search rules) (λ c. search rules) cast_t14 (λ c. search rules) (λ c. search rules) (λ c. search rules)
+    cast_t19 returns (λ c κs. search rules) (λ c. search rules)
     (λ c κs. search rules) (λ c. search rules) (λ c κs. search rules) (λ c. search rules))

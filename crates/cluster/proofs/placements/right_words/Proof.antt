@@ -28,14 +28,14 @@ mixed c = mixes c.args.t.now c.args.known c.args.words.signal c.args.words.frame
 
 -- what was found where a word's test is passed
 
-signal-right : (c : tie.Else-not-signal_right)
+signal_right_lem : (c : tie.Else-not-signal_right)
     → let a = (start c).args in
     placement_signal_right (signal_count a.t.now) (follows a.known.placed a.words.signal) a.words.signal ≡ true
-signal-right c = sym c.before.signal_right.ensures ∙ not-false c.before.signal_right.result c.if-not-signal_right.false-raw
+signal_right_lem c = sym c.before.signal_right.ensures ∙ not-false c.before.signal_right.result c.if-not-signal_right.false-raw
 
 signal_there : (c : tie.Else-not-signal_right)
     → let a = (start c).args in (follows a.known.placed a.words.signal ≡ true) × (a.words.signal < signal_count a.t.now)
-signal_there c = signal_says _ _ _ (signal-right c)
+signal_there c = signal_says _ _ _ (signal_right_lem c)
 
 frame_right_lem : (c : tie.Else-not-frame_right)
     → let d = start c.before.before in
@@ -51,39 +51,39 @@ returns : tie.Need-returns-then-not-signal_right
 unfolding placement_columns leading
 returns c = simp (sym c.before.signal_right.ensures ∙ not-true c.before.signal_right.result c.if-not-signal_right.true-raw)
 
-frame-right-requires : tie.Need-frame_right-requires
-frame-right-requires c κs =
+frame_right_requires : tie.Need-frame_right-requires
+frame_right_requires c κs =
     let pre = (start c).requires in
     ((pre.0.0, pre.0.1, pre.1.0.1), (pre.1.1.0, (signal_there c).0))
 
-returns-2 : tie.Need-returns-then-not-frame_right
+returns_2 : tie.Need-returns-then-not-frame_right
 unfolding placement_columns leading
-returns-2 c =
-    simp (signal-right c.before.before, sym c.before.frame_right.ensures ∙ not-true c.before.frame_right.result c.if-not-frame_right.true-raw)
+returns_2 c =
+    simp (signal_right_lem c.before.before, sym c.before.frame_right.ensures ∙ not-true c.before.frame_right.result c.if-not-frame_right.true-raw)
 
-shape-of-requires : tie.Need-shape_of-shape-requires
-shape-of-requires c κs =
+shape_of_requires : tie.Need-shape_of-shape-requires
+shape_of_requires c κs =
     let d = c in
     ((start d.before.before).requires.1.1.0, omega (arith, (signal_there d.before.before).1, (start d.before.before).requires.0.0.all))
 
-room-of-requires : tie.Need-room_of-room-requires
-room-of-requires c κs =
+room_of_requires : tie.Need-room_of-room-requires
+room_of_requires c κs =
     let records = (start c.before.before.before).requires.0.0 in
     (omega (arith, frame_there c.before, records.frames), omega (arith, frame_there c.before, records.all))
 
-mul-offset-free : tie.Need-offset_bounds-occupied-f
-mul-offset-free c =
+mul_offset_free : tie.Need-offset_bounds-occupied-f
+mul_offset_free c =
     let e = c in
     omega (arith, frame_there e.before.before, (start e.before.before.before.before).requires.0.0.frames)
 
-shared-slice-read-offset-free : tie.Need-bounds-occupied-f
-shared-slice-read-offset-free c =
+shared_slice_read_offset_free : tie.Need-bounds-occupied-f
+shared_slice_read_offset_free c =
     let e = c in
     let pre = (start e.before.before.before.before.before).requires in
     omega (arith, frame_there e.before.before.before, pre.0.0.frames, pre.1.0.0)
 
-offset-free-requires : tie.Need-offset_free-requires
-offset-free-requires c κs =
+offset_free_requires : tie.Need-offset_free-requires
+offset_free_requires c κs =
     let e = c in
     let d = start e.before.before.before.before.before in
     let known = d.requires.0.0 in
@@ -108,20 +108,20 @@ offset_is c =
     let shape = c.before.before.before.shape_of-shape.ensures in
     rw (shape.0, shape.1, c.before.before.room_of-room.ensures.0) at c.offset_free.ensures
 
-returns-3 : tie.Need-returns-then-offset_free
+returns_3 : tie.Need-returns-then-offset_free
 unfolding placement_columns leading
-returns-3 c =
+returns_3 c =
     let e = c in
-    simp (signal-right e.before.before.before.before.before.before.before, frame_right_lem e.before.before.before.before.before, sym (offset_is c.before) ∙ c.if-offset_free.true)
+    simp (signal_right_lem e.before.before.before.before.before.before.before, frame_right_lem e.before.before.before.before.before, sym (offset_is c.before) ∙ c.if-offset_free.true)
 
-returns-4 : tie.Need-returns-else-offset_free
+returns_4 : tie.Need-returns-else-offset_free
 unfolding placement_columns leading
-returns-4 c =
+returns_4 c =
     let e = c in
-    simp (signal-right e.before.before.before.before.before.before.before, frame_right_lem e.before.before.before.before.before, sym (offset_is c.before) ∙ c.if-offset_free.false)
+    simp (signal_right_lem e.before.before.before.before.before.before.before, frame_right_lem e.before.before.before.before.before, sym (offset_is c.before) ∙ c.if-offset_free.false)
 
 pub right_words_spec : {M : Type 1} → statement M
 right_words_spec =
     tie.close
-    (tie.spec (λ c κs. search rules) returns frame-right-requires returns-2 shape-of-requires room-of-requires mul-offset-free
-    shared-slice-read-offset-free offset-free-requires returns-3 returns-4)
+    (tie.spec (λ c κs. search rules) returns frame_right_requires returns_2 shape_of_requires room_of_requires mul_offset_free
+    shared_slice_read_offset_free offset_free_requires returns_3 returns_4)

@@ -14,8 +14,8 @@ use Rattle.cluster.proofs.placements.signal_right.Tie as tie
 returns : tie.Need-returns-then-s-placed
 returns c = rw (c.count.ensures, sym (follows_next _ _ c.before.if-s-placed.true))
 
-returns-2 : tie.Need-returns
-returns-2 c =
+returns_2 : tie.Need-returns
+returns_2 c =
     let a = c.before.before.args in
     rw (sym (follows_same a.placed a.s c.if-s-placed.false))
     (whether (eqb (a.s + 1) a.placed)
@@ -23,4 +23,4 @@ returns-2 c =
     (λ z. rw z))
 
 pub signal_right_spec : {M : Type 1} → statement M
-signal_right_spec = tie.close (tie.spec (λ c κs. search rules) (λ c. search rules) returns (λ c. search rules) returns-2)
+signal_right_spec = tie.close (tie.spec (λ c κs. search rules) (λ c. search rules) returns (λ c. search rules) returns_2)

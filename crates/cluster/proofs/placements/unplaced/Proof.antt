@@ -17,9 +17,9 @@ returns c =
     let few = lt-leb (signal_count t) (placed_signals t) (omega (arith, d.before.before.before.if-placed-count.true)) in
     c.fault.ensures ∙ rw (few, c.before.placement_at.ensures.0, c.before.before.count-then-placed-count.ensures)
 
-returns-2 : tie.Need-returns-else-placed-count
+returns_2 : tie.Need-returns-else-placed-count
 unfolding unplaced all_placed
-returns-2 c =
+returns_2 c =
     let t = c.before.before.before.before.args.t.now in
     rw (le-leb (signal_count t) (placed_signals t) (omega (arith, c.if-placed-count.false)))
 
@@ -27,4 +27,4 @@ pub unplaced_spec : {M : Type 1} → statement M
 unplaced_spec =
     tie.close
     (tie.spec (λ c κs. search rules) (λ c κs. search rules) (λ c. search rules) (λ c κs. search rules) (λ c. search rules)
-    (λ c κs. search rules) (λ c κs. search rules) returns returns-2)
+    (λ c κs. search rules) (λ c κs. search rules) returns returns_2)

@@ -9,9 +9,9 @@ returns : tie.Need-returns-then-bytes-lt8
 unfolding array_length
 returns c = (omega arith, omega arith)
 
-returns-2 : tie.Need-returns-else-bytes-lt8
+returns_2 : tie.Need-returns-else-bytes-lt8
 unfolding array_length
-returns-2 c = (omega arith, omega arith)
+returns_2 c = (omega arith, omega arith)
 
 pub array_length_spec : {M : Type 1} → statement M
-array_length_spec = tie.close (tie.spec (λ c κs. search rules) (λ c. search rules) returns returns-2)
+array_length_spec = tie.close (tie.spec (λ c κs. search rules) (λ c. search rules) returns returns_2)

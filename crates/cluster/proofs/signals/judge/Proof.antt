@@ -11,16 +11,16 @@ use Rattle.cluster.proofs.SignalTurn.{Passed, none_passed, all_passed, signal_re
 use Rattle.cluster.proofs.signals.judge.Statement.{statement}
 use Rattle.cluster.proofs.signals.judge.Tie as tie
 
-abbrev invariant-loop : tie.invariant-loop-s
-invariant-loop t first n whole s₀ s = Passed t s
+abbrev invariant_loop : tie.invariant-loop-s
+invariant_loop t first n whole s₀ s = Passed t s
 
-abbrev decreases-loop : tie.decreases-loop-s
-decreases-loop t first n whole s₀ s = whole - s
+abbrev decreases_loop : tie.decreases-loop-s
+decreases_loop t first n whole s₀ s = whole - s
 
 -- the table and the signal at the loop's test
 
 abbrev Loop : Type 0
-Loop = tie.At-loop-s invariant-loop decreases-loop
+Loop = tie.At-loop-s invariant_loop decreases_loop
 
 abbrev table : Loop → List ℕ
 table c = c.before.before.before.before.before.args.t.now
@@ -34,7 +34,7 @@ here c = omega (arith, c.before.before.before.signal_at-first.ensures)
 -- what was found of a record that is whole, and of one that is cut off
 
 abbrev Judged : Type 0
-Judged = tie.After-right_words-right invariant-loop decreases-loop
+Judged = tie.After-right_words-right invariant_loop decreases_loop
 
 abbrev loop : Judged → Loop
 loop c = c.before.before.before
@@ -50,13 +50,13 @@ seen c =
     c.right_words-right.ensures ∙ ap leading (seen_read (table l) (signal l) _ (rw (here l) at c.before.read.ensures))
 
 abbrev Cut : Type 0
-Cut = tie.After-right_words invariant-loop decreases-loop
+Cut = tie.After-right_words invariant_loop decreases_loop
 
 abbrev end : Cut → Loop
 end c = c.before.before.before.before
 
-seen-cut : (c : Cut) → c.right_words.result ≡ leading (signal_read (table (end c)) (signal (end c)))
-seen-cut c =
+seen_cut : (c : Cut) → c.right_words.result ≡ leading (signal_read (table (end c)) (signal (end c)))
+seen_cut c =
     let l = end c in
     c.right_words.ensures ∙ ap leading (seen_read (table l) (signal l) _ (rw (here l) at c.before.read_due.ensures))
 
@@ -67,13 +67,13 @@ cut_right c =
     let reached = c.before.before.before.loop-s-test.false in
     cut_off (table l) (signal l) (omega (arith, here l, l.before.whole_records-whole.ensures.cut (omega arith)))
 
-loop-holds : tie.Need-loop-s-init invariant-loop decreases-loop
-loop-holds c = none_passed c.before.before.before.before.args.t.now
+loop_holds : tie.Need-loop-s-init invariant_loop decreases_loop
+loop_holds c = none_passed c.before.before.before.before.args.t.now
 
-read-requires : tie.Need-read-requires invariant-loop decreases-loop
-read-requires c κs = let l = c in omega (arith, l.before.before.whole_records-whole.ensures.there (signal l.before) c.loop-s-test.true)
+read_requires : tie.Need-read-requires invariant_loop decreases_loop
+read_requires c κs = let l = c in omega (arith, l.before.before.whole_records-whole.ensures.there (signal l.before) c.loop-s-test.true)
 
-returns : tie.Need-returns-then-right-lt-SIGNAL invariant-loop decreases-loop
+returns : tie.Need-returns-then-right-lt-SIGNAL invariant_loop decreases_loop
 unfolding signal_columns
 returns c =
     let d : Judged = c.before.before in
@@ -81,34 +81,34 @@ returns c =
     let right = seen d in
     c.fault.ensures ∙ stops (table l) (signal l) l.loop-s.invariant (there d) (omega arith) _ (omega (arith, here l))
 
-loop-again : tie.Need-loop-s-preserved invariant-loop decreases-loop
+loop_again : tie.Need-loop-s-preserved invariant_loop decreases_loop
 unfolding signal_columns
-loop-again c =
+loop_again c =
     let d : Judged = c.before in
     let l = loop d in
     let right = seen d in
     passes (table l) (signal l) l.loop-s.invariant (there d) (omega arith)
 
-add-fault-2 : tie.Need-overflow_add-at-then-s-n-2 invariant-loop decreases-loop
-add-fault-2 c = omega (arith, seen-cut c, cut_right c)
+add_fault_2 : tie.Need-overflow_add-at-then-s-n-2 invariant_loop decreases_loop
+add_fault_2 c = omega (arith, seen_cut c, cut_right c)
 
-returns-2 : tie.Need-returns-then-s-n invariant-loop decreases-loop
-returns-2 c =
+returns_2 : tie.Need-returns-then-s-n invariant_loop decreases_loop
+returns_2 c =
     let d : Cut = c.before in
     let l = end d in
     let there = d.before.before.if-s-n.true in
     c.fault-then-s-n.ensures
-    ∙ stops (table l) (signal l) l.loop-s.invariant (omega (arith, l.before.before.count-n.ensures)) (cut_right d) _ (omega (arith, here l, seen-cut d))
+    ∙ stops (table l) (signal l) l.loop-s.invariant (omega (arith, l.before.before.count-n.ensures)) (cut_right d) _ (omega (arith, here l, seen_cut d))
 
-returns-3 : tie.Need-returns invariant-loop decreases-loop
-returns-3 c =
+returns_3 : tie.Need-returns invariant_loop decreases_loop
+returns_3 c =
     let l = c in
     all_passed _ _ l.before.before.loop-s.invariant (omega (arith, l.before.before.before.before.count-n.ensures))
 
 pub judge_spec : {M : Type 1} → statement M
 judge_spec =
     tie.close
-    (tie.spec invariant-loop decreases-loop (λ c κs. search rules) (λ c κs. search rules) (λ c. search rules) (λ c κs. search rules) loop-holds
-    (λ c. search rules) (λ c. search rules) read-requires (λ c κs. search rules) (λ c. search rules) (λ c κs. search rules) returns
-    (λ c. search rules) (λ c. search rules) loop-again (λ c. search rules) (λ c. search rules) (λ c κs. search rules)
-    (λ c κs. search rules) add-fault-2 (λ c κs. search rules) returns-2 returns-3)
+    (tie.spec invariant_loop decreases_loop (λ c κs. search rules) (λ c κs. search rules) (λ c. search rules) (λ c κs. search rules) loop_holds
+    (λ c. search rules) (λ c. search rules) read_requires (λ c κs. search rules) (λ c. search rules) (λ c κs. search rules) returns
+    (λ c. search rules) (λ c. search rules) loop_again (λ c. search rules) (λ c. search rules) (λ c κs. search rules)
+    (λ c κs. search rules) add_fault_2 (λ c κs. search rules) returns_2 returns_3)

@@ -7,8 +7,8 @@ use borrow.Author.Rules.{rules}
 use Rattle.cluster.proofs.signals.shape_of.Statement.{statement}
 use Rattle.cluster.proofs.signals.shape_of.Tie as tie
 
-cast-t12 : tie.Need-overflow_cast-result
-cast-t12 c = omega (arith, c.shared_slice_known-3-1.given (c.before.before.signal_at-at.result + 1))
+cast_t12 : tie.Need-overflow_cast-result
+cast_t12 c = omega (arith, c.shared_slice_known-3-1.given (c.before.before.signal_at-at.result + 1))
 
 returns : tie.Need-returns
 unfolding is_array signal_kind signal_width word
@@ -18,4 +18,4 @@ pub shape_of_spec : {M : Type 1} → statement M
 shape_of_spec =
     tie.close
     (tie.spec (λ c κs. search rules) (λ c. search rules) (λ c. search rules) (λ c. search rules) (λ c. search rules)
-    (λ c. search rules) cast-t12 returns)
+    (λ c. search rules) cast_t12 returns)

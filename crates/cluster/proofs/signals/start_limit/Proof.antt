@@ -12,22 +12,22 @@ use Rattle.cluster.proofs.signals.start_limit.Tie as tie
 few : (c : tie.Else-array) → c.before.args.width ≤ 16
 few c = (scalar_width_lem c.before.args.width (rw c.if-array.false at c.before.requires)).1
 
-cast-result : tie.Need-overflow_cast-result
-cast-result c = omega (arith, few c)
+cast_result : tie.Need-overflow_cast-result
+cast_result c = omega (arith, few c)
 
-cast-result-2 : tie.Need-overflow_cast-result-else-array
-cast-result-2 c = omega (arith, few c)
+cast_result_2 : tie.Need-overflow_cast-result-else-array
+cast_result_2 c = omega (arith, few c)
 
-shl-result : tie.Need-overflow_shl-result
-shl-result c = omega (arith, few c)
+shl_result : tie.Need-overflow_shl-result
+shl_result c = omega (arith, few c)
 
 returns : tie.Need-returns-then-array
 unfolding start_limit
 returns c = rw c.if-array.true (search rules)
 
-returns-2 : tie.Need-returns-else-array
+returns_2 : tie.Need-returns-else-array
 unfolding start_limit
-returns-2 c = let limit = scalar_limit c.before.args.width (few c) in rw (c.if-array.false, limit.0) (refl, limit.1)
+returns_2 c = let limit = scalar_limit c.before.args.width (few c) in rw (c.if-array.false, limit.0) (refl, limit.1)
 
 pub start_limit_spec : {M : Type 1} → statement M
-start_limit_spec = tie.close (tie.spec cast-result cast-result-2 shl-result returns returns-2)
+start_limit_spec = tie.close (tie.spec cast_result cast_result_2 shl_result returns returns_2)

@@ -25,9 +25,9 @@ returns c =
     let right = seen d.before.before in
     c.fault.ensures ∙ sym (halt_words t 0 (header_read t) (header_right t) d.before.before.right_words-right.result (header_agrees t) (omega arith) (omega arith))
 
-returns-2 : tie.Need-returns-else-right-lt-HEADER
+returns_2 : tie.Need-returns-else-right-lt-HEADER
 unfolding header_columns
-returns-2 c =
+returns_2 c =
     let d = c in
     let t = d.before.before.before.before.before.before.before.before.args.t.now in
     let right = seen d.before in
@@ -37,4 +37,4 @@ pub judge_spec : {M : Type 1} → statement M
 judge_spec =
     tie.close
     (tie.spec (λ c κs. search rules) (λ c κs. search rules) (λ c κs. search rules) (λ c κs. search rules)
-    (λ c κs. search rules) (λ c κs. search rules) (λ c κs. search rules) returns returns-2)
+    (λ c κs. search rules) (λ c κs. search rules) (λ c κs. search rules) returns returns_2)

@@ -16,13 +16,13 @@ returns c =
     let end : c.before.before.entry_at-end.result ≡ size t = omega arith in
     c.fault.ensures ∙ rw end (rw (lt-ltb (size t) (length t) (omega arith)))
 
-returns-2 : tie.Need-returns-else-end-t
+returns_2 : tie.Need-returns-else-end-t
 unfolding surplus size entry_count
-returns-2 c =
+returns_2 c =
     let t = c.before.before.before.before.args.t.now in
     let end : c.before.entry_at-end.result ≡ size t = omega arith in
     rw (le-ltb (size t) (length t) (omega arith))
 
 pub surplus_spec : {M : Type 1} → statement M
 surplus_spec =
-    tie.close (tie.spec (λ c κs. search rules) (λ c. search rules) (λ c κs. search rules) (λ c κs. search rules) returns returns-2)
+    tie.close (tie.spec (λ c κs. search rules) (λ c. search rules) (λ c κs. search rules) (λ c κs. search rules) returns returns_2)

@@ -6,11 +6,11 @@ use Rattle.desk.proofs.assembly.put.Tie as tie
 returns : tie.Need-returns-in-Nothing
 returns c = rw c.before.in-Nothing.is
 
-returns-2 : tie.Need-returns-in-Open
-returns-2 c = rw c.before.before.in-Open.is c.put_open.ensures
+returns_2 : tie.Need-returns-in-Open
+returns_2 c = rw c.before.before.in-Open.is c.put_open.ensures
 
 pub put_spec : {M : Type 1} → statement M
 put_spec =
     tie.close
     (tie.spec (λ c. search rules) (λ c. search rules) (λ c. search rules) (λ c κs. search rules) returns
-    returns-2)
+    returns_2)

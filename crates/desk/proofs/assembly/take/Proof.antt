@@ -9,9 +9,9 @@ returns : tie.Need-returns-then-desk-eq0
 unfolding reassembly_on
 returns c = simp (eq-eqb _ _ c.if-desk-eq0.true)
 
-returns-2 : tie.Need-returns
+returns_2 : tie.Need-returns
 unfolding reassembly_on
-returns-2 c =
+returns_2 c =
     let c4 = c in
     let c6 = c4 in
     let c8 = c6 in
@@ -23,4 +23,4 @@ take_spec =
     (tie.spec (λ c. search rules) returns (λ c. search rules) (λ c. search rules) (λ c. search rules)
     (λ c κs. search rules) (λ c. search rules) (λ c. search rules) (λ c. search rules) (λ c κs. search rules)
     (λ c. search rules) (λ c. search rules) (λ c. search rules) (λ c κs. search rules) (λ c. search rules)
-    (λ c. search rules) (λ c. search rules) (λ c κs. search rules) returns-2)
+    (λ c. search rules) (λ c. search rules) (λ c κs. search rules) returns_2)

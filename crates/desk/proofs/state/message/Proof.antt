@@ -12,20 +12,20 @@ returns c =
     let c6 = c4 in
     rw (c.word-then-kind-eq-SENDING.ensures, c.before.before.word.ensures, c4.before.before.before.before.byte.ensures) (simp (eq-eqb _ _ c6.before.before.before.before.before.before.if-kind-eq-SENDING.true))
 
-returns-2 : tie.Need-returns-then-kind-eq-COMPLETED
+returns_2 : tie.Need-returns-then-kind-eq-COMPLETED
 unfolding message_on
-returns-2 c = simp (ne_eqb _ _ c.before.if-kind-eq-SENDING.false, eq-eqb _ _ c.if-kind-eq-COMPLETED.true)
+returns_2 c = simp (ne_eqb _ _ c.before.if-kind-eq-SENDING.false, eq-eqb _ _ c.if-kind-eq-COMPLETED.true)
 
-returns-3 : tie.Need-returns-then-kind-eq-FAILED
+returns_3 : tie.Need-returns-then-kind-eq-FAILED
 unfolding message_on
-returns-3 c = simp (ne_eqb _ _ c.before.before.if-kind-eq-SENDING.false, ne_eqb _ _ c.before.if-kind-eq-COMPLETED.false, eq-eqb _ _ c.if-kind-eq-FAILED.true)
+returns_3 c = simp (ne_eqb _ _ c.before.before.if-kind-eq-SENDING.false, ne_eqb _ _ c.before.if-kind-eq-COMPLETED.false, eq-eqb _ _ c.if-kind-eq-FAILED.true)
 
-returns-4 : tie.Need-returns
+returns_4 : tie.Need-returns
 unfolding message_on
-returns-4 c = simp (ne_eqb _ _ c.before.before.if-kind-eq-SENDING.false, ne_eqb _ _ c.before.if-kind-eq-COMPLETED.false, ne_eqb _ _ c.if-kind-eq-FAILED.false)
+returns_4 c = simp (ne_eqb _ _ c.before.before.if-kind-eq-SENDING.false, ne_eqb _ _ c.before.if-kind-eq-COMPLETED.false, ne_eqb _ _ c.if-kind-eq-FAILED.false)
 
 pub message_spec : {M : Type 1} → statement M
 message_spec =
     tie.close
     (tie.spec (λ c. search rules) (λ c. search rules) (λ c κs. search rules) (λ c. search rules)
-    (λ c κs. search rules) (λ c. search rules) (λ c κs. search rules) returns returns-2 returns-3 returns-4)
+    (λ c κs. search rules) (λ c. search rules) (λ c κs. search rules) returns returns_2 returns_3 returns_4)

@@ -9,29 +9,29 @@ use borrow.Author.Rules.{rules}
 use Rattle.desk.proofs.state.nine.Statement.{statement}
 use Rattle.desk.proofs.state.nine.Tie as tie
 
-abbrev invariant-loop : tie.invariant-loop-i
-invariant-loop desk bytes₀ i₀ bytes i = (i ≤ 9) × (length bytes ≡ 9) × (take i bytes ≡ each (λ k. byte_at desk (65 + k)) i)
+abbrev invariant_loop : tie.invariant-loop-i
+invariant_loop desk bytes₀ i₀ bytes i = (i ≤ 9) × (length bytes ≡ 9) × (take i bytes ≡ each (λ k. byte_at desk (65 + k)) i)
 
-abbrev decreases-loop : tie.decreases-loop-i
-decreases-loop desk bytes₀ i₀ bytes i = 9 - i
+abbrev decreases_loop : tie.decreases-loop-i
+decreases_loop desk bytes₀ i₀ bytes i = 9 - i
 
-loop-holds : tie.Need-loop-i-init invariant-loop decreases-loop
+loop_holds : tie.Need-loop-i-init invariant_loop decreases_loop
 unfolding nine_on
-loop-holds c = (omega arith, refl, taken_none _)
+loop_holds c = (omega arith, refl, taken_none _)
 
-loop-again : tie.Need-loop-i-preserved invariant-loop decreases-loop
+loop_again : tie.Need-loop-i-preserved invariant_loop decreases_loop
 unfolding nine_on
-loop-again c =
+loop_again c =
     let c3 = c in
     let c4 = c3 in
     (omega arith, simp length-set c3.before.before.before.before.loop-i.invariant.1, taken_next (λ k. byte_at c4.before.before.before.before.before.args.desk.now (65 + k)) _ _ _ (omega arith) c3.before.before.before.before.loop-i.invariant.2 c.byte.ensures)
 
-returns : tie.Need-returns invariant-loop decreases-loop
+returns : tie.Need-returns invariant_loop decreases_loop
 unfolding nine_on
 returns c = taken_all (λ k. byte_at c.before.before.args.desk.now (65 + k)) _ _ _ (omega arith) (omega arith) c.before.loop-i.invariant.2
 
 pub nine_spec : {M : Type 1} → statement M
 nine_spec =
     tie.close
-    (tie.spec invariant-loop decreases-loop loop-holds (λ c. search rules) (λ c. search rules) (λ c. search rules)
-    (λ c κs. search rules) (λ c. search rules) (λ c. search rules) (λ c. search rules) loop-again returns)
+    (tie.spec invariant_loop decreases_loop loop_holds (λ c. search rules) (λ c. search rules) (λ c. search rules)
+    (λ c κs. search rules) (λ c. search rules) (λ c. search rules) (λ c. search rules) loop_again returns)

@@ -9,19 +9,19 @@ returns : tie.Need-returns-then-n-eq-NONE
 unfolding opened_of
 returns c = simp (eq-eqb _ _ c.if-n-eq-NONE.true)
 
-returns-2 : tie.Need-returns-then-n-eq-OPEN_REQUEST
+returns_2 : tie.Need-returns-then-n-eq-OPEN_REQUEST
 unfolding opened_of
-returns-2 c = simp (ne_eqb _ _ c.before.if-n-eq-NONE.false, eq-eqb _ _ c.if-n-eq-OPEN_REQUEST.true)
+returns_2 c = simp (ne_eqb _ _ c.before.if-n-eq-NONE.false, eq-eqb _ _ c.if-n-eq-OPEN_REQUEST.true)
 
-returns-3 : tie.Need-returns-then-n-eq-OPEN_RESPONSE
+returns_3 : tie.Need-returns-then-n-eq-OPEN_RESPONSE
 unfolding opened_of
-returns-3 c = simp (ne_eqb _ _ c.before.before.if-n-eq-NONE.false, ne_eqb _ _ c.before.if-n-eq-OPEN_REQUEST.false, eq-eqb _ _ c.if-n-eq-OPEN_RESPONSE.true)
+returns_3 c = simp (ne_eqb _ _ c.before.before.if-n-eq-NONE.false, ne_eqb _ _ c.before.if-n-eq-OPEN_REQUEST.false, eq-eqb _ _ c.if-n-eq-OPEN_RESPONSE.true)
 
-returns-4 : tie.Need-returns
+returns_4 : tie.Need-returns
 unfolding opened_of
-returns-4 c = rw c.word.ensures (simp (ne_eqb _ _ c.before.before.before.if-n-eq-NONE.false, ne_eqb _ _ c.before.before.if-n-eq-OPEN_REQUEST.false, ne_eqb _ _ c.before.if-n-eq-OPEN_RESPONSE.false))
+returns_4 c = rw c.word.ensures (simp (ne_eqb _ _ c.before.before.before.if-n-eq-NONE.false, ne_eqb _ _ c.before.before.if-n-eq-OPEN_REQUEST.false, ne_eqb _ _ c.before.if-n-eq-OPEN_RESPONSE.false))
 
 pub opened_spec : {M : Type 1} → statement M
 opened_spec =
     tie.close
-    (tie.spec returns returns-2 returns-3 (λ c κs. search rules) returns-4)
+    (tie.spec returns returns_2 returns_3 (λ c κs. search rules) returns_4)

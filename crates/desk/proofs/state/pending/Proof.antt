@@ -9,28 +9,28 @@ use borrow.Author.Rules.{rules}
 use Rattle.desk.proofs.state.pending.Statement.{statement}
 use Rattle.desk.proofs.state.pending.Tie as tie
 
-abbrev invariant-loop : tie.invariant-loop-f
-invariant-loop desk pending₀ f₀ pending f = (f ≤ 60) × (length pending ≡ 60) × (take f pending ≡ each (is_set desk) f)
+abbrev invariant_loop : tie.invariant-loop-f
+invariant_loop desk pending₀ f₀ pending f = (f ≤ 60) × (length pending ≡ 60) × (take f pending ≡ each (is_set desk) f)
 
-abbrev decreases-loop : tie.decreases-loop-f
-decreases-loop desk pending₀ f₀ pending f = 60 - f
+abbrev decreases_loop : tie.decreases-loop-f
+decreases_loop desk pending₀ f₀ pending f = 60 - f
 
-loop-holds : tie.Need-loop-f-init invariant-loop decreases-loop
+loop_holds : tie.Need-loop-f-init invariant_loop decreases_loop
 unfolding pending_on
-loop-holds c = (omega arith, refl, taken_none _)
+loop_holds c = (omega arith, refl, taken_none _)
 
-loop-again : tie.Need-loop-f-preserved invariant-loop decreases-loop
+loop_again : tie.Need-loop-f-preserved invariant_loop decreases_loop
 unfolding pending_on
-loop-again c =
+loop_again c =
     let c3 = c in
     (omega arith, simp length-set c.before.before.before.loop-f.invariant.1, taken_next (is_set c3.before.before.before.before.args.desk.now) _ _ _ (omega arith) c.before.before.before.loop-f.invariant.2 refl)
 
-returns : tie.Need-returns invariant-loop decreases-loop
+returns : tie.Need-returns invariant_loop decreases_loop
 unfolding pending_on
 returns c = taken_all (is_set c.before.before.args.desk.now) _ _ _ (omega arith) (omega arith) c.before.loop-f.invariant.2
 
 pub pending_spec : {M : Type 1} → statement M
 pending_spec =
     tie.close
-    (tie.spec invariant-loop decreases-loop loop-holds (λ c. search rules) (λ c. search rules) (λ c. search rules)
-    (λ c. search rules) (λ c. search rules) loop-again returns)
+    (tie.spec invariant_loop decreases_loop loop_holds (λ c. search rules) (λ c. search rules) (λ c. search rules)
+    (λ c. search rules) (λ c. search rules) loop_again returns)

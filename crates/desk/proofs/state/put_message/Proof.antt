@@ -6,18 +6,18 @@ use Rattle.desk.proofs.state.put_message.Tie as tie
 returns : tie.Need-returns-in-None
 returns c = rw c.before.in-None.is
 
-returns-2 : tie.Need-returns-in-Sending
-returns-2 c = rw c.before.before.in-Sending.is c.put_sending.ensures
+returns_2 : tie.Need-returns-in-Sending
+returns_2 c = rw c.before.before.in-Sending.is c.put_sending.ensures
 
-returns-3 : tie.Need-returns-in-Completed
-returns-3 c = rw c.before.in-Completed.is
+returns_3 : tie.Need-returns-in-Completed
+returns_3 c = rw c.before.in-Completed.is
 
-returns-4 : tie.Need-returns-in-Failed
-returns-4 c = rw c.before.in-Failed.is
+returns_4 : tie.Need-returns-in-Failed
+returns_4 c = rw c.before.in-Failed.is
 
 pub put_message_spec : {M : Type 1} → statement M
 put_message_spec =
     tie.close
     (tie.spec (λ c. search rules) (λ c. search rules) (λ c. search rules) (λ c κs. search rules)
-    (λ c. search rules) (λ c. search rules) (λ c. search rules) (λ c. search rules) returns returns-2 returns-3
-    returns-4)
+    (λ c. search rules) (λ c. search rules) (λ c. search rules) (λ c. search rules) returns returns_2 returns_3
+    returns_4)

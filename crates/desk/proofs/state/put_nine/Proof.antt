@@ -9,29 +9,29 @@ use borrow.Author.Rules.{rules}
 use Rattle.desk.proofs.state.put_nine.Statement.{statement}
 use Rattle.desk.proofs.state.put_nine.Tie as tie
 
-abbrev invariant-loop : tie.invariant-loop-i
-invariant-loop desk₀ bytes i₀ desk i = (i ≤ 9) × (desk ≡ with_each (λ k. get_or bytes k 0) 65 i desk₀)
+abbrev invariant_loop : tie.invariant-loop-i
+invariant_loop desk₀ bytes i₀ desk i = (i ≤ 9) × (desk ≡ with_each (λ k. get_or bytes k 0) 65 i desk₀)
 
-abbrev decreases-loop : tie.decreases-loop-i
-decreases-loop desk₀ bytes i₀ desk i = 9 - i
+abbrev decreases_loop : tie.decreases-loop-i
+decreases_loop desk₀ bytes i₀ desk i = 9 - i
 
-loop-holds : tie.Need-loop-i-init invariant-loop decreases-loop
+loop_holds : tie.Need-loop-i-init invariant_loop decreases_loop
 unfolding with_nine
-loop-holds c = (omega arith, put_none _ _ _)
+loop_holds c = (omega arith, put_none _ _ _)
 
-loop-again : tie.Need-loop-i-preserved invariant-loop decreases-loop
+loop_again : tie.Need-loop-i-preserved invariant_loop decreases_loop
 unfolding with_nine
-loop-again c =
+loop_again c =
     let c3 = c in
     let c4 = c3 in
     (omega arith, put_next (λ k. get_or c4.before.before.before.before.before.before.args.bytes.now k 0) 65 c4.before.before.before.before.before.before.args.desk.now _ _ _ c3.before.before.before.before.before.loop-i.invariant.1 c.before.wide.ensures)
 
-returns : tie.Need-returns invariant-loop decreases-loop
+returns : tie.Need-returns invariant_loop decreases_loop
 unfolding with_nine
 returns c = put_all (λ k. get_or c.before.before.args.bytes.now k 0) 65 c.before.before.args.desk.now (omega arith) c.before.loop-i.invariant.1
 
 pub put_nine_spec : {M : Type 1} → statement M
 put_nine_spec =
     tie.close
-    (tie.spec invariant-loop decreases-loop loop-holds (λ c. search rules) (λ c κs. search rules) (λ c. search rules)
-    (λ c. search rules) (λ c. search rules) (λ c. search rules) (λ c. search rules) loop-again returns)
+    (tie.spec invariant_loop decreases_loop loop_holds (λ c. search rules) (λ c κs. search rules) (λ c. search rules)
+    (λ c. search rules) (λ c. search rules) (λ c. search rules) (λ c. search rules) loop_again returns)

@@ -10,29 +10,29 @@ use borrow.Author.Rules.{rules}
 use Rattle.desk.proofs.state.put_pending.Statement.{statement}
 use Rattle.desk.proofs.state.put_pending.Tie as tie
 
-abbrev invariant-loop : tie.invariant-loop-f
-invariant-loop desk₀ pending f₀ desk f = (f ≤ 60) × (desk ≡ with_each (λ k. bit (get_or pending k false)) 0 f desk₀)
+abbrev invariant_loop : tie.invariant-loop-f
+invariant_loop desk₀ pending f₀ desk f = (f ≤ 60) × (desk ≡ with_each (λ k. bit (get_or pending k false)) 0 f desk₀)
 
-abbrev decreases-loop : tie.decreases-loop-f
-decreases-loop desk₀ pending f₀ desk f = 60 - f
+abbrev decreases_loop : tie.decreases-loop-f
+decreases_loop desk₀ pending f₀ desk f = 60 - f
 
-loop-holds : tie.Need-loop-f-init invariant-loop decreases-loop
+loop_holds : tie.Need-loop-f-init invariant_loop decreases_loop
 unfolding with_pending
-loop-holds c = (omega arith, put_none _ _ _)
+loop_holds c = (omega arith, put_none _ _ _)
 
-loop-again : tie.Need-loop-f-preserved invariant-loop decreases-loop
+loop_again : tie.Need-loop-f-preserved invariant_loop decreases_loop
 unfolding with_pending
-loop-again c =
+loop_again c =
     let c3 = c in
     let c4 = c3 in
     (omega arith, put_next_first (λ k. bit (get_or c4.before.before.before.before.before.before.args.pending.now k false)) c4.before.before.before.before.before.before.args.desk.now _ _ _ c3.before.before.before.before.before.loop-f.invariant.1 c.before.bit.ensures)
 
-returns : tie.Need-returns invariant-loop decreases-loop
+returns : tie.Need-returns invariant_loop decreases_loop
 unfolding with_pending
 returns c = put_all (λ k. bit (get_or c.before.before.args.pending.now k false)) 0 c.before.before.args.desk.now (omega arith) c.before.loop-f.invariant.1
 
 pub put_pending_spec : {M : Type 1} → statement M
 put_pending_spec =
     tie.close
-    (tie.spec invariant-loop decreases-loop loop-holds (λ c. search rules) (λ c κs. search rules) (λ c. search rules)
-    (λ c. search rules) (λ c. search rules) (λ c. search rules) loop-again returns)
+    (tie.spec invariant_loop decreases_loop loop_holds (λ c. search rules) (λ c κs. search rules) (λ c. search rules)
+    (λ c. search rules) (λ c. search rules) (λ c. search rules) loop_again returns)

@@ -10,27 +10,27 @@ use borrow.Author.Rules.{rules}
 use Rattle.desk.proofs.state.put_received.Statement.{statement}
 use Rattle.desk.proofs.state.put_received.Tie as tie
 
-abbrev invariant-loop : tie.invariant-loop-s
-invariant-loop desk₀ received s₀ desk s = (s ≤ 256) × (desk ≡ with_each (λ i. reception_number (get_or received i never_received).last) 128 s desk₀)
+abbrev invariant_loop : tie.invariant-loop-s
+invariant_loop desk₀ received s₀ desk s = (s ≤ 256) × (desk ≡ with_each (λ i. reception_number (get_or received i never_received).last) 128 s desk₀)
 
-abbrev decreases-loop : tie.decreases-loop-s
-decreases-loop desk₀ received s₀ desk s = 256 - s
+abbrev decreases_loop : tie.decreases-loop-s
+decreases_loop desk₀ received s₀ desk s = 256 - s
 
-loop-holds : tie.Need-loop-s-init invariant-loop decreases-loop
-loop-holds c = (omega arith, put_none _ _ _)
+loop_holds : tie.Need-loop-s-init invariant_loop decreases_loop
+loop_holds c = (omega arith, put_none _ _ _)
 
-loop-again : tie.Need-loop-s-preserved invariant-loop decreases-loop
-loop-again c =
+loop_again : tie.Need-loop-s-preserved invariant_loop decreases_loop
+loop_again c =
     let d = c in
     let loop = c.before.before.before.before.loop-s in
     (omega arith, put_next (λ i. reception_number (get_or d.before.before.before.before.before.args.received i never_received).last) 128 d.before.before.before.before.before.args.desk.now _ loop.s _ loop.invariant.1 c.before.reception_number.ensures)
 
-returns : tie.Need-returns invariant-loop decreases-loop
+returns : tie.Need-returns invariant_loop decreases_loop
 unfolding with_received
 returns c = put_all (λ i. reception_number (get_or c.before.before.args.received i never_received).last) 128 c.before.before.args.desk.now (omega arith) c.before.loop-s.invariant.1
 
 pub put_received_spec : {M : Type 1} → statement M
 put_received_spec =
     tie.close
-    (tie.spec invariant-loop decreases-loop loop-holds (λ c. search rules) (λ c. search rules) (λ c κs. search rules) (λ c. search rules)
-    (λ c. search rules) (λ c. search rules) (λ c. search rules) (λ c. search rules) loop-again returns)
+    (tie.spec invariant_loop decreases_loop loop_holds (λ c. search rules) (λ c. search rules) (λ c κs. search rules) (λ c. search rules)
+    (λ c. search rules) (λ c. search rules) (λ c. search rules) (λ c. search rules) loop_again returns)

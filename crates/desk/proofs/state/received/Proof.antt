@@ -15,27 +15,27 @@ use Rattle.desk.proofs.state.received.Tie as tie
 abbrev on : List ℕ → ℕ → Reception
 on d i = reception_of (at d (128 + i))
 
-abbrev invariant-loop : tie.invariant-loop-s
-invariant-loop desk received₀ s₀ received s = (s ≤ 256) × (length received ≡ 256) × (take s received ≡ each (on desk) s)
+abbrev invariant_loop : tie.invariant-loop-s
+invariant_loop desk received₀ s₀ received s = (s ≤ 256) × (length received ≡ 256) × (take s received ≡ each (on desk) s)
 
-abbrev decreases-loop : tie.decreases-loop-s
-decreases-loop desk received₀ s₀ received s = 256 - s
+abbrev decreases_loop : tie.decreases-loop-s
+decreases_loop desk received₀ s₀ received s = 256 - s
 
-loop-holds : tie.Need-loop-s-init invariant-loop decreases-loop
-loop-holds c = (omega arith, search rules, taken_none _)
+loop_holds : tie.Need-loop-s-init invariant_loop decreases_loop
+loop_holds c = (omega arith, search rules, taken_none _)
 
-loop-again : tie.Need-loop-s-preserved invariant-loop decreases-loop
-loop-again c =
+loop_again : tie.Need-loop-s-preserved invariant_loop decreases_loop
+loop_again c =
     let d = c in
     let loop = c.before.before.before.before.loop-s in
     (omega arith, simp length-set loop.invariant.1, taken_next (on d.before.before.before.before.before.before.args.desk.now) _ _ _ (omega arith) loop.invariant.2 c.reception.ensures)
 
-returns : tie.Need-returns invariant-loop decreases-loop
+returns : tie.Need-returns invariant_loop decreases_loop
 unfolding received_on
 returns c = taken_all (on c.before.before.before.args.desk.now) _ _ _ (omega arith) (omega arith) c.before.loop-s.invariant.2
 
 pub received_spec : {M : Type 1} → statement M
 received_spec =
     tie.close
-    (tie.spec invariant-loop decreases-loop (λ c κs. search rules) loop-holds (λ c. search rules) (λ c. search rules) (λ c. search rules) (λ c κs. search rules)
-    (λ c. search rules) (λ c. search rules) (λ c. search rules) (λ c. search rules) loop-again returns)
+    (tie.spec invariant_loop decreases_loop (λ c κs. search rules) loop_holds (λ c. search rules) (λ c. search rules) (λ c. search rules) (λ c κs. search rules)
+    (λ c. search rules) (λ c. search rules) (λ c. search rules) (λ c. search rules) loop_again returns)

@@ -9,11 +9,11 @@ returns : tie.Need-returns-then-n-eq-NONE
 unfolding requested_of
 returns c = simp (eq-eqb _ _ c.if-n-eq-NONE.true)
 
-returns-2 : tie.Need-returns-else-n-eq-NONE
+returns_2 : tie.Need-returns-else-n-eq-NONE
 unfolding requested_of
-returns-2 c = rw c.word.ensures (simp (ne_eqb _ _ c.before.if-n-eq-NONE.false))
+returns_2 c = rw c.word.ensures (simp (ne_eqb _ _ c.before.if-n-eq-NONE.false))
 
 pub requested_spec : {M : Type 1} → statement M
 requested_spec =
     tie.close
-    (tie.spec (λ c κs. search rules) returns returns-2)
+    (tie.spec (λ c κs. search rules) returns returns_2)

@@ -5,11 +5,11 @@ use borrow.Author.Rules.{rules}
 use Rattle.edges.proofs.signals.scalar.Statement.{statement}
 use Rattle.edges.proofs.signals.scalar.Tie as tie
 
-slice-aggregate-scalar-in : tie.Need-slice_bounds-scalar_in-end
-slice-aggregate-scalar-in c = sym (length-take-le _ _ c.before.if-n-le4.true)
+slice_aggregate_scalar_in : tie.Need-slice_bounds-scalar_in-end
+slice_aggregate_scalar_in c = sym (length-take-le _ _ c.before.if-n-le4.true)
 
 pub scalar_spec : {M : Type 1} → statement M
 scalar_spec =
     tie.close
-    (tie.spec (λ c. search rules) slice-aggregate-scalar-in (λ c κs. search rules) (λ c. search rules)
+    (tie.spec (λ c. search rules) slice_aggregate_scalar_in (λ c κs. search rules) (λ c. search rules)
     (λ c. search rules))

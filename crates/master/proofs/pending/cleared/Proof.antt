@@ -8,9 +8,9 @@ returns : tie.Need-returns-then-written
 unfolding cleared_bit
 returns c = rw c.if-written.true
 
-returns-2 : tie.Need-returns
+returns_2 : tie.Need-returns
 unfolding cleared_bit
-returns-2 c = rw c.if-written.false
+returns_2 c = rw c.if-written.false
 
 pub cleared_spec : {M : Type 1} → statement M
-cleared_spec = tie.close (tie.spec returns (λ c. search rules) returns-2)
+cleared_spec = tie.close (tie.spec returns (λ c. search rules) returns_2)

@@ -11,26 +11,26 @@ use Rattle.master.specs.Ahead.{pending_count}
 use Rattle.master.proofs.pending.count_pending.Statement.{statement}
 use Rattle.master.proofs.pending.count_pending.Tie as tie
 
-abbrev invariant-loop : tie.invariant-loop-m
-invariant-loop t pending l end n₀ m₀ n m = (n ≤ m) × (n + pending_count pending (members_from t l m (end - m)) ≡ pending_count pending (members_from t l 0 end))
+abbrev invariant_loop : tie.invariant-loop-m
+invariant_loop t pending l end n₀ m₀ n m = (n ≤ m) × (n + pending_count pending (members_from t l m (end - m)) ≡ pending_count pending (members_from t l 0 end))
 
-abbrev decreases-loop : tie.decreases-loop-m
-decreases-loop t pending l end n₀ m₀ n m = end - m
+abbrev decreases_loop : tie.decreases-loop-m
+decreases_loop t pending l end n₀ m₀ n m = end - m
 
-loop-holds : tie.Need-loop-m-init invariant-loop decreases-loop
-loop-holds c = (omega arith, rw zero-add (ap (pending_count c.before.args.pending) (members_start c.before.args.t.now c.before.args.l c.before.args.end)))
+loop_holds : tie.Need-loop-m-init invariant_loop decreases_loop
+loop_holds c = (omega arith, rw zero-add (ap (pending_count c.before.args.pending) (members_start c.before.args.t.now c.before.args.l c.before.args.end)))
 
-is-pending-member-requires : tie.Need-is_pending_member-requires invariant-loop decreases-loop
-is-pending-member-requires c κs = (c.before.before.before.requires.0, omega (arith, c.before.before.before.requires.1, c.loop-m-test.true))
+is_pending_member_requires : tie.Need-is_pending_member-requires invariant_loop decreases_loop
+is_pending_member_requires c κs = (c.before.before.before.requires.0, omega (arith, c.before.before.before.requires.1, c.loop-m-test.true))
 
-add-n : tie.Need-overflow_add-n invariant-loop decreases-loop
-add-n c =
+add_n : tie.Need-overflow_add-n invariant_loop decreases_loop
+add_n c =
     let asked = c.before.before.before.before.before.requires in
     let a = c.before.before.before.before.before.args in
     omega (arith, c.one_if-n.ensures.1, c.before.before.before.loop-m.invariant.0, c.before.before.loop-m-test.true, asked.1, member_count_lem a.t.now asked.0)
 
-loop-again : tie.Need-loop-m-preserved invariant-loop decreases-loop
-loop-again c =
+loop_again : tie.Need-loop-m-preserved invariant_loop decreases_loop
+loop_again c =
     let a = c.before.before.before.before.before.args in
     let at = c.before.before.before.loop-m in
     let i = at.invariant in (
@@ -39,7 +39,7 @@ loop-again c =
           c.before.before.loop-m-test.true a.pending at.n _ (rw (c.one_if-n.ensures.0, c.before.is_pending_member.ensures)) i.1,
     )
 
-returns : tie.Need-returns invariant-loop decreases-loop
+returns : tie.Need-returns invariant_loop decreases_loop
 returns c =
     let a = c.before.before.before.args in
     let at = c.before.loop-m in
@@ -49,5 +49,5 @@ returns c =
 pub count_pending_spec : {M : Type 1} → statement M
 count_pending_spec =
     tie.close
-    (tie.spec invariant-loop decreases-loop loop-holds is-pending-member-requires (λ c κs. search rules) add-n
-    (λ c. search rules) (λ c. search rules) loop-again returns)
+    (tie.spec invariant_loop decreases_loop loop_holds is_pending_member_requires (λ c κs. search rules) add_n
+    (λ c. search rules) (λ c. search rules) loop_again returns)

@@ -15,26 +15,26 @@ use Rattle.master.specs.Tick.{first_pending}
 use Rattle.master.proofs.pending.first_pending.Statement.{statement}
 use Rattle.master.proofs.pending.first_pending.Tie as tie
 
-abbrev invariant-loop : tie.invariant-loop-m
-invariant-loop t l pending n m₀ m =
+abbrev invariant_loop : tie.invariant-loop-m
+invariant_loop t l pending n m₀ m =
     (n ≡ member_count t) × ((k : ℕ) × (m ≡ next_member t l k) × (first_pending pending (members t l) ≡ first_pending pending (left_from t l k)))
 
-abbrev decreases-loop : tie.decreases-loop-m
-decreases-loop t l pending n m₀ m = n - m
+abbrev decreases_loop : tie.decreases-loop-m
+decreases_loop t l pending n m₀ m = n - m
 
-loop-holds : tie.Need-loop-m-init invariant-loop decreases-loop
-loop-holds c =
+loop_holds : tie.Need-loop-m-init invariant_loop decreases_loop
+loop_holds c =
     let a = c.before.before.before.args in
     (c.before.count-n.ensures, (0, c.next-m.ensures, ap (first_pending a.pending) (sym (left_all a.t.now a.l))))
 
-array-read-if1 : tie.Need-bounds-pending-f invariant-loop decreases-loop
-array-read-if1 c =
+array_read_if1 : tie.Need-bounds-pending-f invariant_loop decreases_loop
+array_read_if1 c =
     let start = c in
     let at = c.before.before.loop-m in
     let below = member_frame_below start.before.before.before.before.before.before.args.t.now start.before.before.before.before.before.before.requires at.m (omega (arith, at.invariant.0, c.before.loop-m-test.true)) in
     omega (arith, c.frame-f.ensures, below, frame_count_lem start.before.before.before.before.before.before.args.t.now start.before.before.before.before.before.before.requires)
 
-returns : tie.Need-returns-then-pending-f invariant-loop decreases-loop
+returns : tie.Need-returns-then-pending-f invariant_loop decreases_loop
 returns c =
     let a = c.before.before.before.before.before.before.before.args in
     let inv = c.before.before.before.loop-m.invariant in
@@ -43,14 +43,14 @@ returns c =
     let here = first_here a.t.now a.l a.pending inv.1.0 (omega (arith, inv.0, at, c.before.before.loop-m-test.true)) (rw frame at c.if-pending-f.true) in
     rw frame (sym (inv.1.2 ∙ here))
 
-loop-less : tie.Need-loop-m-smaller invariant-loop decreases-loop
-loop-less c =
+loop_less : tie.Need-loop-m-smaller invariant_loop decreases_loop
+loop_less c =
     let a = c.before.before.before.before.before.before.before.before.args in
     let at = c.before.before.before.before.loop-m in
     omega (arith, c.next-m-in-loop-m.ensures, c.before.before.before.loop-m-test.true, next_member_from a.t.now a.l (at.m + 1))
 
-loop-again : tie.Need-loop-m-preserved invariant-loop decreases-loop
-loop-again c =
+loop_again : tie.Need-loop-m-preserved invariant_loop decreases_loop
+loop_again c =
     let a = c.before.before.before.before.before.before.before.before.args in
     let m = c.before.before.before.before.loop-m.m in
     let inv = c.before.before.before.before.loop-m.invariant in
@@ -60,8 +60,8 @@ loop-again c =
     let later = first_later a.t.now a.l a.pending inv.1.0 below (rw frame at c.before.if-pending-f.false) in
     (inv.0, (m + 1, c.next-m-in-loop-m.ensures, inv.1.2 ∙ (rw (← at, ← (add-one m)) at later)))
 
-returns-2 : tie.Need-returns invariant-loop decreases-loop
-returns-2 c =
+returns_2 : tie.Need-returns invariant_loop decreases_loop
+returns_2 c =
     let a = c.before.before.before.before.before.args in
     let inv = c.before.loop-m.invariant in
     sym (inv.1.2 ∙ first_none a.t.now a.l a.pending inv.1.0 (omega (arith, inv.0, inv.1.1, c.loop-m-test.false)))
@@ -69,5 +69,5 @@ returns-2 c =
 pub first_pending_spec : {M : Type 1} → statement M
 first_pending_spec =
     tie.close
-    (tie.spec invariant-loop decreases-loop (λ c κs. search rules) (λ c κs. search rules) loop-holds (λ c κs. search rules)
-    (λ c. search rules) array-read-if1 returns (λ c. search rules) (λ c κs. search rules) loop-less loop-again returns-2)
+    (tie.spec invariant_loop decreases_loop (λ c κs. search rules) (λ c κs. search rules) loop_holds (λ c κs. search rules)
+    (λ c. search rules) array_read_if1 returns (λ c. search rules) (λ c κs. search rules) loop_less loop_again returns_2)

@@ -7,8 +7,8 @@ use Rattle.cluster.proofs.MemberLaws.{member_frame_below}
 use Rattle.master.proofs.pending.is_pending_member.Statement.{statement}
 use Rattle.master.proofs.pending.is_pending_member.Tie as tie
 
-array-read-result : tie.Need-bounds-pending-frame
-array-read-result c =
+array_read_result : tie.Need-bounds-pending-frame
+array_read_result c =
     let a = c.before.before.before.before.args in
     let asked = c.before.before.before.before.requires in
     omega (arith, c.frame.ensures, member_frame_below a.t.now asked.0 a.m asked.1, frame_count_lem a.t.now asked.0)
@@ -16,11 +16,11 @@ array-read-result c =
 returns : tie.Need-returns-then-list-l
 returns c = rw (← c.before.before.list.ensures, eq-eqb _ _ c.before.if-list-l.true, c.frame.ensures)
 
-returns-2 : tie.Need-returns
-returns-2 c = rw (← c.before.list.ensures, ne_eqb _ _ c.if-list-l.false)
+returns_2 : tie.Need-returns
+returns_2 c = rw (← c.before.list.ensures, ne_eqb _ _ c.if-list-l.false)
 
 pub is_pending_member_spec : {M : Type 1} → statement M
 is_pending_member_spec =
     tie.close
-    (tie.spec (λ c κs. search rules) (λ c κs. search rules) (λ c. search rules) array-read-result returns
-    returns-2)
+    (tie.spec (λ c κs. search rules) (λ c κs. search rules) (λ c. search rules) array_read_result returns
+    returns_2)

@@ -10,16 +10,16 @@ use Rattle.master.specs.Fits.{pending_fits}
 use Rattle.master.proofs.pending.pending_fits.Statement.{statement}
 use Rattle.master.proofs.pending.pending_fits.Tie as tie
 
-abbrev invariant-loop : tie.invariant-loop-f
-invariant-loop t pending f₀ f = (f ≤ 60) × (pending_fits t 0 pending ≡ pending_fits t f (drop f pending))
+abbrev invariant_loop : tie.invariant-loop-f
+invariant_loop t pending f₀ f = (f ≤ 60) × (pending_fits t 0 pending ≡ pending_fits t f (drop f pending))
 
-abbrev decreases-loop : tie.decreases-loop-f
-decreases-loop t pending f₀ f = 60 - f
+abbrev decreases_loop : tie.decreases-loop-f
+decreases_loop t pending f₀ f = 60 - f
 
-loop-holds : tie.Need-loop-f-init invariant-loop decreases-loop
-loop-holds c = (omega arith, refl)
+loop_holds : tie.Need-loop-f-init invariant_loop decreases_loop
+loop_holds c = (omega arith, refl)
 
-returns : tie.Need-returns-then-not-bit_fits invariant-loop decreases-loop
+returns : tie.Need-returns-then-not-bit_fits invariant_loop decreases_loop
 returns c =
     let a = c.before.before.before.before.before.args in
     let at = c.before.before.before.loop-f in
@@ -27,8 +27,8 @@ returns c =
     sym (at.invariant.1 ∙ bits_wrong a.t.now at.f a.pending (omega (arith, l, c.before.before.loop-f-test.true))
     (sym c.before.bit_fits.ensures ∙ not-true c.before.bit_fits.result c.if-not-bit_fits.true-raw))
 
-loop-again : tie.Need-loop-f-preserved invariant-loop decreases-loop
-loop-again c =
+loop_again : tie.Need-loop-f-preserved invariant_loop decreases_loop
+loop_again c =
     let a = c.before.before.before.before.before.args in
     let at = c.before.before.before.loop-f in
     let test = c.before.before.loop-f-test in
@@ -38,8 +38,8 @@ loop-again c =
           (sym c.before.bit_fits.ensures ∙ not-false c.before.bit_fits.result c.if-not-bit_fits.false-raw),
     )
 
-returns-2 : tie.Need-returns invariant-loop decreases-loop
-returns-2 c =
+returns_2 : tie.Need-returns invariant_loop decreases_loop
+returns_2 c =
     let a = c.before.before.before.args in
     let l : length a.pending ≡ 60 = search rules in
     sym (c.before.loop-f.invariant.1 ∙ bits_end a.t.now c.before.loop-f.f a.pending (omega (arith, l, c.loop-f-test.false)))
@@ -47,5 +47,5 @@ returns-2 c =
 pub pending_fits_spec : {M : Type 1} → statement M
 pending_fits_spec =
     tie.close
-    (tie.spec invariant-loop decreases-loop loop-holds (λ c. search rules) (λ c. search rules) (λ c κs. search rules) returns
-    (λ c. search rules) (λ c. search rules) loop-again returns-2)
+    (tie.spec invariant_loop decreases_loop loop_holds (λ c. search rules) (λ c. search rules) (λ c κs. search rules) returns
+    (λ c. search rules) (λ c. search rules) loop_again returns_2)

@@ -9,37 +9,37 @@ use Rattle.cluster.proofs.Together.{first_high, lower_before, higher_behind}
 use Rattle.master.proofs.placed.first.Statement.{statement}
 use Rattle.master.proofs.placed.first.Tie as tie
 
-abbrev invariant-loop : tie.invariant-loop-low
-invariant-loop t s low₀ high₀ low high = (low ≤ first_placement t s) × (first_placement t s ≤ high) × (high ≤ placement_count t)
+abbrev invariant_loop : tie.invariant-loop-low
+invariant_loop t s low₀ high₀ low high = (low ≤ first_placement t s) × (first_placement t s ≤ high) × (high ≤ placement_count t)
 
-abbrev decreases-loop : tie.decreases-loop-low
-decreases-loop t s low₀ high₀ low high = high - low
+abbrev decreases_loop : tie.decreases-loop-low
+decreases_loop t s low₀ high₀ low high = high - low
 
-loop-holds : tie.Need-loop-low-init invariant-loop decreases-loop
-loop-holds c = let a = c.before.before.args in (omega arith, omega (arith, first_high a.t.now a.s), omega arith)
+loop_holds : tie.Need-loop-low-init invariant_loop decreases_loop
+loop_holds c = let a = c.before.before.args in (omega arith, omega (arith, first_high a.t.now a.s), omega arith)
 
-add-middle : tie.Need-overflow_add-middle invariant-loop decreases-loop
-add-middle c = omega (arith, placement_count_lem _ c.before.before.before.before.requires)
+add_middle : tie.Need-overflow_add-middle invariant_loop decreases_loop
+add_middle c = omega (arith, placement_count_lem _ c.before.before.before.before.requires)
 
-loop-again : tie.Need-loop-low-preserved-then-signal-s invariant-loop decreases-loop
-loop-again c =
+loop_again : tie.Need-loop-low-preserved-then-signal-s invariant_loop decreases_loop
+loop_again c =
     let start = c in
     let at = c.before.before.before.loop-low in
     let before = lower_before _ start.before.before.before.before.before.before.requires start.before.before.before.before.before.before.args.s ((at.low + at.high) / 2) (omega arith) (omega arith) in
     (omega arith, at.invariant.1, at.invariant.2)
 
-loop-again-2 : tie.Need-loop-low-preserved invariant-loop decreases-loop
-loop-again-2 c =
+loop_again_2 : tie.Need-loop-low-preserved invariant_loop decreases_loop
+loop_again_2 c =
     let start = c in
     let at = c.before.before.before.loop-low in
     let behind = higher_behind _ start.before.before.before.before.before.before.requires start.before.before.before.before.before.before.args.s ((at.low + at.high) / 2) (omega arith) (omega arith) in
     (at.invariant.0, behind, omega arith)
 
-returns : tie.Need-returns invariant-loop decreases-loop
+returns : tie.Need-returns invariant_loop decreases_loop
 returns c = omega arith
 
 pub first_spec : {M : Type 1} → statement M
 first_spec =
     tie.close
-    (tie.spec invariant-loop decreases-loop (λ c κs. search rules) loop-holds add-middle (λ c κs. search rules) (λ c. search rules) (λ c. search rules) loop-again
-    (λ c. search rules) loop-again-2 returns)
+    (tie.spec invariant_loop decreases_loop (λ c κs. search rules) loop_holds add_middle (λ c κs. search rules) (λ c. search rules) (λ c. search rules) loop_again
+    (λ c. search rules) loop_again_2 returns)

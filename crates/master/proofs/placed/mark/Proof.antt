@@ -11,38 +11,38 @@ use Rattle.master.proofs.PlacedTurns.{stands_yes, stands_no}
 use Rattle.master.proofs.placed.mark.Statement.{statement}
 use Rattle.master.proofs.placed.mark.Tie as tie
 
-abbrev invariant-loop : tie.invariant-loop-pending
-invariant-loop t s pending₀ k₀ pending k = Walk t s (λ m. Set t s m pending₀ pending) k
+abbrev invariant_loop : tie.invariant-loop-pending
+invariant_loop t s pending₀ k₀ pending k = Walk t s (λ m. Set t s m pending₀ pending) k
 
-abbrev decreases-loop : tie.decreases-loop-pending
-decreases-loop t s pending₀ k₀ pending k = placement_count t - k
+abbrev decreases_loop : tie.decreases-loop-pending
+decreases_loop t s pending₀ k₀ pending k = placement_count t - k
 
-loop-holds : tie.Need-loop-pending-init invariant-loop decreases-loop
-loop-holds c = let start = c in rw c.first-k.ensures (marks_begin _ start.before.before.before.requires _ _)
+loop_holds : tie.Need-loop-pending-init invariant_loop decreases_loop
+loop_holds c = let start = c in rw c.first-k.ensures (marks_begin _ start.before.before.before.requires _ _)
 
-add-k : tie.Need-overflow_add-k invariant-loop decreases-loop
-add-k c =
+add_k : tie.Need-overflow_add-k invariant_loop decreases_loop
+add_k c =
     let d = c in
     let most = placement_count_lem _ d.before.before.before.before.before.before.before.before.before.before.before.requires in
     omega (arith, (stands_yes _ _ _ d.before.before.before.before.before.before.stands.ensures d.before.before.before.before.before.loop-pending-test.true).there)
 
-loop-less : tie.Need-loop-pending-smaller invariant-loop decreases-loop
-loop-less c =
+loop_less : tie.Need-loop-pending-smaller invariant_loop decreases_loop
+loop_less c =
     let d = c in
     omega (arith, (stands_yes _ _ _ d.before.before.before.before.before.before.stands.ensures d.before.before.before.before.before.loop-pending-test.true).there)
 
-loop-again : tie.Need-loop-pending-preserved invariant-loop decreases-loop
-loop-again c =
+loop_again : tie.Need-loop-pending-preserved invariant_loop decreases_loop
+loop_again c =
     let d = c in
     let at = d.before.before.before.before.before.before.before.loop-pending in
     let start = d in
     marks_on _ start.before.before.before.before.before.before.before.before.before.before.before.requires _ _ at.k at.pending at.invariant (stands_yes _ _ _ d.before.before.before.before.before.before.stands.ensures d.before.before.before.before.before.loop-pending-test.true) _
     (c.before.before.set.ensures ∙ rw c.before.before.before.frame.ensures)
 
-same_length : tie.Need-shape_of-pending invariant-loop decreases-loop
+same_length : tie.Need-shape_of-pending invariant_loop decreases_loop
 same_length c = c.before.before.loop-pending.invariant.holds.same_length
 
-returns : tie.Need-returns invariant-loop decreases-loop
+returns : tie.Need-returns invariant_loop decreases_loop
 returns c =
     let start = c in
     let at = c.before.before.loop-pending in
@@ -51,5 +51,5 @@ returns c =
 pub mark_spec : {M : Type 1} → statement M
 mark_spec =
     tie.close
-    (tie.spec invariant-loop decreases-loop (λ c κs. search rules) loop-holds (λ c κs. search rules) (λ c κs. search rules) (λ c. search rules) (λ c κs. search rules)
-    add-k loop-less loop-again same_length returns)
+    (tie.spec invariant_loop decreases_loop (λ c κs. search rules) loop_holds (λ c κs. search rules) (λ c κs. search rules) (λ c. search rules) (λ c κs. search rules)
+    add_k loop_less loop_again same_length returns)

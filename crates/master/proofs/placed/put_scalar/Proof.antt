@@ -12,30 +12,30 @@ use Rattle.master.proofs.PlacedTurns.{stands_yes, stands_no, Left, each_begins, 
 use Rattle.master.proofs.placed.put_scalar.Statement.{statement}
 use Rattle.master.proofs.placed.put_scalar.Tie as tie
 
-abbrev invariant-loop : tie.invariant-loop-bytes
-invariant-loop t bytes₀ s v k₀ bytes k =
+abbrev invariant_loop : tie.invariant-loop-bytes
+invariant_loop t bytes₀ s v k₀ bytes k =
     Walk t s (Left t s (λ m cs. with_scalar_at t cs s m v) (with_scalar t bytes₀ s v) bytes) k × (length bytes ≡ length bytes₀)
 
-abbrev decreases-loop : tie.decreases-loop-bytes
-decreases-loop t bytes₀ s v k₀ bytes k = placement_count t - k
+abbrev decreases_loop : tie.decreases-loop-bytes
+decreases_loop t bytes₀ s v k₀ bytes k = placement_count t - k
 
-loop-holds : tie.Need-loop-bytes-init invariant-loop decreases-loop
+loop_holds : tie.Need-loop-bytes-init invariant_loop decreases_loop
 unfolding with_scalar
-loop-holds c = let start = c in (rw c.first-k.ensures (each_begins _ start.before.before.before.requires _ _ _ _ refl), refl)
+loop_holds c = let start = c in (rw c.first-k.ensures (each_begins _ start.before.before.before.requires _ _ _ _ refl), refl)
 
-add-k : tie.Need-overflow_add-k invariant-loop decreases-loop
-add-k c =
+add_k : tie.Need-overflow_add-k invariant_loop decreases_loop
+add_k c =
     let d = c in
     let most = placement_count_lem _ d.before.before.before.before.before.before.before.before.before.before.requires in
     omega (arith, (stands_yes _ _ _ d.before.before.before.before.before.stands.ensures d.before.before.before.before.loop-bytes-test.true).there)
 
-loop-less : tie.Need-loop-bytes-smaller invariant-loop decreases-loop
-loop-less c =
+loop_less : tie.Need-loop-bytes-smaller invariant_loop decreases_loop
+loop_less c =
     let d = c in
     omega (arith, (stands_yes _ _ _ d.before.before.before.before.before.stands.ensures d.before.before.before.before.loop-bytes-test.true).there)
 
-loop-again : tie.Need-loop-bytes-preserved invariant-loop decreases-loop
-loop-again c =
+loop_again : tie.Need-loop-bytes-preserved invariant_loop decreases_loop
+loop_again c =
     let d = c in
     let at = d.before.before.before.before.before.before.loop-bytes in
     let start = d in
@@ -44,10 +44,10 @@ loop-again c =
       put.auto.bytes ∙ at.invariant.1,
     )
 
-same_length : tie.Need-shape_of-bytes invariant-loop decreases-loop
+same_length : tie.Need-shape_of-bytes invariant_loop decreases_loop
 same_length c = c.before.before.loop-bytes.invariant.1
 
-returns : tie.Need-returns invariant-loop decreases-loop
+returns : tie.Need-returns invariant_loop decreases_loop
 returns c =
     let start = c in
     let at = c.before.before.loop-bytes in
@@ -56,5 +56,5 @@ returns c =
 pub put_scalar_spec : {M : Type 1} → statement M
 put_scalar_spec =
     tie.close
-    (tie.spec invariant-loop decreases-loop (λ c κs. search rules) loop-holds (λ c κs. search rules) (λ c κs. search rules) add-k loop-less loop-again
+    (tie.spec invariant_loop decreases_loop (λ c κs. search rules) loop_holds (λ c κs. search rules) (λ c κs. search rules) add_k loop_less loop_again
     same_length returns)

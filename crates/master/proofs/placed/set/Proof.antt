@@ -8,8 +8,8 @@ use Rattle.master.proofs.placed.set.Tie as tie
 returns : tie.Need-returns-then-f-pending
 returns c = refl
 
-returns-2 : tie.Need-returns-else-f-pending
-returns-2 c = sym (set_none _ _ _ c.if-f-pending.false)
+returns_2 : tie.Need-returns-else-f-pending
+returns_2 c = sym (set_none _ _ _ c.if-f-pending.false)
 
 pub set_spec : {M : Type 1} → statement M
-set_spec = tie.close (tie.spec (λ c. search rules) (λ c. search rules) returns returns-2)
+set_spec = tie.close (tie.spec (λ c. search rules) (λ c. search rules) returns returns_2)

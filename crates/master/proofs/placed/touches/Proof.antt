@@ -9,42 +9,42 @@ use Rattle.master.proofs.PlacedTurns.{stands_yes, stands_no, Unmet, touch_begins
 use Rattle.master.proofs.placed.touches.Statement.{statement}
 use Rattle.master.proofs.placed.touches.Tie as tie
 
-abbrev invariant-loop : tie.invariant-loop-s
-invariant-loop t s f k₀ k = Walk t s (Unmet t s f) k
+abbrev invariant_loop : tie.invariant-loop-s
+invariant_loop t s f k₀ k = Walk t s (Unmet t s f) k
 
-abbrev decreases-loop : tie.decreases-loop-s
-decreases-loop t s f k₀ k = placement_count t - k
+abbrev decreases_loop : tie.decreases-loop-s
+decreases_loop t s f k₀ k = placement_count t - k
 
-loop-holds : tie.Need-loop-s-init invariant-loop decreases-loop
-loop-holds c = let start = c in rw c.first-k.ensures (touch_begins _ start.before.before.requires _ _)
+loop_holds : tie.Need-loop-s-init invariant_loop decreases_loop
+loop_holds c = let start = c in rw c.first-k.ensures (touch_begins _ start.before.before.requires _ _)
 
-returns : tie.Need-returns-then-frame-f invariant-loop decreases-loop
+returns : tie.Need-returns-then-frame-f invariant_loop decreases_loop
 returns c =
     let d = c in
     let start = d in
     touch_found _ start.before.before.before.before.before.before.before.requires _ start.before.before.before.before.before.before.before.args.f _ (stands_yes _ _ _ d.before.before.before.stands.ensures d.before.before.loop-s-test.true) (omega arith)
 
-add-k : tie.Need-overflow_add-k invariant-loop decreases-loop
-add-k c =
+add_k : tie.Need-overflow_add-k invariant_loop decreases_loop
+add_k c =
     let d = c in
     let most = placement_count_lem _ d.before.before.before.before.before.before.before.requires in
     omega (arith, (stands_yes _ _ _ d.before.before.before.stands.ensures d.before.before.loop-s-test.true).there)
 
-loop-less : tie.Need-loop-s-smaller invariant-loop decreases-loop
-loop-less c =
+loop_less : tie.Need-loop-s-smaller invariant_loop decreases_loop
+loop_less c =
     let d = c in
     omega (arith, (stands_yes _ _ _ d.before.before.before.stands.ensures d.before.before.loop-s-test.true).there)
 
-loop-again : tie.Need-loop-s-preserved invariant-loop decreases-loop
-loop-again c =
+loop_again : tie.Need-loop-s-preserved invariant_loop decreases_loop
+loop_again c =
     let d = c in
     let at = d.before.before.before.before.loop-s in
     let start = d in
     touch_on _ start.before.before.before.before.before.before.before.requires _ start.before.before.before.before.before.before.before.args.f at.k at.invariant (stands_yes _ _ _ d.before.before.before.stands.ensures d.before.before.loop-s-test.true)
     (λ e. omega arith)
 
-returns-2 : tie.Need-returns invariant-loop decreases-loop
-returns-2 c =
+returns_2 : tie.Need-returns invariant_loop decreases_loop
+returns_2 c =
     let at = c.before.before.loop-s in
     let start = c in
     touch_ends _ start.before.before.before.before.before.requires _ _ at.k at.invariant (stands_no _ _ _ c.before.stands.ensures c.loop-s-test.false)
@@ -52,4 +52,4 @@ returns-2 c =
 pub touches_spec : {M : Type 1} → statement M
 touches_spec =
     tie.close
-    (tie.spec invariant-loop decreases-loop (λ c κs. search rules) loop-holds (λ c κs. search rules) (λ c κs. search rules) returns add-k loop-less loop-again returns-2)
+    (tie.spec invariant_loop decreases_loop (λ c κs. search rules) loop_holds (λ c κs. search rules) (λ c κs. search rules) returns add_k loop_less loop_again returns_2)

@@ -13,12 +13,12 @@ returns : tie.Need-returns-then-s-lt-SIGNALS
 unfolding last_of
 returns c = refl
 
-returns-2 : tie.Need-returns-else-s-lt-SIGNALS
+returns_2 : tie.Need-returns-else-s-lt-SIGNALS
 unfolding last_of
-returns-2 c =
+returns_2 c =
     let a = c.before.args in
     let l : length a.received ≡ 256 = search rules in
     sym (ap (λ (r : Reception). r.last) (get_or-eq_default a.received never_received {n = a.s} (omega (arith, l, c.if-s-lt-SIGNALS.false))))
 
 pub last_of_spec : {M : Type 1} → statement M
-last_of_spec = tie.close (tie.spec (λ c. search rules) (λ c. search rules) returns returns-2)
+last_of_spec = tie.close (tie.spec (λ c. search rules) (λ c. search rules) returns returns_2)

@@ -14,9 +14,9 @@ returns c =
     let a = c.before.before.before.args in
     rw (le-ltb a.s (signal_count a.t.now) (omega (arith, c.before.count.ensures, c.if-count-s.true)))
 
-returns-2 : tie.Need-returns-then-count-k
+returns_2 : tie.Need-returns-then-count-k
 unfolding last_fits
-returns-2 c =
+returns_2 c =
     let d1 = c in
     let a = d1.before.before.before.before.before.args in
     rw (
@@ -24,9 +24,9 @@ returns-2 c =
       le-ltb a.k (placement_count a.t.now) (omega (arith, c.before.count-2.ensures, c.if-count-k.true)),
     )
 
-returns-3 : tie.Need-returns-then-signal-s
+returns_3 : tie.Need-returns-then-signal-s
 unfolding last_fits
-returns-3 c =
+returns_3 c =
     let d2 = c in
     let d1 = d2 in
     let a = d1.before.before.before.before.before.before.before.args in
@@ -36,9 +36,9 @@ returns-3 c =
       ne_eqb _ _ (λ e. c.if-signal-s.true (c.before.signal.ensures ∙ e)),
     )
 
-returns-4 : tie.Need-returns
+returns_4 : tie.Need-returns
 unfolding last_fits
-returns-4 c =
+returns_4 c =
     let d3 = c in
     let d2 = d3 in
     let d1 = d2 in
@@ -54,5 +54,5 @@ returns-4 c =
 pub placed_spec : {M : Type 1} → statement M
 placed_spec =
     tie.close
-    (tie.spec (λ c κs. search rules) returns (λ c κs. search rules) returns-2 (λ c κs. search rules) returns-3 (λ c κs. search rules)
-    (λ c κs. search rules) returns-4)
+    (tie.spec (λ c κs. search rules) returns (λ c κs. search rules) returns_2 (λ c κs. search rules) returns_3 (λ c κs. search rules)
+    (λ c κs. search rules) returns_4)

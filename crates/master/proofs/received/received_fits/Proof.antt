@@ -10,16 +10,16 @@ use Rattle.master.specs.Received.{received_fits}
 use Rattle.master.proofs.received.received_fits.Statement.{statement}
 use Rattle.master.proofs.received.received_fits.Tie as tie
 
-abbrev invariant-loop : tie.invariant-loop-s
-invariant-loop t received s₀ s = (s ≤ 256) × (received_fits t 0 received ≡ received_fits t s (drop s received))
+abbrev invariant_loop : tie.invariant-loop-s
+invariant_loop t received s₀ s = (s ≤ 256) × (received_fits t 0 received ≡ received_fits t s (drop s received))
 
-abbrev decreases-loop : tie.decreases-loop-s
-decreases-loop t received s₀ s = 256 - s
+abbrev decreases_loop : tie.decreases-loop-s
+decreases_loop t received s₀ s = 256 - s
 
-loop-holds : tie.Need-loop-s-init invariant-loop decreases-loop
-loop-holds c = (omega arith, refl)
+loop_holds : tie.Need-loop-s-init invariant_loop decreases_loop
+loop_holds c = (omega arith, refl)
 
-returns : tie.Need-returns-then-not-fits invariant-loop decreases-loop
+returns : tie.Need-returns-then-not-fits invariant_loop decreases_loop
 returns c =
     let a = c.before.before.before.before.before.before.args in
     let at = c.before.before.before.before.loop-s in
@@ -27,8 +27,8 @@ returns c =
     sym (at.invariant.1 ∙ receptions_wrong a.t.now at.s a.received (omega (arith, l, c.before.before.before.loop-s-test.true))
     (sym c.before.fits.ensures ∙ not-true c.before.fits.result c.if-not-fits.true-raw))
 
-loop-again : tie.Need-loop-s-preserved invariant-loop decreases-loop
-loop-again c =
+loop_again : tie.Need-loop-s-preserved invariant_loop decreases_loop
+loop_again c =
     let a = c.before.before.before.before.before.before.args in
     let at = c.before.before.before.before.loop-s in
     let test = c.before.before.before.loop-s-test in
@@ -38,8 +38,8 @@ loop-again c =
           (sym c.before.fits.ensures ∙ not-false c.before.fits.result c.if-not-fits.false-raw),
     )
 
-returns-2 : tie.Need-returns invariant-loop decreases-loop
-returns-2 c =
+returns_2 : tie.Need-returns invariant_loop decreases_loop
+returns_2 c =
     let a = c.before.before.before.args in
     let l : length a.received ≡ 256 = search rules in
     sym (c.before.loop-s.invariant.1 ∙ receptions_end a.t.now c.before.loop-s.s a.received (omega (arith, l, c.loop-s-test.false)))
@@ -47,5 +47,5 @@ returns-2 c =
 pub received_fits_spec : {M : Type 1} → statement M
 received_fits_spec =
     tie.close
-    (tie.spec invariant-loop decreases-loop loop-holds (λ c. search rules) (λ c. search rules) (λ c. search rules) (λ c κs. search rules) returns
-    (λ c. search rules) (λ c. search rules) loop-again returns-2)
+    (tie.spec invariant_loop decreases_loop loop_holds (λ c. search rules) (λ c. search rules) (λ c. search rules) (λ c κs. search rules) returns
+    (λ c. search rules) (λ c. search rules) loop_again returns_2)

@@ -11,18 +11,18 @@ use Rattle.master.proofs.received.received_in.Lts.{then-s-lt-SIGNALS, else-s-lt-
 use Rattle.master.proofs.received.received_in.Statement.{statement}
 use Rattle.master.proofs.received.received_in.Tie as tie
 
-abbrev invariant-loop : tie.invariant-loop-k
-invariant-loop t f n next₀ k₀ next k = (n ≡ placement_count t) × (k ≤ n) × (length next ≡ 256) × (next ≡ received_up_to t f k next₀)
+abbrev invariant_loop : tie.invariant-loop-k
+invariant_loop t f n next₀ k₀ next k = (n ≡ placement_count t) × (k ≤ n) × (length next ≡ 256) × (next ≡ received_up_to t f k next₀)
 
-abbrev decreases-loop : tie.decreases-loop-k
-decreases-loop t f n next₀ k₀ next k = n - k
+abbrev decreases_loop : tie.decreases-loop-k
+decreases_loop t f n next₀ k₀ next k = n - k
 
-loop-holds : tie.Need-loop-k-init invariant-loop decreases-loop
+loop_holds : tie.Need-loop-k-init invariant_loop decreases_loop
 unfolding received_up_to
-loop-holds c = (c.count-n.ensures, omega arith, search rules, refl)
+loop_holds c = (c.count-n.ensures, omega arith, search rules, refl)
 
-loop-again : tie.Need-loop-k-preserved invariant-loop decreases-loop
-loop-again c =
+loop_again : tie.Need-loop-k-preserved invariant_loop decreases_loop
+loop_again c =
     let loop = c.before.before.before.loop-k in
     let is = c.before.receiver-s.ensures in
     let more = c.before.before.loop-k-test.true in
@@ -41,7 +41,7 @@ loop-again c =
       )
     ]
 
-returns : tie.Need-returns invariant-loop decreases-loop
+returns : tie.Need-returns invariant_loop decreases_loop
 returns c =
     let e : c.before.loop-k.k ≡ placement_count c.before.before.before.before.args.t.now = omega (arith, c.loop-k-test.false, c.before.loop-k.invariant) in
     rw e at c.before.loop-k.invariant.3
@@ -49,5 +49,5 @@ returns c =
 pub received_in_spec : {M : Type 1} → statement M
 received_in_spec =
     tie.close
-    (tie.spec invariant-loop decreases-loop (λ c κs. search rules) loop-holds (λ c κs. search rules) (λ c. search rules) (λ c. search rules)
-    (λ c. search rules) (λ c. search rules) loop-again returns)
+    (tie.spec invariant_loop decreases_loop (λ c κs. search rules) loop_holds (λ c κs. search rules) (λ c. search rules) (λ c. search rules)
+    (λ c. search rules) (λ c. search rules) loop_again returns)

@@ -10,19 +10,19 @@ use Rattle.master.proofs.RowTurns.{puts_from, first_turn, first_end}
 use Rattle.master.proofs.row.first_bad.Statement.{statement}
 use Rattle.master.proofs.row.first_bad.Tie as tie
 
-abbrev invariant-loop : tie.invariant-loop-i
-invariant-loop t signals values i₀ i = (i ≤ length signals) × (first_bad t 0 (puts signals values) ≡ first_bad t i (puts_from i signals values))
+abbrev invariant_loop : tie.invariant-loop-i
+invariant_loop t signals values i₀ i = (i ≤ length signals) × (first_bad t 0 (puts signals values) ≡ first_bad t i (puts_from i signals values))
 
-abbrev decreases-loop : tie.decreases-loop-i
-decreases-loop t signals values i₀ i = length signals - i
+abbrev decreases_loop : tie.decreases-loop-i
+decreases_loop t signals values i₀ i = length signals - i
 
-loop-holds : tie.Need-loop-i-init invariant-loop decreases-loop
-loop-holds c = (omega arith, refl)
+loop_holds : tie.Need-loop-i-init invariant_loop decreases_loop
+loop_holds c = (omega arith, refl)
 
-shared-slice-read-scalar-fits : tie.Need-bounds-values-i invariant-loop decreases-loop
-shared-slice-read-scalar-fits c = omega (arith, c.before.before.before.before.before.before.before.requires.1, c.before.before.loop-i-test.true)
+shared_slice_read_scalar_fits : tie.Need-bounds-values-i invariant_loop decreases_loop
+shared_slice_read_scalar_fits c = omega (arith, c.before.before.before.before.before.before.before.requires.1, c.before.before.loop-i-test.true)
 
-returns : tie.Need-returns-in-Refused invariant-loop decreases-loop
+returns : tie.Need-returns-in-Refused invariant_loop decreases_loop
 returns c =
     let start = c in
     let a = start.before.before.before.before.before.before.before.before.before.before.before.args in
@@ -33,8 +33,8 @@ returns c =
     ∙ first_turn a.t.now a.signals.now a.values.now start.before.before.before.before.before.before.before.before.before.before.before.requires.1 at.i below
     ∙ rw (← c.before.before.before.scalar_fits-fits.ensures, ← c.before.before.writable.ensures, c.before.in-Refused.is, c.at.ensures))
 
-loop-again : tie.Need-loop-i-preserved invariant-loop decreases-loop
-loop-again c =
+loop_again : tie.Need-loop-i-preserved invariant_loop decreases_loop
+loop_again c =
     let start = c in
     let a = start.before.before.before.before.before.before.before.before.before.before.args in
     let at = c.before.before.before.before.before.before.loop-i in
@@ -44,8 +44,8 @@ loop-again c =
           ∙ rw (← c.before.before.scalar_fits-fits.ensures, ← c.before.writable.ensures, c.in_default.is),
     )
 
-returns-2 : tie.Need-returns invariant-loop decreases-loop
-returns-2 c =
+returns_2 : tie.Need-returns invariant_loop decreases_loop
+returns_2 c =
     let a = c.before.before.before.before.before.args in
     let at = c.before.loop-i in
     sym (at.invariant.1 ∙ first_end a.t.now a.signals.now a.values.now c.before.before.before.before.before.requires.1 at.i c.loop-i-test.false at.invariant.0)
@@ -53,6 +53,6 @@ returns-2 c =
 pub first_bad_spec : {M : Type 1} → statement M
 first_bad_spec =
     tie.close
-    (tie.spec invariant-loop decreases-loop loop-holds (λ c. search rules) (λ c. search rules) (λ c. search rules) shared-slice-read-scalar-fits
+    (tie.spec invariant_loop decreases_loop loop_holds (λ c. search rules) (λ c. search rules) (λ c. search rules) shared_slice_read_scalar_fits
     (λ c κs. search rules) (λ c κs. search rules) (λ c. search rules) (λ c κs. search rules) returns (λ c. search rules) (λ c. search rules)
-    (λ c. search rules) loop-again returns-2)
+    (λ c. search rules) loop_again returns_2)

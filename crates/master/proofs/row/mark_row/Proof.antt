@@ -10,18 +10,18 @@ use Rattle.master.proofs.RowTurns.{marks_turn, marks_end}
 use Rattle.master.proofs.row.mark_row.Statement.{statement}
 use Rattle.master.proofs.row.mark_row.Tie as tie
 
-abbrev invariant-loop : tie.invariant-loop-i
-invariant-loop t signals pending₀ i₀ pending i =
+abbrev invariant_loop : tie.invariant-loop-i
+invariant_loop t signals pending₀ i₀ pending i =
     (i ≤ length signals) × (marked_bits t signals pending₀ ≡ marked_bits t (drop i signals) pending) × (length pending ≡ length pending₀)
 
-abbrev decreases-loop : tie.decreases-loop-i
-decreases-loop t signals pending₀ i₀ pending i = length signals - i
+abbrev decreases_loop : tie.decreases-loop-i
+decreases_loop t signals pending₀ i₀ pending i = length signals - i
 
-loop-holds : tie.Need-loop-i-init invariant-loop decreases-loop
-loop-holds c = (omega arith, refl, refl)
+loop_holds : tie.Need-loop-i-init invariant_loop decreases_loop
+loop_holds c = (omega arith, refl, refl)
 
-loop-again : tie.Need-loop-i-preserved invariant-loop decreases-loop
-loop-again c =
+loop_again : tie.Need-loop-i-preserved invariant_loop decreases_loop
+loop_again c =
     let a = c.before.before.before.before.before.before.before.before.before.before.args in
     let at = c.before.before.before.before.before.before.loop-i in
     let below = c.before.before.before.before.before.loop-i-test.true in
@@ -31,10 +31,10 @@ loop-again c =
       rw marked (marked_length a.t.now _ 0 at.pending) ∙ at.invariant.2,
     )
 
-same_length : tie.Need-shape_of-pending invariant-loop decreases-loop
+same_length : tie.Need-shape_of-pending invariant_loop decreases_loop
 same_length c = c.before.loop-i.invariant.2
 
-returns : tie.Need-returns invariant-loop decreases-loop
+returns : tie.Need-returns invariant_loop decreases_loop
 returns c =
     let a = c.before.before.before.before.before.args in
     let at = c.before.loop-i in
@@ -43,5 +43,5 @@ returns c =
 pub mark_row_spec : {M : Type 1} → statement M
 mark_row_spec =
     tie.close
-    (tie.spec invariant-loop decreases-loop loop-holds (λ c. search rules) (λ c. search rules) (λ c κs. search rules) (λ c. search rules) (λ c. search rules)
-    loop-again same_length returns)
+    (tie.spec invariant_loop decreases_loop loop_holds (λ c. search rules) (λ c. search rules) (λ c κs. search rules) (λ c. search rules) (λ c. search rules)
+    loop_again same_length returns)

@@ -12,24 +12,24 @@ use Rattle.master.proofs.RowTurns.{puts_from, put_turn, put_end, good_turn, good
 use Rattle.master.proofs.row.put_row.Statement.{statement}
 use Rattle.master.proofs.row.put_row.Tie as tie
 
-abbrev invariant-loop : tie.invariant-loop-i
-invariant-loop t bytes₀ signals values i₀ bytes i =
+abbrev invariant_loop : tie.invariant-loop-i
+invariant_loop t bytes₀ signals values i₀ bytes i =
     (i ≤ length signals)
     × (length bytes ≡ length bytes₀)
     × (first_bad t i (puts_from i signals values) ≡ Accepted)
     × (with_row t bytes₀ (puts signals values) ≡ with_row t bytes (puts_from i signals values))
 
-abbrev decreases-loop : tie.decreases-loop-i
-decreases-loop t bytes₀ signals values i₀ bytes i = length signals - i
+abbrev decreases_loop : tie.decreases-loop-i
+decreases_loop t bytes₀ signals values i₀ bytes i = length signals - i
 
-loop-holds : tie.Need-loop-i-init invariant-loop decreases-loop
-loop-holds c = (omega arith, refl, c.before.before.before.before.requires.2, refl)
+loop_holds : tie.Need-loop-i-init invariant_loop decreases_loop
+loop_holds c = (omega arith, refl, c.before.before.before.before.requires.2, refl)
 
-shared-slice-read-put-scalar-2 : tie.Need-bounds-values-i invariant-loop decreases-loop
-shared-slice-read-put-scalar-2 c = omega (arith, c.before.before.before.before.before.before.before.before.before.requires.1, c.before.before.before.loop-i-test.true)
+shared_slice_read_put_scalar_2 : tie.Need-bounds-values-i invariant_loop decreases_loop
+shared_slice_read_put_scalar_2 c = omega (arith, c.before.before.before.before.before.before.before.before.before.requires.1, c.before.before.before.loop-i-test.true)
 
-cast-put-scalar : tie.Need-overflow_cast-values invariant-loop decreases-loop
-cast-put-scalar c =
+cast_put_scalar : tie.Need-overflow_cast-values invariant_loop decreases_loop
+cast_put_scalar c =
     let start = c in
     let a = start.before.before.before.before.before.before.before.before.before.args in
     let at = c.before.before.before.before.loop-i in
@@ -41,8 +41,8 @@ cast-put-scalar c =
       );
     }
 
-loop-again : tie.Need-loop-i-preserved invariant-loop decreases-loop
-loop-again c =
+loop_again : tie.Need-loop-i-preserved invariant_loop decreases_loop
+loop_again c =
     let a = c.before.before.before.before.before.before.before.before.before.before.before.before.args in
     let pre = c.before.before.before.before.before.before.before.before.before.before.before.before.requires in
     let at = c.before.before.before.before.before.before.before.loop-i in
@@ -54,10 +54,10 @@ loop-again c =
       at.invariant.3 ∙ put_turn a.t.now a.signals.now a.values.now pre.1 at.i below at.bytes ∙ rw put,
     )
 
-same_length : tie.Need-shape_of-bytes invariant-loop decreases-loop
+same_length : tie.Need-shape_of-bytes invariant_loop decreases_loop
 same_length c = c.before.loop-i.invariant.1
 
-returns : tie.Need-returns invariant-loop decreases-loop
+returns : tie.Need-returns invariant_loop decreases_loop
 returns c =
     let a = c.before.before.before.before.before.before.args in
     let at = c.before.loop-i in
@@ -67,5 +67,5 @@ returns c =
 pub put_row_spec : {M : Type 1} → statement M
 put_row_spec =
     tie.close
-    (tie.spec invariant-loop decreases-loop loop-holds (λ c. search rules) (λ c. search rules) (λ c. search rules) shared-slice-read-put-scalar-2 cast-put-scalar
-    (λ c κs. search rules) (λ c. search rules) (λ c. search rules) loop-again same_length returns)
+    (tie.spec invariant_loop decreases_loop loop_holds (λ c. search rules) (λ c. search rules) (λ c. search rules) shared_slice_read_put_scalar_2 cast_put_scalar
+    (λ c κs. search rules) (λ c. search rules) (λ c. search rules) loop_again same_length returns)

@@ -9,18 +9,18 @@ returns : tie.Need-returns-in-Refused
 unfolding fresh_verdict
 returns c = rw (← c.before.taken.ensures.0, c.in-Refused.is)
 
-returns-2 : tie.Need-returns-then-size-buffer_size
+returns_2 : tie.Need-returns-then-size-buffer_size
 unfolding fresh_verdict
-returns-2 c =
+returns_2 c =
     let taken = c.before.before.before.before.taken in
     rw (← taken.ensures.0, c.before.before.before.in_default.is, ← c.before.before.buffer_size.ensures, ne_eqb _ _ c.before.if-size-buffer_size.true, c.refused.ensures)
 
-returns-3 : tie.Need-returns
+returns_3 : tie.Need-returns
 unfolding fresh_verdict
-returns-3 c = rw (← c.before.before.before.taken.ensures.0, c.before.before.in_default.is, ← c.before.buffer_size.ensures, eq-eqb _ _ c.if-size-buffer_size.false)
+returns_3 c = rw (← c.before.before.before.taken.ensures.0, c.before.before.in_default.is, ← c.before.buffer_size.ensures, eq-eqb _ _ c.if-size-buffer_size.false)
 
 pub judge_spec : {M : Type 1} → statement M
 judge_spec =
     tie.close
     (tie.spec (λ c κs. search rules) (λ c. search rules) returns (λ c. search rules) (λ c κs. search rules)
-    (λ c κs. search rules) returns-2 returns-3)
+    (λ c κs. search rules) returns_2 returns_3)

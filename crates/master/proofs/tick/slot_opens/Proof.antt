@@ -9,9 +9,9 @@ returns : tie.Need-returns-then-kind-eq0
 unfolding slot_opens
 returns c = rw (← c.before.before.kind-kind.ensures, ← c.before.target-target.ensures, eq-eqb _ _ c.if-kind-eq0.true)
 
-returns-2 : tie.Need-returns-then-kind-eq1
+returns_2 : tie.Need-returns-then-kind-eq1
 unfolding slot_opens
-returns-2 c = rw (
+returns_2 c = rw (
   ← c.before.before.before.before.kind-kind.ensures,
   ← c.before.before.before.target-target.ensures,
   ne_eqb _ _
@@ -20,16 +20,16 @@ returns-2 c = rw (
   c.first_pending.ensures,
 )
 
-returns-3 : tie.Need-returns-then-kind-eq2
+returns_3 : tie.Need-returns-then-kind-eq2
 unfolding slot_opens
-returns-3 c =
+returns_3 c =
     let kind = c.before.before.before.before.before.kind-kind in
     let target = c.before.before.before.before.target-target in
     rw (← kind.ensures, ← target.ensures, ne_eqb _ _ c.before.before.before.if-kind-eq0.false, ne_eqb _ _ c.before.before.if-kind-eq1.false, eq-eqb _ _ c.before.if-kind-eq2.true, c.request_slot.ensures)
 
-returns-4 : tie.Need-returns
+returns_4 : tie.Need-returns
 unfolding slot_opens
-returns-4 c = rw (
+returns_4 c = rw (
   ← c.before.before.before.before.kind-kind.ensures,
   ← c.before.before.before.target-target.ensures,
   ne_eqb _ _
@@ -41,5 +41,5 @@ returns-4 c = rw (
 pub slot_opens_spec : {M : Type 1} → statement M
 slot_opens_spec =
     tie.close
-    (tie.spec (λ c κs. search rules) (λ c κs. search rules) returns (λ c κs. search rules) returns-2
-    (λ c κs. search rules) returns-3 returns-4)
+    (tie.spec (λ c κs. search rules) (λ c κs. search rules) returns (λ c κs. search rules) returns_2
+    (λ c κs. search rules) returns_3 returns_4)

@@ -11,12 +11,12 @@ returns c =
     let asked = c.before.before.before.requires in
     summed a.id a.wish a.bytes.now c.in-Byte.byte asked (sym c.before.of.ensures.0 ∙ c.in-Byte.is)
 
-returns-2 : tie.Need-returns-in-Refused
-returns-2 c =
+returns_2 : tie.Need-returns-in-Refused
+returns_2 c =
     let a = c.before.before.before.args in
     let asked = c.before.before.before.requires in
     absurd (not_summed a.id a.wish a.bytes.now c.in-Refused.refusal asked (sym c.before.of.ensures.0 ∙ c.in-Refused.is))
 
 pub checksum_byte_spec : {M : Type 1} → statement M
 checksum_byte_spec =
-    tie.close (tie.spec (λ c κs. search rules) (λ c. search rules) (λ c. search rules) returns returns-2)
+    tie.close (tie.spec (λ c κs. search rules) (λ c. search rules) (λ c. search rules) returns returns_2)

@@ -10,23 +10,23 @@ use Rattle.master.proofs.Nine.{filled_nine}
 use Rattle.master.proofs.transfer.fill.Statement.{statement}
 use Rattle.master.proofs.transfer.fill.Tie as tie
 
-abbrev invariant-loop : tie.invariant-loop-i
-invariant-loop part₀ nine i₀ part i = (i ≤ length part₀) × (length part ≡ length part₀) × (part ≡ take i nine ++ drop i part₀)
+abbrev invariant_loop : tie.invariant-loop-i
+invariant_loop part₀ nine i₀ part i = (i ≤ length part₀) × (length part ≡ length part₀) × (part ≡ take i nine ++ drop i part₀)
 
-abbrev decreases-loop : tie.decreases-loop-i
-decreases-loop part₀ nine i₀ part i = length part₀ - i
+abbrev decreases_loop : tie.decreases-loop-i
+decreases_loop part₀ nine i₀ part i = length part₀ - i
 
-loop-holds : tie.Need-loop-i-init invariant-loop decreases-loop
-loop-holds c = (omega arith, refl, refl)
+loop_holds : tie.Need-loop-i-init invariant_loop decreases_loop
+loop_holds c = (omega arith, refl, refl)
 
-array-read-part : tie.Need-bounds-nine-i invariant-loop decreases-loop
-array-read-part c = omega (arith, c.loop-i-test.true, c.before.loop-i.invariant.1, c.before.before.requires)
+array_read_part : tie.Need-bounds-nine-i invariant_loop decreases_loop
+array_read_part c = omega (arith, c.loop-i-test.true, c.before.loop-i.invariant.1, c.before.before.requires)
 
-loop-less : tie.Need-loop-i-smaller invariant-loop decreases-loop
-loop-less c = omega (arith, c.loop-i-test.true, c.before.loop-i.invariant.1)
+loop_less : tie.Need-loop-i-smaller invariant_loop decreases_loop
+loop_less c = omega (arith, c.loop-i-test.true, c.before.loop-i.invariant.1)
 
-loop-again : tie.Need-loop-i-preserved invariant-loop decreases-loop
-loop-again c =
+loop_again : tie.Need-loop-i-preserved invariant_loop decreases_loop
+loop_again c =
     let a = c.before.before.args in
     let at = c.before.loop-i in
     let l : length a.nine ≡ 9 = search rules in (
@@ -36,10 +36,10 @@ loop-again c =
           (omega (arith, c.loop-i-test.true, at.invariant.1, c.before.before.requires, l)) (omega (arith, c.loop-i-test.true, at.invariant.1)) at.invariant.2,
     )
 
-same_length : tie.Need-shape_of-part invariant-loop decreases-loop
+same_length : tie.Need-shape_of-part invariant_loop decreases_loop
 same_length c = c.before.loop-i.invariant.1
 
-returns : tie.Need-returns invariant-loop decreases-loop
+returns : tie.Need-returns invariant_loop decreases_loop
 returns c =
     let a = c.before.before.args in
     let at = c.before.loop-i in
@@ -48,5 +48,5 @@ returns c =
 pub fill_spec : {M : Type 1} → statement M
 fill_spec =
     tie.close
-    (tie.spec invariant-loop decreases-loop loop-holds array-read-part (λ c. search rules) (λ c. search rules) loop-less
-    loop-again same_length returns)
+    (tie.spec invariant_loop decreases_loop loop_holds array_read_part (λ c. search rules) (λ c. search rules) loop_less
+    loop_again same_length returns)

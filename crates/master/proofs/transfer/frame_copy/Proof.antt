@@ -13,14 +13,14 @@ use Rattle.master.proofs.transfer.frame_copy.Tie as tie
 returns : tie.Need-returns-then-not-published
 returns c = rw (← c.before.published.ensures, not-true c.before.published.result c.if-not-published.true-raw)
 
-part-copied-end : tie.Need-slice_bounds-copied-end
-part-copied-end c =
+part_copied_end : tie.Need-slice_bounds-copied-end
+part_copied_end c =
     let a = c.before.before.before.before.before.args in
     let asked = c.before.before.before.before.before.requires in
     part_end a.t.now asked.0 a.bytes.now asked.1 a.f asked.2 c.length.result c.length.ensures
 
-copied-requires : tie.Need-copied-requires
-copied-requires c κs =
+copied_requires : tie.Need-copied-requires
+copied_requires c κs =
     let a = c.before.before.before.before.before.before.args in
     let asked = c.before.before.before.before.before.before.requires in
     let told = c.before.length in (
@@ -31,8 +31,8 @@ copied-requires c κs =
           asked.2 told.result told.ensures,
     )
 
-returns-2 : tie.Need-returns
-returns-2 c =
+returns_2 : tie.Need-returns
+returns_2 c =
     let a = c.before.before.before.before.before.before.before.args in
     let asked = c.before.before.before.before.before.before.before.requires in
     let published = c.before.before.before.before.published in
@@ -45,4 +45,4 @@ pub frame_copy_spec : {M : Type 1} → statement M
 frame_copy_spec =
     tie.close
     (tie.spec (λ c κs. search rules) returns (λ c. search rules) (λ c κs. search rules) (λ c. search rules)
-    (λ c. search rules) (λ c. search rules) (λ c. search rules) part-copied-end copied-requires returns-2)
+    (λ c. search rules) (λ c. search rules) (λ c. search rules) part_copied_end copied_requires returns_2)

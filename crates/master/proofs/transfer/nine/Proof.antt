@@ -10,20 +10,20 @@ use Rattle.master.proofs.Nine.{nine_bytes}
 use Rattle.master.proofs.transfer.nine.Statement.{statement}
 use Rattle.master.proofs.transfer.nine.Tie as tie
 
-abbrev invariant-loop : tie.invariant-loop-i
-invariant-loop bytes checksum all₀ n i₀ all i = (i ≤ n) × (n ≡ length bytes) × (all ≡ take i bytes ++ drop i (replicate 9 255))
+abbrev invariant_loop : tie.invariant-loop-i
+invariant_loop bytes checksum all₀ n i₀ all i = (i ≤ n) × (n ≡ length bytes) × (all ≡ take i bytes ++ drop i (replicate 9 255))
 
-abbrev decreases-loop : tie.decreases-loop-i
-decreases-loop bytes checksum all₀ n i₀ all i = n - i
+abbrev decreases_loop : tie.decreases-loop-i
+decreases_loop bytes checksum all₀ n i₀ all i = n - i
 
-loop-holds : tie.Need-loop-i-init invariant-loop decreases-loop
-loop-holds c = (omega arith, refl, refl)
+loop_holds : tie.Need-loop-i-init invariant_loop decreases_loop
+loop_holds c = (omega arith, refl, refl)
 
-array-write-all : tie.Need-bounds-all-i invariant-loop decreases-loop
-array-write-all c = omega (arith, c.before.loop-i-test.true, c.before.before.before.requires)
+array_write_all : tie.Need-bounds-all-i invariant_loop decreases_loop
+array_write_all c = omega (arith, c.before.loop-i-test.true, c.before.before.before.requires)
 
-loop-again : tie.Need-loop-i-preserved invariant-loop decreases-loop
-loop-again c =
+loop_again : tie.Need-loop-i-preserved invariant_loop decreases_loop
+loop_again c =
     let at = c.before.before.loop-i in
     let test = c.before.loop-i-test in (
       omega (arith, test.true),
@@ -32,10 +32,10 @@ loop-again c =
           test.true (omega (arith, test.true, c.before.before.before.requires)) at.invariant.2,
     )
 
-array-write-all-2 : tie.Need-bounds-all-n invariant-loop decreases-loop
-array-write-all-2 c = omega (arith, c.before.before.requires)
+array_write_all_2 : tie.Need-bounds-all-n invariant_loop decreases_loop
+array_write_all_2 c = omega (arith, c.before.before.requires)
 
-returns : tie.Need-returns invariant-loop decreases-loop
+returns : tie.Need-returns invariant_loop decreases_loop
 returns c =
     let a = c.before.before.args in
     let at = c.before.loop-i in
@@ -44,5 +44,5 @@ returns c =
 pub nine_spec : {M : Type 1} → statement M
 nine_spec =
     tie.close
-    (tie.spec invariant-loop decreases-loop loop-holds (λ c. search rules) array-write-all (λ c. search rules)
-    (λ c. search rules) loop-again array-write-all-2 returns)
+    (tie.spec invariant_loop decreases_loop loop_holds (λ c. search rules) array_write_all (λ c. search rules)
+    (λ c. search rules) loop_again array_write_all_2 returns)

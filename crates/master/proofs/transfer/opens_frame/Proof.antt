@@ -9,9 +9,9 @@ returns : tie.Need-returns-then-kind-eq0
 unfolding entry_opens
 returns c = rw (← c.before.before.kind-kind.ensures, ← c.before.target-target.ensures, eq-eqb _ _ c.if-kind-eq0.true)
 
-returns-2 : tie.Need-returns-then-kind-eq1
+returns_2 : tie.Need-returns-then-kind-eq1
 unfolding entry_opens
-returns-2 c = rw (
+returns_2 c = rw (
   ← c.before.before.before.before.kind-kind.ensures,
   ← c.before.before.before.target-target.ensures,
   ne_eqb _ _
@@ -20,11 +20,11 @@ returns-2 c = rw (
   c.has.ensures,
 )
 
-returns-3 : tie.Need-returns
+returns_3 : tie.Need-returns
 unfolding entry_opens
-returns-3 c = rw (← c.before.before.before.kind-kind.ensures, ← c.before.before.target-target.ensures, ne_eqb _ _ c.before.if-kind-eq0.false, ne_eqb _ _ c.if-kind-eq1.false)
+returns_3 c = rw (← c.before.before.before.kind-kind.ensures, ← c.before.before.target-target.ensures, ne_eqb _ _ c.before.if-kind-eq0.false, ne_eqb _ _ c.if-kind-eq1.false)
 
 pub opens_frame_spec : {M : Type 1} → statement M
 opens_frame_spec =
     tie.close
-    (tie.spec (λ c κs. search rules) (λ c κs. search rules) returns (λ c κs. search rules) returns-2 returns-3)
+    (tie.spec (λ c κs. search rules) (λ c κs. search rules) returns (λ c κs. search rules) returns_2 returns_3)

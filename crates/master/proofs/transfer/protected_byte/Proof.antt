@@ -9,10 +9,10 @@ returns : tie.Need-returns-in-Byte
 returns c = built c.before.before.args.id c.in-Byte.byte
     c.before.before.requires (sym c.before.build.ensures.0 ∙ c.in-Byte.is)
 
-returns-2 : tie.Need-returns-in-Refused
-returns-2 c = absurd (not_refused c.before.before.args.id c.in-Refused.refusal
+returns_2 : tie.Need-returns-in-Refused
+returns_2 c = absurd (not_refused c.before.before.args.id c.in-Refused.refusal
     c.before.before.requires (sym c.before.build.ensures.0 ∙ c.in-Refused.is))
 
 pub protected_byte_spec : {M : Type 1} → statement M
 protected_byte_spec =
-    tie.close (tie.spec (λ c κs. search rules) (λ c. search rules) (λ c. search rules) returns returns-2)
+    tie.close (tie.spec (λ c κs. search rules) (λ c. search rules) (λ c. search rules) returns returns_2)

@@ -10,9 +10,9 @@ use Rattle.master.specs.declared.state.Opened.TheVariants.{Request}
 use Rattle.master.proofs.transfer.request_copy.Statement.{statement}
 use Rattle.master.proofs.transfer.request_copy.Tie as tie
 
-copied-requires : tie.Need-copied-requires
+copied_requires : tie.Need-copied-requires
 unfolding format_of
-copied-requires c κs =
+copied_requires c κs =
     let l : length c.before.request_data-bytes.result ≡ 8 = search rules in
     let k = first_length_lem c.before.request_data-bytes.result 8 (omega (arith, l)) in
     (omega arith, omega (arith, k), omega (arith, k))
@@ -27,5 +27,5 @@ returns c =
 pub request_copy_spec : {M : Type 1} → statement M
 request_copy_spec =
     tie.close
-    (tie.spec (λ c κs. search rules) (λ c. search rules) (λ c. search rules) (λ c. search rules) copied-requires
+    (tie.spec (λ c κs. search rules) (λ c. search rules) (λ c. search rules) (λ c. search rules) copied_requires
     returns)

@@ -6,17 +6,17 @@ use Rattle.master.proofs.transfer.request_data.Tie as tie
 returns : tie.Need-returns-in-None
 returns c = rw c.in-None.is
 
-returns-2 : tie.Need-returns-in-Sending
-returns-2 c = rw (c.before.before.in-Sending.is, c.before.frame.ensures.0)
+returns_2 : tie.Need-returns-in-Sending
+returns_2 c = rw (c.before.before.in-Sending.is, c.before.frame.ensures.0)
 
-returns-3 : tie.Need-returns-in-Completed
-returns-3 c = rw c.in-Completed.is
+returns_3 : tie.Need-returns-in-Completed
+returns_3 c = rw c.in-Completed.is
 
-returns-4 : tie.Need-returns-in-Failed
-returns-4 c = rw c.in-Failed.is
+returns_4 : tie.Need-returns-in-Failed
+returns_4 c = rw c.in-Failed.is
 
 pub request_data_spec : {M : Type 1} → statement M
 request_data_spec =
     tie.close
     (tie.spec (λ c. search rules) (λ c. search rules) (λ c κs. search rules) (λ c. search rules)
-    (λ c. search rules) returns returns-2 returns-3 returns-4)
+    (λ c. search rules) returns returns_2 returns_3 returns_4)

@@ -10,11 +10,11 @@ use Rattle.master.proofs.Nine.{stored}
 use Rattle.master.proofs.transfer.store.Statement.{statement}
 use Rattle.master.proofs.transfer.store.Tie as tie
 
-part-fill-end : tie.Need-slice_bounds-fill-end
-part-fill-end c = omega (arith, c.before.requires.0, c.before.requires.1)
+part_fill_end : tie.Need-slice_bounds-fill-end
+part_fill_end c = omega (arith, c.before.requires.0, c.before.requires.1)
 
-fill-requires : tie.Need-fill-requires
-fill-requires c κs =
+fill_requires : tie.Need-fill-requires
+fill_requires c κs =
     let a = c.before.before.args in
     let asked = c.before.before.requires in
     omega (arith, length-take-le a.n (drop (8 * a.f) a.bytes.now) (simp length-drop (omega (arith, asked.0, asked.1))), asked.1)
@@ -29,5 +29,5 @@ returns c =
 pub store_spec : {M : Type 1} → statement M
 store_spec =
     tie.close
-    (tie.spec (λ c. search rules) (λ c. search rules) (λ c. search rules) (λ c. search rules) part-fill-end
-    fill-requires (λ c. search rules) returns)
+    (tie.spec (λ c. search rules) (λ c. search rules) (λ c. search rules) (λ c. search rules) part_fill_end
+    fill_requires (λ c. search rules) returns)

@@ -10,16 +10,16 @@ returns : tie.Need-returns-then-count-s
 unfolding writable
 returns c = rw (← c.before.before.count.ensures, le-ltb _ _ c.before.if-count-s.true, c.refused.ensures)
 
-returns-2 : tie.Need-returns-then-not-published
+returns_2 : tie.Need-returns-then-not-published
 unfolding writable
-returns-2 c =
+returns_2 c =
     let count = c.before.before.before.before.count in
     let published = c.before.before.published in
     rw (← count.ensures, lt-ltb _ _ c.before.before.before.if-count-s.false, ← published.ensures, not-true published.result c.before.if-not-published.true-raw, c.refused-then-not-published.ensures)
 
-returns-3 : tie.Need-returns-then-is_array-array
+returns_3 : tie.Need-returns-then-is_array-array
 unfolding writable
-returns-3 c =
+returns_3 c =
     let a = c.before.before.before.before.before.before.before.before.args in
     let count = c.before.before.before.before.before.before.count in
     let if1 = c.before.before.before.before.before.if-count-s in
@@ -37,9 +37,9 @@ returns-3 c =
       c.refused-then-is_array-array.ensures,
     )
 
-returns-4 : tie.Need-returns-then-not-fits
+returns_4 : tie.Need-returns-then-not-fits
 unfolding writable
-returns-4 c =
+returns_4 c =
     let a = c.before.before.before.before.before.before.before.before.before.args in
     let count = c.before.before.before.before.before.before.before.count in
     let if1 = c.before.before.before.before.before.before.if-count-s in
@@ -58,9 +58,9 @@ returns-4 c =
       c.refused-then-not-fits.ensures,
     )
 
-returns-5 : tie.Need-returns
+returns_5 : tie.Need-returns
 unfolding writable
-returns-5 c =
+returns_5 c =
     let a = c.before.before.before.before.before.before.before.before.args in
     let count = c.before.before.before.before.before.before.count in
     let if1 = c.before.before.before.before.before.if-count-s in
@@ -82,4 +82,4 @@ pub writable_spec : {M : Type 1} → statement M
 writable_spec =
     tie.close
     (tie.spec (λ c κs. search rules) (λ c κs. search rules) returns (λ c κs. search rules) (λ c κs. search rules)
-    returns-2 (λ c κs. search rules) (λ c κs. search rules) returns-3 (λ c κs. search rules) returns-4 returns-5)
+    returns_2 (λ c κs. search rules) (λ c κs. search rules) returns_3 (λ c κs. search rules) returns_4 returns_5)

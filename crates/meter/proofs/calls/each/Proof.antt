@@ -6,15 +6,15 @@ use borrow.Author.Rules.{rules}
 use Rattle.meter.proofs.calls.each.Statement.{statement}
 use Rattle.meter.proofs.calls.each.Tie as tie
 
-abbrev invariant-loop : tie.invariant-loop-i
-invariant-loop t bytes₀ letters numbers values state₀ digest₀ i₀ bytes state digest i = (i ≤ length letters) × (length bytes ≡ length bytes₀)
+abbrev invariant_loop : tie.invariant-loop-i
+invariant_loop t bytes₀ letters numbers values state₀ digest₀ i₀ bytes state digest i = (i ≤ length letters) × (length bytes ≡ length bytes₀)
 
-abbrev decreases-loop : tie.decreases-loop-i
-decreases-loop t bytes₀ letters numbers values state₀ digest₀ i₀ bytes state digest i = length letters - i
+abbrev decreases_loop : tie.decreases-loop-i
+decreases_loop t bytes₀ letters numbers values state₀ digest₀ i₀ bytes state digest i = length letters - i
 
 pub each_spec : {M : Type 1} → statement M
 each_spec =
     tie.close
-    (tie.spec invariant-loop decreases-loop (λ c. search rules) (λ c. search rules) (λ c. search rules) (λ c κs. search rules)
+    (tie.spec invariant_loop decreases_loop (λ c. search rules) (λ c. search rules) (λ c. search rules) (λ c κs. search rules)
     (λ c κs. search rules) (λ c. search rules) (λ c. search rules) (λ c κs. search rules)
     (λ c. search rules) (λ c. search rules))

@@ -5,14 +5,14 @@ use borrow.Author.Rules.{rules}
 use Rattle.meter.proofs.calls.with_bytes.Statement.{statement}
 use Rattle.meter.proofs.calls.with_bytes.Tie as tie
 
-abbrev invariant-loop : tie.invariant-loop-i
-invariant-loop digest bytes next₀ i₀ next i = i ≤ length bytes
+abbrev invariant_loop : tie.invariant-loop-i
+invariant_loop digest bytes next₀ i₀ next i = i ≤ length bytes
 
-abbrev decreases-loop : tie.decreases-loop-i
-decreases-loop digest bytes next₀ i₀ next i = length bytes - i
+abbrev decreases_loop : tie.decreases-loop-i
+decreases_loop digest bytes next₀ i₀ next i = length bytes - i
 
 pub with_bytes_spec : {M : Type 1} → statement M
 with_bytes_spec =
     tie.close
-    (tie.spec invariant-loop decreases-loop (λ c. search rules) (λ c. search rules) (λ c κs. search rules) (λ c. search rules)
+    (tie.spec invariant_loop decreases_loop (λ c. search rules) (λ c. search rules) (λ c κs. search rules) (λ c. search rules)
     (λ c. search rules) (λ c. search rules) (λ c. search rules))

@@ -4,14 +4,14 @@ use borrow.Author.Rules.{rules}
 use Rattle.meter.proofs.calls.with_pending.Statement.{statement}
 use Rattle.meter.proofs.calls.with_pending.Tie as tie
 
-abbrev invariant-loop : tie.invariant-loop-f
-invariant-loop digest pending next₀ f₀ next f = f ≤ 60
+abbrev invariant_loop : tie.invariant-loop-f
+invariant_loop digest pending next₀ f₀ next f = f ≤ 60
 
-abbrev decreases-loop : tie.decreases-loop-f
-decreases-loop digest pending next₀ f₀ next f = 60 - f
+abbrev decreases_loop : tie.decreases-loop-f
+decreases_loop digest pending next₀ f₀ next f = 60 - f
 
 pub with_pending_spec : {M : Type 1} → statement M
 with_pending_spec =
     tie.close
-    (tie.spec invariant-loop decreases-loop (λ c. search rules) (λ c. search rules) (λ c κs. search rules) (λ c. search rules)
+    (tie.spec invariant_loop decreases_loop (λ c. search rules) (λ c. search rules) (λ c κs. search rules) (λ c. search rules)
     (λ c. search rules) (λ c. search rules) (λ c. search rules))

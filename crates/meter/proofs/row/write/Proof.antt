@@ -5,14 +5,14 @@ use borrow.Author.Rules.{rules}
 use Rattle.meter.proofs.row.write.Statement.{statement}
 use Rattle.meter.proofs.row.write.Tie as tie
 
-slice-aggregate-write-row : tie.Need-slice_bounds-write_row-end
-slice-aggregate-write-row c = sym (length-take-le _ _ (search rules))
+slice_aggregate_write_row : tie.Need-slice_bounds-write_row-end
+slice_aggregate_write_row c = sym (length-take-le _ _ (search rules))
 
-slice-aggregate-write-row-2 : tie.Need-slice_bounds-write_row-end-2
-slice-aggregate-write-row-2 c = sym (length-take-le _ _ (search rules))
+slice_aggregate_write_row_2 : tie.Need-slice_bounds-write_row-end-2
+slice_aggregate_write_row_2 c = sym (length-take-le _ _ (search rules))
 
 pub write_spec : {M : Type 1} → statement M
 write_spec =
     tie.close
-    (tie.spec (λ c κs. search rules) (λ c κs. search rules) slice-aggregate-write-row slice-aggregate-write-row-2
+    (tie.spec (λ c κs. search rules) (λ c κs. search rules) slice_aggregate_write_row slice_aggregate_write_row_2
     (λ c κs. search rules) (λ c κs. search rules) (λ c. search rules) (λ c. search rules))

@@ -6,15 +6,15 @@ use borrow.Author.Rules.{rules}
 use Rattle.meter.proofs.row.write_singly.Statement.{statement}
 use Rattle.meter.proofs.row.write_singly.Tie as tie
 
-abbrev invariant-loop : tie.invariant-loop-i
-invariant-loop t bytes₀ numbers values state₀ code₀ i₀ bytes state code i = (i ≤ 20) × (length bytes ≡ length bytes₀)
+abbrev invariant_loop : tie.invariant-loop-i
+invariant_loop t bytes₀ numbers values state₀ code₀ i₀ bytes state code i = (i ≤ 20) × (length bytes ≡ length bytes₀)
 
-abbrev decreases-loop : tie.decreases-loop-i
-decreases-loop t bytes₀ numbers values state₀ code₀ i₀ bytes state code i = 20 - i
+abbrev decreases_loop : tie.decreases-loop-i
+decreases_loop t bytes₀ numbers values state₀ code₀ i₀ bytes state code i = 20 - i
 
 pub write_singly_spec : {M : Type 1} → statement M
 write_singly_spec =
     tie.close
-    (tie.spec invariant-loop decreases-loop (λ c. search rules) (λ c. search rules) (λ c. search rules) (λ c. search rules)
+    (tie.spec invariant_loop decreases_loop (λ c. search rules) (λ c. search rules) (λ c. search rules) (λ c. search rules)
     (λ c. search rules) (λ c κs. search rules) (λ c κs. search rules) (λ c. search rules) (λ c. search rules)
     (λ c. search rules) (λ c. search rules) (λ c. search rules))

@@ -23,20 +23,20 @@ returns : tie.Need-returns-then-self-eq-TABLE
 unfolding tells_place
 returns c = rw (eq-eqb c.before.before.args.self.number 1 c.if-self-eq-TABLE.true)
 
-returns-2 : tie.Need-returns-then-self-lt-UNKNOWN
-returns-2 c =
+returns_2 : tie.Need-returns-then-self-lt-UNKNOWN
+returns_2 c =
     let a = c.before.before.before.before.args in
     sym (low a.row a.self.number c.before.before.if-self-eq-TABLE.false c.if-self-lt-UNKNOWN.true)
 
-returns-3 : tie.Need-returns-then-row
-returns-3 c =
+returns_3 : tie.Need-returns-then-row
+returns_3 c =
     let a = c.before.before.before.before.before.before.args in
     sym (high a.row a.self.number c.before.before.before.before.if-self-eq-TABLE.false c.before.before.if-self-lt-UNKNOWN.false ∙ rw c.before.if-row.true)
 
-returns-4 : tie.Need-returns-else-row
-returns-4 c =
+returns_4 : tie.Need-returns-else-row
+returns_4 c =
     let a = c.before.before.before.before.before.args in
     sym (high a.row a.self.number c.before.before.before.if-self-eq-TABLE.false c.before.if-self-lt-UNKNOWN.false ∙ rw c.if-row.false)
 
 pub tells_place_spec : {M : Type 1} → statement M
-tells_place_spec = tie.close (tie.spec returns returns-2 returns-3 returns-4)
+tells_place_spec = tie.close (tie.spec returns returns_2 returns_3 returns_4)

@@ -9,21 +9,21 @@ use Rattle.script.proofs.Reading.{no_decimal, some_decimal, no_digit, too_large,
 use Rattle.script.proofs.fields.decimal.Statement.{statement}
 use Rattle.script.proofs.fields.decimal.Tie as tie
 
-abbrev invariant-loop : tie.invariant-loop-i
-invariant-loop field limit value₀ i₀ value i =
+abbrev invariant_loop : tie.invariant-loop-i
+invariant_loop field limit value₀ i₀ value i =
     (i ≤ length field) × (value ≤ limit) × (decimal_field limit field ≡ digits_from limit value (drop i field))
 
-abbrev decreases-loop : tie.decreases-loop-i
-decreases-loop field limit value₀ i₀ value i = length field - i
+abbrev decreases_loop : tie.decreases-loop-i
+decreases_loop field limit value₀ i₀ value i = length field - i
 
-returns : tie.Need-returns-then-field-eq0 invariant-loop decreases-loop
+returns : tie.Need-returns-then-field-eq0 invariant_loop decreases_loop
 returns c = no_decimal _ _ c.if-field-eq0.true
 
-loop-holds : tie.Need-loop-i-init invariant-loop decreases-loop
-loop-holds c = (omega arith, omega arith, some_decimal _ _ c.if-field-eq0.false)
+loop_holds : tie.Need-loop-i-init invariant_loop decreases_loop
+loop_holds c = (omega arith, omega arith, some_decimal _ _ c.if-field-eq0.false)
 
-returns-2 : tie.Need-returns-then-digit-gt9 invariant-loop decreases-loop
-returns-2 c =
+returns_2 : tie.Need-returns-then-digit-gt9 invariant_loop decreases_loop
+returns_2 c =
     let c3 = c in
     let c4 = c3 in
     let c7 = c4 in
@@ -31,8 +31,8 @@ returns-2 c =
     ∙ no_digit c7.before.before.before.before.before.before.before.args.limit c7.before.before.before.before.before.before.before.args.field.now c4.before.before.before.before.loop-i.value c4.before.before.before.before.loop-i.i c3.before.before.before.loop-i-test.true
     (omega (arith, c.before.digit-digit.ensures)))
 
-returns-3 : tie.Need-returns-then-limit-value invariant-loop decreases-loop
-returns-3 c =
+returns_3 : tie.Need-returns-then-limit-value invariant_loop decreases_loop
+returns_3 c =
     let c4 = c in
     let c5 = c4 in
     let c8 = c5 in
@@ -40,8 +40,8 @@ returns-3 c =
     ∙ too_large c8.before.before.before.before.before.before.before.before.args.limit c8.before.before.before.before.before.before.before.before.args.field.now c5.before.before.before.before.before.loop-i.value c5.before.before.before.before.before.loop-i.i c4.before.before.before.before.loop-i-test.true
     (omega (arith, c.before.before.digit-digit.ensures)))
 
-loop-again : tie.Need-loop-i-preserved invariant-loop decreases-loop
-loop-again c =
+loop_again : tie.Need-loop-i-preserved invariant_loop decreases_loop
+loop_again c =
     let c4 = c in
     let c5 = c4 in
     let c8 = c5 in
@@ -54,14 +54,14 @@ loop-again c =
           ∙ rw (← e),
     )
 
-returns-4 : tie.Need-returns invariant-loop decreases-loop
-returns-4 c =
+returns_4 : tie.Need-returns invariant_loop decreases_loop
+returns_4 c =
     let c4 = c in
     sym (c.before.loop-i.invariant.2 ∙ all_digits c4.before.before.before.before.args.limit c4.before.before.before.before.args.field.now c.before.loop-i.value c.before.loop-i.i c.loop-i-test.false)
 
 pub decimal_spec : {M : Type 1} → statement M
 decimal_spec =
     tie.close
-    (tie.spec invariant-loop decreases-loop returns loop-holds (λ c. search rules) (λ c κs. search rules) returns-2
-    (λ c. search rules) (λ c. search rules) (λ c. search rules) returns-3 (λ c. search rules) (λ c. search rules)
-    loop-again (λ c. search rules) returns-4)
+    (tie.spec invariant_loop decreases_loop returns loop_holds (λ c. search rules) (λ c κs. search rules) returns_2
+    (λ c. search rules) (λ c. search rules) (λ c. search rules) returns_3 (λ c. search rules) (λ c. search rules)
+    loop_again (λ c. search rules) returns_4)

@@ -9,17 +9,17 @@ use Rattle.script.proofs.fields.digit.Tie as tie
 returns : tie.Need-returns-then-c-lt48
 returns c = sym (below_digits _ c.if-c-lt48.true)
 
-returns-2 : tie.Need-returns-then-c-le57
-returns-2 c = sym (decimal_digit _ c.before.if-c-lt48.false c.if-c-le57.true)
+returns_2 : tie.Need-returns-then-c-le57
+returns_2 c = sym (decimal_digit _ c.before.if-c-lt48.false c.if-c-le57.true)
 
-returns-3 : tie.Need-returns-then-c-lt65
-returns-3 c = sym (between_digits _ c.before.if-c-le57.false c.if-c-lt65.true)
+returns_3 : tie.Need-returns-then-c-lt65
+returns_3 c = sym (between_digits _ c.before.if-c-le57.false c.if-c-lt65.true)
 
-returns-4 : tie.Need-returns-then-c-le70
-returns-4 c = omega (arith, letter_digit c.before.before.before.before.args.c c.before.if-c-lt65.false c.if-c-le70.true)
+returns_4 : tie.Need-returns-then-c-le70
+returns_4 c = omega (arith, letter_digit c.before.before.before.before.args.c c.before.if-c-lt65.false c.if-c-le70.true)
 
-returns-5 : tie.Need-returns-else-c-le70
-returns-5 c = sym (above_digits _ c.if-c-le70.false)
+returns_5 : tie.Need-returns-else-c-le70
+returns_5 c = sym (above_digits _ c.if-c-le70.false)
 
 pub digit_spec : {M : Type 1} → statement M
-digit_spec = tie.close (tie.spec returns returns-2 returns-3 (λ c. search rules) returns-4 returns-5)
+digit_spec = tie.close (tie.spec returns returns_2 returns_3 (λ c. search rules) returns_4 returns_5)

@@ -9,16 +9,16 @@ returns : tie.Need-returns-in-Word
 unfolding number_field
 returns c = rw (sym c.before.decimal.ensures ∙ c.in-Word.is)
 
-returns-2 : tie.Need-returns-in-Number
+returns_2 : tie.Need-returns-in-Number
 unfolding number_field
-returns-2 c = rw (sym c.before.before.decimal.ensures ∙ c.before.in-Number.is) c.decimal-in-Number.ensures
+returns_2 c = rw (sym c.before.before.decimal.ensures ∙ c.before.in-Number.is) c.decimal-in-Number.ensures
 
-returns-3 : tie.Need-returns-in-Wrong
+returns_3 : tie.Need-returns-in-Wrong
 unfolding number_field
-returns-3 c = rw (sym c.before.decimal.ensures ∙ c.in-Wrong.is)
+returns_3 c = rw (sym c.before.decimal.ensures ∙ c.in-Wrong.is)
 
 pub number_spec : {M : Type 1} → statement M
 number_spec =
     tie.close
     (tie.spec (λ c κs. search rules) (λ c. search rules) (λ c. search rules) (λ c κs. search rules)
-    (λ c. search rules) returns returns-2 returns-3)
+    (λ c. search rules) returns returns_2 returns_3)

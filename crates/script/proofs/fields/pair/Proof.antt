@@ -7,14 +7,14 @@ use Rattle.script.proofs.fields.pair.Tie as tie
 returns : tie.Need-returns-then-field-ne2
 returns c = no_two _ c.if-field-ne2.true
 
-returns-2 : tie.Need-returns-then-high-gt15
-returns-2 c = no_high _ c.before.before.before.before.before.if-field-ne2.false c.before.before.before.digit-high.ensures c.before.digit-low.ensures c.if-high-gt15.true
+returns_2 : tie.Need-returns-then-high-gt15
+returns_2 c = no_high _ c.before.before.before.before.before.if-field-ne2.false c.before.before.before.digit-high.ensures c.before.digit-low.ensures c.if-high-gt15.true
 
-returns-3 : tie.Need-returns-then-low-gt15
-returns-3 c = no_low _ c.before.before.before.before.before.before.if-field-ne2.false c.before.before.before.before.digit-high.ensures c.before.before.digit-low.ensures c.if-low-gt15.true
+returns_3 : tie.Need-returns-then-low-gt15
+returns_3 c = no_low _ c.before.before.before.before.before.before.if-field-ne2.false c.before.before.before.before.digit-high.ensures c.before.before.digit-low.ensures c.if-low-gt15.true
 
-returns-4 : tie.Need-returns
-returns-4 c =
+returns_4 : tie.Need-returns
+returns_4 c =
     let c4 = c in
     let c6 = c4 in
     a_pair _ c6.before.before.before.before.before.before.if-field-ne2.false c4.before.before.before.before.digit-high.ensures c.before.before.digit-low.ensures c.before.if-high-gt15.false c.if-low-gt15.false
@@ -23,4 +23,4 @@ pub pair_spec : {M : Type 1} → statement M
 pair_spec =
     tie.close
     (tie.spec returns (λ c. search rules) (λ c κs. search rules) (λ c. search rules) (λ c κs. search rules)
-    returns-2 returns-3 (λ c. search rules) (λ c. search rules) (λ c. search rules) returns-4)
+    returns_2 returns_3 (λ c. search rules) (λ c. search rules) (λ c. search rules) returns_4)

@@ -9,17 +9,17 @@ use Rattle.script.proofs.fields.read.Tie as tie
 returns : tie.Need-returns-then-form-eq0
 returns c = no_form _ _ c.if-form-eq0.true
 
-returns-2 : tie.Need-returns-then-form-eq72
-returns-2 c = c.pair.ensures ∙ by_pair _ _ c.before.before.before.if-form-eq0.false c.before.if-form-eq72.true
+returns_2 : tie.Need-returns-then-form-eq72
+returns_2 c = c.pair.ensures ∙ by_pair _ _ c.before.before.before.if-form-eq0.false c.before.if-form-eq72.true
 
-returns-3 : tie.Need-returns-then-digit-gt9
-returns-3 c =
+returns_3 : tie.Need-returns-then-digit-gt9
+returns_3 c =
     let c4 = c in
     let c6 = c4 in
     c.word.ensures ∙ by_word _ _ c6.before.before.before.before.before.before.if-form-eq0.false c4.before.before.before.before.if-form-eq72.false (omega (arith, c.before.before.digit.ensures))
 
-returns-4 : tie.Need-returns
-returns-4 c =
+returns_4 : tie.Need-returns
+returns_4 c =
     let c4 = c in
     let c6 = c4 in
     c.number.ensures ∙ by_number_lem _ _ c6.before.before.before.before.before.before.if-form-eq0.false c4.before.before.before.before.if-form-eq72.false (omega (arith, c.before.before.digit.ensures))
@@ -27,5 +27,5 @@ returns-4 c =
 pub read_spec : {M : Type 1} → statement M
 read_spec =
     tie.close
-    (tie.spec returns (λ c. search rules) (λ c κs. search rules) returns-2 (λ c. search rules)
-    (λ c κs. search rules) (λ c κs. search rules) returns-3 (λ c κs. search rules) returns-4)
+    (tie.spec returns (λ c. search rules) (λ c κs. search rules) returns_2 (λ c. search rules)
+    (λ c κs. search rules) (λ c κs. search rules) returns_3 (λ c κs. search rules) returns_4)

@@ -11,16 +11,16 @@ use Rattle.script.proofs.Forming.{forms_begin, no_form_left, this_form, other_fo
 use Rattle.script.proofs.forms.read.Statement.{statement}
 use Rattle.script.proofs.forms.read.Tie as tie
 
-abbrev invariant-loop : tie.invariant-loop-at
-invariant-loop line forms k₀ at₀ k at = (k ≤ at) × (at ≤ length forms + 1) × (line_of forms line ≡ line_in (fields_from 124 forms at) line k)
+abbrev invariant_loop : tie.invariant-loop-at
+invariant_loop line forms k₀ at₀ k at = (k ≤ at) × (at ≤ length forms + 1) × (line_of forms line ≡ line_in (fields_from 124 forms at) line k)
 
-abbrev decreases-loop : tie.decreases-loop-at
-decreases-loop line forms k₀ at₀ k at = length forms + 1 - at
+abbrev decreases_loop : tie.decreases-loop-at
+decreases_loop line forms k₀ at₀ k at = length forms + 1 - at
 
-loop-holds : tie.Need-loop-at-init invariant-loop decreases-loop
-loop-holds c = (omega arith, omega arith, forms_begin _ _)
+loop_holds : tie.Need-loop-at-init invariant_loop decreases_loop
+loop_holds c = (omega arith, omega arith, forms_begin _ _)
 
-returns : tie.Need-returns-then-read invariant-loop decreases-loop
+returns : tie.Need-returns-then-read invariant_loop decreases_loop
 returns c =
     let c4 = c in
     let c5 = c4 in
@@ -33,8 +33,8 @@ returns c =
     ∙ this_form c9.before.before.before.before.before.before.before.before.before.args.forms.now c9.before.before.before.before.before.before.before.before.before.args.line.now c6.before.before.before.before.before.before.loop-at.at c4.before.before.before.before.find-end.result c6.before.before.before.before.before.before.loop-at.k c5.before.before.before.before.before.loop-at-test.true
     c4.before.before.before.before.find-end.ensures.0 c4.before.before.before.before.find-end.ensures.1 (ap (λ (r : Reading). r.fits) (sym e) ∙ c.before.if-read.true))
 
-loop-again : tie.Need-loop-at-preserved invariant-loop decreases-loop
-loop-again c =
+loop_again : tie.Need-loop-at-preserved invariant_loop decreases_loop
+loop_again c =
     let c3 = c in
     let c4 = c3 in
     let c5 = c4 in
@@ -46,8 +46,8 @@ loop-again c =
           c3.before.before.before.find-end.ensures.0 c3.before.before.before.find-end.ensures.1 (ap (λ (r : Reading). r.fits) (sym c.before.read_as-read.ensures) ∙ c.if-read.false),
     )
 
-returns-2 : tie.Need-returns invariant-loop decreases-loop
-returns-2 c =
+returns_2 : tie.Need-returns invariant_loop decreases_loop
+returns_2 c =
     let c3 = c in
     let c6 = c3 in
     c.with_form-2.ensures
@@ -57,6 +57,6 @@ returns-2 c =
 pub read_spec : {M : Type 1} → statement M
 read_spec =
     tie.close
-    (tie.spec invariant-loop decreases-loop loop-holds (λ c κs. search rules) (λ c. search rules) (λ c. search rules)
+    (tie.spec invariant_loop decreases_loop loop_holds (λ c κs. search rules) (λ c. search rules) (λ c. search rules)
     (λ c. search rules) (λ c κs. search rules) (λ c κs. search rules) returns (λ c. search rules)
-    (λ c. search rules) (λ c. search rules) loop-again (λ c κs. search rules) (λ c κs. search rules) returns-2)
+    (λ c. search rules) (λ c. search rules) loop_again (λ c κs. search rules) (λ c κs. search rules) returns_2)

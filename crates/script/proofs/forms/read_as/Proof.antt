@@ -11,19 +11,19 @@ use Rattle.script.proofs.Forming.{begins, form_ends, line_left, list_at, line_en
 use Rattle.script.proofs.forms.read_as.Statement.{statement}
 use Rattle.script.proofs.forms.read_as.Tie as tie
 
-abbrev invariant-loop : tie.invariant-loop-at
-invariant-loop line form numbers₀ place₀ at₀ numbers place at =
+abbrev invariant_loop : tie.invariant-loop-at
+invariant_loop line form numbers₀ place₀ at₀ numbers place at =
     (at ≤ length form + 1)
     × (place ≤ length line + 1)
     × (read_of form line ≡ read_as (fields_from 32 form at) (fields_from 32 line place) place numbers)
 
-abbrev decreases-loop : tie.decreases-loop-at
-decreases-loop line form numbers₀ place₀ at₀ numbers place at = length form + 1 - at
+abbrev decreases_loop : tie.decreases-loop-at
+decreases_loop line form numbers₀ place₀ at₀ numbers place at = length form + 1 - at
 
-loop-holds : tie.Need-loop-at-init invariant-loop decreases-loop
-loop-holds c = (omega arith, omega arith, begins _ _ ∙ rw (← c.none-numbers.ensures))
+loop_holds : tie.Need-loop-at-init invariant_loop decreases_loop
+loop_holds c = (omega arith, omega arith, begins _ _ ∙ rw (← c.none-numbers.ensures))
 
-returns : tie.Need-returns-then-is_list invariant-loop decreases-loop
+returns : tie.Need-returns-then-is_list invariant_loop decreases_loop
 returns c =
     let c4 = c in
     let c5 = c4 in
@@ -34,8 +34,8 @@ returns c =
     ∙ list_at c10.before.before.before.before.before.before.before.before.before.before.args.form.now c10.before.before.before.before.before.before.before.before.before.before.args.line.now c6.before.before.before.before.before.before.loop-at.at c6.before.before.before.before.before.before.loop-at.place c6.before.before.before.before.before.before.loop-at.numbers c4.before.before.before.before.find-end.result
     c5.before.before.before.before.before.loop-at-test.true c4.before.before.before.before.find-end.ensures.0 c4.before.before.before.before.find-end.ensures.1 (sym c.before.before.is_list.ensures ∙ c.before.if-is_list.true))
 
-returns-2 : tie.Need-returns-then-line-place invariant-loop decreases-loop
-returns-2 c =
+returns_2 : tie.Need-returns-then-line-place invariant_loop decreases_loop
+returns_2 c =
     let c3 = c in
     let c5 = c3 in
     let c6 = c5 in
@@ -47,8 +47,8 @@ returns-2 c =
     c6.before.before.before.before.before.before.loop-at-test.true c5.before.before.before.before.before.find-end.ensures.0 c5.before.before.before.before.before.find-end.ensures.1 (sym c3.before.before.before.is_list.ensures ∙ c.before.before.if-is_list.false)
     c.before.if-line-place.true)
 
-returns-3 : tie.Need-returns-then-not-is_right invariant-loop decreases-loop
-returns-3 c =
+returns_3 : tie.Need-returns-then-not-is_right invariant_loop decreases_loop
+returns_3 c =
     let c3 = c in
     let c6 = c3 in
     let c7 = c6 in
@@ -65,8 +65,8 @@ returns-3 c =
     c6.before.before.before.before.before.before.find-stop.result c7.before.before.before.before.before.before.before.if-line-place.false c6.before.before.before.before.before.before.find-stop.ensures.0 c6.before.before.before.before.before.before.find-stop.ensures.1
     (ap is_right (sym c3.before.before.before.read-field.ensures) ∙ sym c.before.before.is_right.ensures ∙ not-true _ c.before.if-not-is_right.true-raw))
 
-loop-again : tie.Need-loop-at-preserved invariant-loop decreases-loop
-loop-again c =
+loop_again : tie.Need-loop-at-preserved invariant_loop decreases_loop
+loop_again c =
     let c3 = c in
     let c6 = c3 in
     let c7 = c6 in
@@ -86,16 +86,16 @@ loop-again c =
           ∙ rw (← c3.before.before.before.read-field.ensures, ← c.with-numbers.ensures),
     )
 
-returns-4 : tie.Need-returns-then-place-line invariant-loop decreases-loop
-returns-4 c =
+returns_4 : tie.Need-returns-then-place-line invariant_loop decreases_loop
+returns_4 c =
     let c3 = c in
     let c7 = c3 in
     c.unfit-then-place-line.ensures
     ∙ sym (c3.before.before.before.loop-at.invariant.2
     ∙ line_left c7.before.before.before.before.before.before.before.args.form.now c7.before.before.before.before.before.before.before.args.line.now c3.before.before.before.loop-at.at c3.before.before.before.loop-at.place c3.before.before.before.loop-at.numbers c.before.before.loop-at-test.false c.before.if-place-line.true)
 
-returns-5 : tie.Need-returns invariant-loop decreases-loop
-returns-5 c =
+returns_5 : tie.Need-returns invariant_loop decreases_loop
+returns_5 c =
     let c3 = c in
     let c7 = c3 in
     c.fitting-2.ensures
@@ -105,10 +105,10 @@ returns-5 c =
 pub read_as_spec : {M : Type 1} → statement M
 read_as_spec =
     tie.close
-    (tie.spec invariant-loop decreases-loop (λ c κs. search rules) loop-holds (λ c κs. search rules) (λ c. search rules)
+    (tie.spec invariant_loop decreases_loop (λ c κs. search rules) loop_holds (λ c κs. search rules) (λ c. search rules)
     (λ c. search rules) (λ c. search rules) (λ c κs. search rules) (λ c κs. search rules) returns
-    (λ c κs. search rules) returns-2 (λ c κs. search rules) (λ c. search rules) (λ c. search rules)
+    (λ c κs. search rules) returns_2 (λ c κs. search rules) (λ c. search rules) (λ c. search rules)
     (λ c. search rules) (λ c. search rules) (λ c. search rules) (λ c. search rules) (λ c κs. search rules)
-    (λ c κs. search rules) (λ c κs. search rules) returns-3 (λ c κs. search rules) (λ c. search rules)
-    (λ c. search rules) (λ c. search rules) loop-again (λ c κs. search rules) returns-4 (λ c κs. search rules)
-    returns-5)
+    (λ c κs. search rules) (λ c κs. search rules) returns_3 (λ c κs. search rules) (λ c. search rules)
+    (λ c. search rules) (λ c. search rules) loop_again (λ c κs. search rules) returns_4 (λ c κs. search rules)
+    returns_5)

@@ -15,19 +15,19 @@ use Rattle.script.proofs.Listing.{a_number, listed_all, listed_wrong, listed_ful
 use Rattle.script.proofs.lists.words.Statement.{statement}
 use Rattle.script.proofs.lists.words.Tie as tie
 
-abbrev invariant-loop : tie.invariant-loop-place
-invariant-loop line at words₀ n₀ place₀ words n place =
+abbrev invariant_loop : tie.invariant-loop-place
+invariant_loop line at words₀ n₀ place₀ words n place =
     (n ≤ length words)
     × (length words ≡ length words₀)
     × ((r : Count) (after : List ℕ) → Listed n (words_at line place) words r after → Listed 0 (words_at line at) words₀ r after)
 
-abbrev decreases-loop : tie.decreases-loop-place
-decreases-loop line at words₀ n₀ place₀ words n place = length words₀ - n
+abbrev decreases_loop : tie.decreases-loop-place
+decreases_loop line at words₀ n₀ place₀ words n place = length words₀ - n
 
-loop-holds : tie.Need-loop-place-init invariant-loop decreases-loop
-loop-holds c = (omega arith, omega arith, λ r after l. l)
+loop_holds : tie.Need-loop-place-init invariant_loop decreases_loop
+loop_holds c = (omega arith, omega arith, λ r after l. l)
 
-returns : tie.Need-returns-then-words-n invariant-loop decreases-loop
+returns : tie.Need-returns-then-words-n invariant_loop decreases_loop
 returns c =
     let c3 = c in
     let c4 = c3 in
@@ -37,8 +37,8 @@ returns c =
     (rw (list_next (decimal_field 65535) c8.before.before.before.before.before.before.before.before.args.line.now c5.before.before.before.before.before.loop-place.place c3.before.before.before.find-end.result c4.before.before.before.before.loop-place-test.true c3.before.before.before.find-end.ensures.0
     c3.before.before.before.find-end.ensures.1) (listed_full _ _ _ _ c.if-words-n.true))
 
-returns-2 : tie.Need-returns-then-not-is_number invariant-loop decreases-loop
-returns-2 c =
+returns_2 : tie.Need-returns-then-not-is_number invariant_loop decreases_loop
+returns_2 c =
     let c3 = c in
     let c5 = c3 in
     let c6 = c5 in
@@ -49,13 +49,13 @@ returns-2 c =
     c5.before.before.before.before.before.find-end.ensures.1)
     (listed_wrong _ _ _ _ (ap is_number (sym c3.before.before.before.decimal-field.ensures) ∙ sym c.before.is_number.ensures ∙ not-true _ c.if-not-is_number.true-raw)))
 
-cast-words : tie.Need-overflow_cast-words invariant-loop decreases-loop
-cast-words c =
+cast_words : tie.Need-overflow_cast-words invariant_loop decreases_loop
+cast_words c =
     let number = a_number c.before.before.before.before.decimal-field.result (sym c.before.before.is_number.ensures ∙ not-false _ c.before.if-not-is_number.false-raw) in
     omega (arith, decimal_within 65535 _ _ (sym c.before.before.before.before.decimal-field.ensures ∙ number), c.number.ensures)
 
-loop-again : tie.Need-loop-place-preserved invariant-loop decreases-loop
-loop-again c =
+loop_again : tie.Need-loop-place-preserved invariant_loop decreases_loop
+loop_again c =
     let c3 = c in
     let c4 = c3 in
     let c6 = c4 in
@@ -72,15 +72,15 @@ loop-again c =
           c3.before.before.before.if-words-n.false (rw (← c4.before.before.before.before.decimal-field.ensures, ← c.number.ensures) l))),
     )
 
-returns-3 : tie.Need-returns invariant-loop decreases-loop
-returns-3 c =
+returns_3 : tie.Need-returns invariant_loop decreases_loop
+returns_3 c =
     c.before.loop-place.invariant.2 _ _
     (rw (list_over (decimal_field 65535) c.before.before.before.before.args.line.now c.before.loop-place.place c.loop-place-test.false) (listed_all _ _ c.before.loop-place.invariant.0))
 
 pub words_spec : {M : Type 1} → statement M
 words_spec =
     tie.close
-    (tie.spec invariant-loop decreases-loop loop-holds (λ c κs. search rules) (λ c. search rules) (λ c. search rules)
+    (tie.spec invariant_loop decreases_loop loop_holds (λ c κs. search rules) (λ c. search rules) (λ c. search rules)
     (λ c. search rules) (λ c κs. search rules) (λ c. search rules) returns (λ c κs. search rules)
-    (λ c. search rules) returns-2 (λ c κs. search rules) cast-words (λ c. search rules) (λ c. search rules)
-    (λ c. search rules) (λ c. search rules) (λ c. search rules) loop-again (λ c. search rules) returns-3)
+    (λ c. search rules) returns_2 (λ c κs. search rules) cast_words (λ c. search rules) (λ c. search rules)
+    (λ c. search rules) (λ c. search rules) (λ c. search rules) loop_again (λ c. search rules) returns_3)

@@ -12,21 +12,21 @@ use Rattle.script.proofs.Patterns.{patterns_begin, no_pattern, this_pattern, oth
 use Rattle.script.proofs.print.by_number.Statement.{statement}
 use Rattle.script.proofs.print.by_number.Tie as tie
 
-abbrev invariant-loop : tie.invariant-loop-start
-invariant-loop out₀ at patterns k numbers from passed₀ start₀ out passed start =
+abbrev invariant_loop : tie.invariant-loop-start
+invariant_loop out₀ at patterns k numbers from passed₀ start₀ out passed start =
     (out ≡ out₀)
     × (passed ≤ k)
     × (start ≤ length patterns + 1)
     × (get_or (fields_of 124 patterns) k [] ≡ get_or (fields_from 124 patterns start) (k - passed) [])
     × (length out ≡ length out₀)
 
-abbrev decreases-loop : tie.decreases-loop-start
-decreases-loop out₀ at patterns k numbers from passed₀ start₀ out passed start = length patterns + 1 - start
+abbrev decreases_loop : tie.decreases-loop-start
+decreases_loop out₀ at patterns k numbers from passed₀ start₀ out passed start = length patterns + 1 - start
 
-loop-holds : tie.Need-loop-start-init invariant-loop decreases-loop
-loop-holds c = (refl, omega arith, omega arith, patterns_begin _ _, refl)
+loop_holds : tie.Need-loop-start-init invariant_loop decreases_loop
+loop_holds c = (refl, omega arith, omega arith, patterns_begin _ _, refl)
 
-returns : tie.Need-returns-then-passed-k invariant-loop decreases-loop
+returns : tie.Need-returns-then-passed-k invariant_loop decreases_loop
 returns c =
     let c5 = c in
     let c6 = c5 in
@@ -40,8 +40,8 @@ returns c =
           c7.before.before.before.before.before.before.before.loop-start-test.true c6.before.before.before.before.before.before.find-end.ensures.0 c6.before.before.before.before.before.before.find-end.ensures.1 c5.before.before.before.before.before.if-passed-k.true,
     ) c.before.before.by_pattern.ensures
 
-loop-again : tie.Need-loop-start-preserved invariant-loop decreases-loop
-loop-again c =
+loop_again : tie.Need-loop-start-preserved invariant_loop decreases_loop
+loop_again c =
     let c3 = c in
     let c7 = c3 in
     let i = c3.before.before.before.loop-start.invariant in
@@ -55,9 +55,9 @@ loop-again c =
       i.4,
     )
 
-returns-2 : tie.Need-returns invariant-loop decreases-loop
+returns_2 : tie.Need-returns invariant_loop decreases_loop
 unfolding text_by
-returns-2 c =
+returns_2 c =
     let c5 = c in
     rw (
       c.before.loop-start.invariant.0,
@@ -67,6 +67,6 @@ returns-2 c =
 pub by_number_spec : {M : Type 1} → statement M
 by_number_spec =
     tie.close
-    (tie.spec invariant-loop decreases-loop loop-holds (λ c κs. search rules) (λ c. search rules) (λ c. search rules)
+    (tie.spec invariant_loop decreases_loop loop_holds (λ c κs. search rules) (λ c. search rules) (λ c. search rules)
     (λ c. search rules) (λ c κs. search rules) (λ c. search rules) returns (λ c. search rules) (λ c. search rules)
-    (λ c. search rules) loop-again (λ c. search rules) returns-2)
+    (λ c. search rules) loop_again (λ c. search rules) returns_2)

@@ -11,21 +11,21 @@ use Rattle.script.proofs.Patterns.{pattern_next, pattern_over}
 use Rattle.script.proofs.print.by_pattern.Statement.{statement}
 use Rattle.script.proofs.print.by_pattern.Tie as tie
 
-abbrev invariant-loop : tie.invariant-loop-i
-invariant-loop out₀ at pattern numbers from end₀ place₀ i₀ out end place i =
+abbrev invariant_loop : tie.invariant-loop-i
+invariant_loop out₀ at pattern numbers from end₀ place₀ i₀ out end place i =
     (i ≤ length pattern)
     × (length out ≡ length out₀)
     × ((r : ℕ) (after : List ℕ) → Puts (text_by (drop i pattern) (drop place numbers)) out end r after
     → Puts (text_by pattern (drop from numbers)) out₀ at r after)
 
-abbrev decreases-loop : tie.decreases-loop-i
-decreases-loop out₀ at pattern numbers from end₀ place₀ i₀ out end place i = length pattern - i
+abbrev decreases_loop : tie.decreases-loop-i
+decreases_loop out₀ at pattern numbers from end₀ place₀ i₀ out end place i = length pattern - i
 
-loop-holds : tie.Need-loop-i-init invariant-loop decreases-loop
-loop-holds c = (omega arith, omega arith, λ r after p. p)
+loop_holds : tie.Need-loop-i-init invariant_loop decreases_loop
+loop_holds c = (omega arith, omega arith, λ r after p. p)
 
-loop-again : tie.Need-loop-i-preserved invariant-loop decreases-loop
-loop-again c =
+loop_again : tie.Need-loop-i-preserved invariant_loop decreases_loop
+loop_again c =
     let c3 = c in
     let c4 = c3 in
     let c7 = c4 in
@@ -42,7 +42,7 @@ loop-again c =
           ) (puts_then _ _ _ _ c3.before.before.before.shown-end.ensures p)),
     )
 
-returns : tie.Need-returns invariant-loop decreases-loop
+returns : tie.Need-returns invariant_loop decreases_loop
 returns c =
     let c5 = c in
     c.before.loop-i.invariant.2 _ _
@@ -51,5 +51,5 @@ returns c =
 pub by_pattern_spec : {M : Type 1} → statement M
 by_pattern_spec =
     tie.close
-    (tie.spec invariant-loop decreases-loop loop-holds (λ c. search rules) (λ c κs. search rules) (λ c κs. search rules)
-    (λ c κs. search rules) (λ c. search rules) (λ c. search rules) loop-again (λ c. search rules) returns)
+    (tie.spec invariant_loop decreases_loop loop_holds (λ c. search rules) (λ c κs. search rules) (λ c κs. search rules)
+    (λ c κs. search rules) (λ c. search rules) (λ c. search rules) loop_again (λ c. search rules) returns)

@@ -10,21 +10,21 @@ use Rattle.buslog.proofs.Decimal.{decimal, fewer, shorter, turn, spelled}
 use Rattle.script.proofs.print.decimal.Statement.{statement}
 use Rattle.script.proofs.print.decimal.Tie as tie
 
-abbrev invariant-loop : tie.invariant-loop-rest
-invariant-loop out at number digits₀ first₀ rest₀ digits first rest =
+abbrev invariant_loop : tie.invariant-loop-rest
+invariant_loop out at number digits₀ first₀ rest₀ digits first rest =
     (length digits ≡ 20) × (first ≤ 19) × (rest < 10 ^ first) × (decimal_of number ≡ digits_of first rest ++ drop first digits)
 
-abbrev decreases-loop : tie.decreases-loop-rest
-decreases-loop out at number digits₀ first₀ rest₀ digits first rest = rest
+abbrev decreases_loop : tie.decreases-loop-rest
+decreases_loop out at number digits₀ first₀ rest₀ digits first rest = rest
 
-loop-holds : tie.Need-loop-rest-init invariant-loop decreases-loop
-loop-holds c = (refl, omega arith, omega arith, decimal c.before.args.number (omega arith))
+loop_holds : tie.Need-loop-rest-init invariant_loop decreases_loop
+loop_holds c = (refl, omega arith, omega arith, decimal c.before.args.number (omega arith))
 
-sub-first : tie.Need-overflow_sub-first invariant-loop decreases-loop
-sub-first c = fewer c.before.loop-rest.first c.before.loop-rest.rest c.loop-rest-test.true c.before.loop-rest.invariant.2
+sub_first : tie.Need-overflow_sub-first invariant_loop decreases_loop
+sub_first c = fewer c.before.loop-rest.first c.before.loop-rest.rest c.loop-rest-test.true c.before.loop-rest.invariant.2
 
-loop-again : tie.Need-loop-rest-preserved invariant-loop decreases-loop
-loop-again c =
+loop_again : tie.Need-loop-rest-preserved invariant_loop decreases_loop
+loop_again c =
     let i = c.before.loop-rest.invariant in
     let f = fewer c.before.loop-rest.first c.before.loop-rest.rest c.loop-rest-test.true i.2 in (
       simp length-set i.0,
@@ -33,7 +33,7 @@ loop-again c =
       i.3 ∙ turn c.before.loop-rest.first c.before.loop-rest.rest c.before.loop-rest.digits c.loop-rest-test.true i.2 (omega arith),
     )
 
-returns : tie.Need-returns invariant-loop decreases-loop
+returns : tie.Need-returns invariant_loop decreases_loop
 returns c =
     let c7 = c in
     let c9 = c7 in
@@ -43,6 +43,6 @@ returns c =
 pub decimal_spec : {M : Type 1} → statement M
 decimal_spec =
     tie.close
-    (tie.spec invariant-loop decreases-loop (λ c. search rules) (λ c. search rules) (λ c. search rules) loop-holds sub-first
-    (λ c. search rules) (λ c. search rules) (λ c. search rules) (λ c. search rules) loop-again
+    (tie.spec invariant_loop decreases_loop (λ c. search rules) (λ c. search rules) (λ c. search rules) loop_holds sub_first
+    (λ c. search rules) (λ c. search rules) (λ c. search rules) (λ c. search rules) loop_again
     (λ c. search rules) (λ c. search rules) (λ c. search rules) (λ c κs. search rules) (λ c. search rules) returns)

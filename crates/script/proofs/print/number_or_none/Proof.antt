@@ -9,12 +9,12 @@ returns : tie.Need-returns-then-n-eq-NONE
 unfolding number_or_none
 returns c = rw (eq-eqb _ _ c.before.before.before.before.before.before.if-n-eq-NONE.true) c.before.before.text.ensures
 
-returns-2 : tie.Need-returns
+returns_2 : tie.Need-returns
 unfolding number_or_none
-returns-2 c = rw (ne_eqb _ _ c.before.before.before.before.if-n-eq-NONE.false) c.before.before.decimal.ensures
+returns_2 c = rw (ne_eqb _ _ c.before.before.before.before.if-n-eq-NONE.false) c.before.before.decimal.ensures
 
 pub number_or_none_spec : {M : Type 1} → statement M
 number_or_none_spec =
     tie.close
     (tie.spec (λ c κs. search rules) (λ c. search rules) returns (λ c κs. search rules)
-    (λ c. search rules) returns-2)
+    (λ c. search rules) returns_2)

@@ -11,20 +11,20 @@ use Rattle.script.proofs.Patterns.{pairs_next, pairs_over}
 use Rattle.script.proofs.print.pairs.Statement.{statement}
 use Rattle.script.proofs.print.pairs.Tie as tie
 
-abbrev invariant-loop : tie.invariant-loop-i
-invariant-loop out₀ at bytes end₀ i₀ out end i =
+abbrev invariant_loop : tie.invariant-loop-i
+invariant_loop out₀ at bytes end₀ i₀ out end i =
     (i ≤ length bytes)
     × (length out ≡ length out₀)
     × ((r : ℕ) (after : List ℕ) → Puts (spaced_pairs (drop i bytes)) out end r after → Puts (spaced_pairs bytes) out₀ at r after)
 
-abbrev decreases-loop : tie.decreases-loop-i
-decreases-loop out₀ at bytes end₀ i₀ out end i = length bytes - i
+abbrev decreases_loop : tie.decreases-loop-i
+decreases_loop out₀ at bytes end₀ i₀ out end i = length bytes - i
 
-loop-holds : tie.Need-loop-i-init invariant-loop decreases-loop
-loop-holds c = (omega arith, omega arith, λ r after p. p)
+loop_holds : tie.Need-loop-i-init invariant_loop decreases_loop
+loop_holds c = (omega arith, omega arith, λ r after p. p)
 
-loop-again : tie.Need-loop-i-preserved invariant-loop decreases-loop
-loop-again c =
+loop_again : tie.Need-loop-i-preserved invariant_loop decreases_loop
+loop_again c =
     let c5 = c in
     let c6 = c5 in
     let c9 = c6 in (
@@ -35,11 +35,11 @@ loop-again c =
           (rw (pairs_next c9.before.before.before.before.before.before.before.before.before.args.bytes.now c6.before.before.before.before.before.before.loop-i.i c5.before.before.before.before.before.loop-i-test.true) (puts_then _ _ _ _ c.before.before.spaced-end.ensures p)),
     )
 
-returns : tie.Need-returns invariant-loop decreases-loop
+returns : tie.Need-returns invariant_loop decreases_loop
 returns c = c.before.loop-i.invariant.2 _ _ (rw (pairs_over c.before.before.before.before.args.bytes.now c.before.loop-i.i c.loop-i-test.false) (puts_nothing _ _))
 
 pub pairs_spec : {M : Type 1} → statement M
 pairs_spec =
     tie.close
-    (tie.spec invariant-loop decreases-loop loop-holds (λ c. search rules) (λ c κs. search rules) (λ c. search rules)
-    (λ c. search rules) loop-again (λ c. search rules) returns)
+    (tie.spec invariant_loop decreases_loop loop_holds (λ c. search rules) (λ c κs. search rules) (λ c. search rules)
+    (λ c. search rules) loop_again (λ c. search rules) returns)

@@ -9,21 +9,21 @@ returns : tie.Need-returns-then-c-eq78
 unfolding shown_by
 returns c = rw (eq-eqb _ _ c.before.before.before.before.if-c-eq78.true) c.before.before.decimal.ensures
 
-returns-2 : tie.Need-returns-then-c-eq69
+returns_2 : tie.Need-returns-then-c-eq69
 unfolding shown_by
-returns-2 c = rw (ne_eqb _ _ c.before.before.before.before.before.if-c-eq78.false, eq-eqb _ _ c.before.before.before.before.if-c-eq69.true) c.before.before.number_or_none.ensures
+returns_2 c = rw (ne_eqb _ _ c.before.before.before.before.before.if-c-eq78.false, eq-eqb _ _ c.before.before.before.before.if-c-eq69.true) c.before.before.number_or_none.ensures
 
-returns-3 : tie.Need-returns-then-c-eq72
+returns_3 : tie.Need-returns-then-c-eq72
 unfolding shown_by
-returns-3 c =
+returns_3 c =
     let c4 = c in
     let c5 = c4 in
     let c6 = c5 in
     rw (ne_eqb _ _ c6.before.before.before.before.before.before.if-c-eq78.false, ne_eqb _ _ c5.before.before.before.before.before.if-c-eq69.false, eq-eqb _ _ c4.before.before.before.before.if-c-eq72.true) c.before.before.pair.ensures
 
-returns-4 : tie.Need-returns
+returns_4 : tie.Need-returns
 unfolding shown_by
-returns-4 c =
+returns_4 c =
     let c5 = c in
     let c6 = c5 in
     let c7 = c6 in
@@ -33,5 +33,5 @@ pub shown_spec : {M : Type 1} → statement M
 shown_spec =
     tie.close
     (tie.spec (λ c κs. search rules) (λ c. search rules) returns (λ c κs. search rules) (λ c. search rules)
-    returns-2 (λ c. search rules) (λ c κs. search rules) (λ c. search rules) returns-3 (λ c. search rules)
-    (λ c κs. search rules) (λ c. search rules) returns-4)
+    returns_2 (λ c. search rules) (λ c κs. search rules) (λ c. search rules) returns_3 (λ c. search rules)
+    (λ c κs. search rules) (λ c. search rules) returns_4)

@@ -8,13 +8,13 @@ returns : tie.Need-returns-then-c-eq78
 unfolding stands_for
 returns c = simp (eq-eqb _ _ c.if-c-eq78.true)
 
-returns-2 : tie.Need-returns-then-c-eq69
+returns_2 : tie.Need-returns-then-c-eq69
 unfolding stands_for
-returns-2 c = simp (ne_eqb _ _ c.before.if-c-eq78.false, eq-eqb _ _ c.if-c-eq69.true)
+returns_2 c = simp (ne_eqb _ _ c.before.if-c-eq78.false, eq-eqb _ _ c.if-c-eq69.true)
 
-returns-3 : tie.Need-returns
+returns_3 : tie.Need-returns
 unfolding stands_for
-returns-3 c = simp (ne_eqb _ _ c.before.if-c-eq78.false, ne_eqb _ _ c.if-c-eq69.false)
+returns_3 c = simp (ne_eqb _ _ c.before.if-c-eq78.false, ne_eqb _ _ c.if-c-eq69.false)
 
 pub stands_for_spec : {M : Type 1} → statement M
-stands_for_spec = tie.close (tie.spec returns returns-2 returns-3)
+stands_for_spec = tie.close (tie.spec returns returns_2 returns_3)

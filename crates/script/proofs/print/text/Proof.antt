@@ -9,13 +9,13 @@ use Rattle.script.proofs.print.text.Tie as tie
 returns : tie.Need-returns-then-out-at
 returns c = puts_behind _ _ _ c.if-out-at.true
 
-slice-aggregate-copy : tie.Need-slice_bounds-copy-end
-slice-aggregate-copy c =
+slice_aggregate_copy : tie.Need-slice_bounds-copy-end
+slice_aggregate_copy c =
     let c5 = c in
     sym (copied_length c5.before.before.before.before.args.text.now c5.before.before.before.before.args.out.now c5.before.before.before.before.args.at c.least-n.result c.before.if-out-at.false c.least-n.ensures)
 
-copy-requires : tie.Need-copy-requires
-copy-requires c κs =
+copy_requires : tie.Need-copy-requires
+copy_requires c κs =
     let text = c.before.before.before.before.before.args.text.now in
     let out = c.before.before.before.before.before.args.out.now in
     let at = c.before.before.before.before.before.args.at in
@@ -26,8 +26,8 @@ copy-requires c κs =
       room_length text out at c.before.least-n.result c.before.before.if-out-at.false c.before.least-n.ensures,
     )
 
-add-result : tie.Need-overflow_add-result
-add-result c =
+add_result : tie.Need-overflow_add-result
+add_result c =
     let c5 = c in
     let c6 = c5 in
     let c9 = c6 in
@@ -38,8 +38,8 @@ add-result c =
       copied_length c9.before.before.before.before.before.before.before.before.args.text.now c9.before.before.before.before.before.before.before.before.args.out.now c9.before.before.before.before.before.before.before.before.args.at c5.before.before.before.before.least-n.result c6.before.before.before.before.before.if-out-at.false c5.before.before.before.before.least-n.ensures,
     )
 
-returns-2 : tie.Need-returns
-returns-2 c =
+returns_2 : tie.Need-returns
+returns_2 c =
     let c5 = c in
     let c6 = c5 in
     let c9 = c6 in
@@ -49,5 +49,5 @@ returns-2 c =
 pub text_spec : {M : Type 1} → statement M
 text_spec =
     tie.close
-    (tie.spec returns (λ c. search rules) (λ c κs. search rules) slice-aggregate-copy (λ c. search rules)
-    (λ c. search rules) (λ c. search rules) copy-requires add-result (λ c. search rules) returns-2)
+    (tie.spec returns (λ c. search rules) (λ c κs. search rules) slice_aggregate_copy (λ c. search rules)
+    (λ c. search rules) (λ c. search rules) copy_requires add_result (λ c. search rules) returns_2)

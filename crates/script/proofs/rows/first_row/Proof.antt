@@ -16,19 +16,19 @@ use Rattle.script.proofs.TwoRows.{first_over, first_colon, first_wrong, first_fu
 use Rattle.script.proofs.rows.first_row.Statement.{statement}
 use Rattle.script.proofs.rows.first_row.Tie as tie
 
-abbrev invariant-loop : tie.invariant-loop-place
-invariant-loop line at words₀ n₀ place₀ words n place =
+abbrev invariant_loop : tie.invariant-loop-place
+invariant_loop line at words₀ n₀ place₀ words n place =
     (n ≤ length words)
     × (length words ≡ length words₀)
     × ((r : Row) (after : List ℕ) → ReadsFirst line n (fields_from 32 line place) words r after → ReadsFirst line 0 (fields_from 32 line at) words₀ r after)
 
-abbrev decreases-loop : tie.decreases-loop-place
-decreases-loop line at words₀ n₀ place₀ words n place = length words₀ - n
+abbrev decreases_loop : tie.decreases-loop-place
+decreases_loop line at words₀ n₀ place₀ words n place = length words₀ - n
 
-loop-holds : tie.Need-loop-place-init invariant-loop decreases-loop
-loop-holds c = (omega arith, omega arith, λ r after l. l)
+loop_holds : tie.Need-loop-place-init invariant_loop decreases_loop
+loop_holds c = (omega arith, omega arith, λ r after l. l)
 
-returns : tie.Need-returns-then-is_colon invariant-loop decreases-loop
+returns : tie.Need-returns-then-is_colon invariant_loop decreases_loop
 returns c =
     let c4 = c in
     let c5 = c4 in
@@ -39,8 +39,8 @@ returns c =
     (rw (field_at 32 c9.before.before.before.before.before.before.before.before.before.args.line.now c6.before.before.before.before.before.before.loop-place.place c4.before.before.before.before.find-end.result c5.before.before.before.before.before.loop-place-test.true c4.before.before.before.before.find-end.ensures.0 c4.before.before.before.before.find-end.ensures.1)
     (first_colon _ _ _ _ _ (sym c.before.before.is_colon.ensures ∙ c.before.if-is_colon.true) c6.before.before.before.before.before.before.loop-place.invariant.0 _ refl)))
 
-returns-2 : tie.Need-returns-then-words-n invariant-loop decreases-loop
-returns-2 c =
+returns_2 : tie.Need-returns-then-words-n invariant_loop decreases_loop
+returns_2 c =
     let c4 = c in
     let c5 = c4 in
     let c7 = c5 in
@@ -52,8 +52,8 @@ returns-2 c =
     (rw (field_at 32 c12.before.before.before.before.before.before.before.before.before.before.before.before.args.line.now c9.before.before.before.before.before.before.before.before.before.loop-place.place c7.before.before.before.before.before.before.before.find-end.result c8.before.before.before.before.before.before.before.before.loop-place-test.true c7.before.before.before.before.before.before.before.find-end.ensures.0 c7.before.before.before.before.before.before.before.find-end.ensures.1)
     (first_full _ _ _ _ _ (sym c5.before.before.before.before.before.is_colon.ensures ∙ c4.before.before.before.before.if-is_colon.false) c.before.if-words-n.true)))
 
-returns-3 : tie.Need-returns-then-not-is_number invariant-loop decreases-loop
-returns-3 c =
+returns_3 : tie.Need-returns-then-not-is_number invariant_loop decreases_loop
+returns_3 c =
     let c4 = c in
     let c6 = c4 in
     let c7 = c6 in
@@ -67,13 +67,13 @@ returns-3 c =
     (first_wrong _ _ _ _ _ (sym c7.before.before.before.before.before.before.before.is_colon.ensures ∙ c6.before.before.before.before.before.before.if-is_colon.false)
     (ap is_number (sym c4.before.before.before.before.decimal-field.ensures) ∙ sym c.before.before.is_number.ensures ∙ not-true _ c.before.if-not-is_number.true-raw))))
 
-cast-words : tie.Need-overflow_cast-words invariant-loop decreases-loop
-cast-words c =
+cast_words : tie.Need-overflow_cast-words invariant_loop decreases_loop
+cast_words c =
     let number = a_number c.before.before.before.before.decimal-field.result (sym c.before.before.is_number.ensures ∙ not-false _ c.before.if-not-is_number.false-raw) in
     omega (arith, decimal_within 65535 _ _ (sym c.before.before.before.before.decimal-field.ensures ∙ number), c.number.ensures)
 
-loop-again : tie.Need-loop-place-preserved invariant-loop decreases-loop
-loop-again c =
+loop_again : tie.Need-loop-place-preserved invariant_loop decreases_loop
+loop_again c =
     let c3 = c in
     let c4 = c3 in
     let c6 = c4 in
@@ -92,8 +92,8 @@ loop-again c =
           (rw (← c4.before.before.before.before.decimal-field.ensures, ← c.number.ensures) l))),
     )
 
-returns-4 : tie.Need-returns invariant-loop decreases-loop
-returns-4 c =
+returns_4 : tie.Need-returns invariant_loop decreases_loop
+returns_4 c =
     let c5 = c in
     rw c.wrong-2.ensures
     (c.before.before.loop-place.invariant.2 _ _ (rw (from_behind 32 c5.before.before.before.before.before.args.line.now c.before.before.loop-place.place c.before.loop-place-test.false) (first_over _ _ _)))
@@ -101,9 +101,9 @@ returns-4 c =
 pub first_row_spec : {M : Type 1} → statement M
 first_row_spec =
     tie.close
-    (tie.spec invariant-loop decreases-loop loop-holds (λ c κs. search rules) (λ c. search rules) (λ c. search rules)
+    (tie.spec invariant_loop decreases_loop loop_holds (λ c κs. search rules) (λ c. search rules) (λ c. search rules)
     (λ c. search rules) (λ c κs. search rules) (λ c. search rules) (λ c κs. search rules) (λ c. search rules) returns
     (λ c. search rules) (λ c. search rules) (λ c. search rules) (λ c κs. search rules) (λ c κs. search rules)
-    (λ c. search rules) returns-2 (λ c κs. search rules) (λ c κs. search rules) (λ c. search rules) returns-3
-    (λ c κs. search rules) cast-words (λ c. search rules) (λ c. search rules) (λ c. search rules)
-    (λ c. search rules) (λ c. search rules) loop-again (λ c κs. search rules) (λ c. search rules) returns-4)
+    (λ c. search rules) returns_2 (λ c κs. search rules) (λ c κs. search rules) (λ c. search rules) returns_3
+    (λ c κs. search rules) cast_words (λ c. search rules) (λ c. search rules) (λ c. search rules)
+    (λ c. search rules) (λ c. search rules) loop_again (λ c κs. search rules) (λ c. search rules) returns_4)

@@ -14,19 +14,19 @@ use Rattle.script.proofs.Listing.{listed_all, listed_wrong, listed_full, listed_
 use Rattle.script.proofs.rows.second_row.Statement.{statement}
 use Rattle.script.proofs.rows.second_row.Tie as tie
 
-abbrev invariant-loop : tie.invariant-loop-place
-invariant-loop line at numbers₀ n₀ place₀ numbers n place =
+abbrev invariant_loop : tie.invariant-loop-place
+invariant_loop line at numbers₀ n₀ place₀ numbers n place =
     (n ≤ length numbers)
     × (length numbers ≡ length numbers₀)
     × ((r : Count) (after : List ℕ) → Listed n (numbers_at line place) numbers r after → Listed 0 (numbers_at line at) numbers₀ r after)
 
-abbrev decreases-loop : tie.decreases-loop-place
-decreases-loop line at numbers₀ n₀ place₀ numbers n place = length numbers₀ - n
+abbrev decreases_loop : tie.decreases-loop-place
+decreases_loop line at numbers₀ n₀ place₀ numbers n place = length numbers₀ - n
 
-loop-holds : tie.Need-loop-place-init invariant-loop decreases-loop
-loop-holds c = (omega arith, omega arith, λ r after l. l)
+loop_holds : tie.Need-loop-place-init invariant_loop decreases_loop
+loop_holds c = (omega arith, omega arith, λ r after l. l)
 
-returns : tie.Need-returns-then-numbers-n invariant-loop decreases-loop
+returns : tie.Need-returns-then-numbers-n invariant_loop decreases_loop
 returns c =
     let c3 = c in
     let c4 = c3 in
@@ -36,8 +36,8 @@ returns c =
     (rw (list_next (decimal_field 4294967295) c8.before.before.before.before.before.before.before.before.args.line.now c5.before.before.before.before.before.loop-place.place c3.before.before.before.find-end.result c4.before.before.before.before.loop-place-test.true c3.before.before.before.find-end.ensures.0
     c3.before.before.before.find-end.ensures.1) (listed_full _ _ _ _ c.if-numbers-n.true))
 
-returns-2 : tie.Need-returns-then-not-is_number invariant-loop decreases-loop
-returns-2 c =
+returns_2 : tie.Need-returns-then-not-is_number invariant_loop decreases_loop
+returns_2 c =
     let c3 = c in
     let c5 = c3 in
     let c6 = c5 in
@@ -48,8 +48,8 @@ returns-2 c =
     c5.before.before.before.before.before.find-end.ensures.1)
     (listed_wrong _ _ _ _ (ap is_number (sym c3.before.before.before.decimal-field.ensures) ∙ sym c.before.is_number.ensures ∙ not-true _ c.if-not-is_number.true-raw)))
 
-loop-again : tie.Need-loop-place-preserved invariant-loop decreases-loop
-loop-again c =
+loop_again : tie.Need-loop-place-preserved invariant_loop decreases_loop
+loop_again c =
     let c3 = c in
     let c4 = c3 in
     let c6 = c4 in
@@ -66,15 +66,15 @@ loop-again c =
           c3.before.before.before.if-numbers-n.false (rw (← c4.before.before.before.before.decimal-field.ensures, ← c.number.ensures) l))),
     )
 
-returns-3 : tie.Need-returns invariant-loop decreases-loop
-returns-3 c =
+returns_3 : tie.Need-returns invariant_loop decreases_loop
+returns_3 c =
     c.before.loop-place.invariant.2 _ _
     (rw (list_over (decimal_field 4294967295) c.before.before.before.before.args.line.now c.before.loop-place.place c.loop-place-test.false) (listed_all _ _ c.before.loop-place.invariant.0))
 
 pub second_row_spec : {M : Type 1} → statement M
 second_row_spec =
     tie.close
-    (tie.spec invariant-loop decreases-loop loop-holds (λ c κs. search rules) (λ c. search rules) (λ c. search rules)
+    (tie.spec invariant_loop decreases_loop loop_holds (λ c κs. search rules) (λ c. search rules) (λ c. search rules)
     (λ c. search rules) (λ c κs. search rules) (λ c. search rules) returns (λ c κs. search rules)
-    (λ c. search rules) returns-2 (λ c κs. search rules) (λ c. search rules) (λ c. search rules)
-    (λ c. search rules) (λ c. search rules) (λ c. search rules) loop-again (λ c. search rules) returns-3)
+    (λ c. search rules) returns_2 (λ c κs. search rules) (λ c. search rules) (λ c. search rules)
+    (λ c. search rules) (λ c. search rules) (λ c. search rules) loop_again (λ c. search rules) returns_3)

@@ -14,9 +14,9 @@ returns c =
     let n = c.before.before.before.args.length in
     count_told_lem n _ (simp (le-leb 1 n (omega (arith, leb-true)), le-leb n 4095 (omega (arith, leb-true)), c.frames.ensures))
 
-returns-2 : tie.Need-returns-else-length-ge1
+returns_2 : tie.Need-returns-else-length-ge1
 unfolding count_of
-returns-2 c =
+returns_2 c =
     let n = c.before.before.args.length in
     count_told_lem n _
     (elim c.before.else-length-ge1.branch [
@@ -26,4 +26,4 @@ returns-2 c =
     ])
 
 pub count_spec : {M : Type 1} → statement M
-count_spec = tie.close (tie.spec (λ c. search rules) (λ c κs. search rules) (λ c κs. search rules) returns returns-2)
+count_spec = tie.close (tie.spec (λ c. search rules) (λ c κs. search rules) (λ c κs. search rules) returns returns_2)

@@ -10,18 +10,18 @@ use Rattle.transport.proofs.cutting.frame_bytes.Tie as tie
 returns : tie.Need-returns-then-k-gt0
 returns c = later_frame _ _ _ _ c.before.if-k-gt0.true c.next_frame.ensures
 
-returns-2 : tie.Need-returns-then-message-le6
-returns-2 c =
+returns_2 : tie.Need-returns-then-message-le6
+returns_2 c =
     let e : c.before.before.before.before.args.k ≡ 0 = omega arith in
     rw e (c.single_frame.ensures ∙ sym (frame_single _ _ c.before.if-message-le6.true))
 
-returns-3 : tie.Need-returns
-returns-3 c =
+returns_3 : tie.Need-returns
+returns_3 c =
     let e : c.before.before.before.before.args.k ≡ 0 = omega arith in
     rw e (c.first_frame.ensures ∙ sym (frame_first _ _ c.before.if-message-le6.false))
 
 pub frame_bytes_spec : {M : Type 1} → statement M
 frame_bytes_spec =
     tie.close
-    (tie.spec (λ c. search rules) (λ c κs. search rules) returns (λ c κs. search rules) returns-2
-    (λ c κs. search rules) returns-3)
+    (tie.spec (λ c. search rules) (λ c κs. search rules) returns (λ c κs. search rules) returns_2
+    (λ c κs. search rules) returns_3)

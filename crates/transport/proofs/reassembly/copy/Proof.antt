@@ -9,23 +9,23 @@ use Rattle.transport.proofs.Bytes.{copy_turn, copy_all}
 use Rattle.transport.proofs.reassembly.copy.Statement.{statement}
 use Rattle.transport.proofs.reassembly.copy.Tie as tie
 
-abbrev invariant-loop : tie.invariant-loop-i
-invariant-loop from to₀ i₀ to i = (i ≤ length from) × (length to ≡ length to₀) × (to ≡ take i from ++ drop i to₀)
+abbrev invariant_loop : tie.invariant-loop-i
+invariant_loop from to₀ i₀ to i = (i ≤ length from) × (length to ≡ length to₀) × (to ≡ take i from ++ drop i to₀)
 
-abbrev decreases-loop : tie.decreases-loop-i
-decreases-loop from to₀ i₀ to i = length from - i
+abbrev decreases_loop : tie.decreases-loop-i
+decreases_loop from to₀ i₀ to i = length from - i
 
-loop-again : tie.Need-loop-i-preserved invariant-loop decreases-loop
-loop-again c = (omega arith, simp length-set c.before.before.loop-i.invariant.1, copy_turn _ _ _ _ (omega arith) (omega arith) c.before.before.loop-i.invariant.2)
+loop_again : tie.Need-loop-i-preserved invariant_loop decreases_loop
+loop_again c = (omega arith, simp length-set c.before.before.loop-i.invariant.1, copy_turn _ _ _ _ (omega arith) (omega arith) c.before.before.loop-i.invariant.2)
 
-same_length : tie.Need-shape_of-to invariant-loop decreases-loop
+same_length : tie.Need-shape_of-to invariant_loop decreases_loop
 same_length c = c.before.loop-i.invariant.1
 
-returns : tie.Need-returns invariant-loop decreases-loop
+returns : tie.Need-returns invariant_loop decreases_loop
 returns c = copy_all c.before.before.args.to.now _ _ c.before.loop-i.i (omega arith) (search rules) c.before.loop-i.invariant.2
 
 pub copy_spec : {M : Type 1} → statement M
 copy_spec =
     tie.close
-    (tie.spec invariant-loop decreases-loop (λ c. search rules) (λ c. search rules) (λ c. search rules) (λ c. search rules)
-    (λ c. search rules) loop-again same_length returns)
+    (tie.spec invariant_loop decreases_loop (λ c. search rules) (λ c. search rules) (λ c. search rules) (λ c. search rules)
+    (λ c. search rules) loop_again same_length returns)

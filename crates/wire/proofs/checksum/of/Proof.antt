@@ -24,9 +24,9 @@ returns c =
       ← (sum_covered (model_of a.id a.wish)),
     ))
 
-returns-2 : tie.Need-returns-else-id-lt64
+returns_2 : tie.Need-returns-else-id-lt64
 unfolding checksum_of
-returns-2 c =
+returns_2 c =
     let a = c.before.before.args in
     sum_told a.id a.wish a.«data».now _
     (⊎_elim
@@ -37,4 +37,4 @@ returns-2 c =
 
 pub of_spec : {M : Type 1} → statement M
 of_spec = tie.close (tie.spec (λ c κs. search rules) (λ c κs. search rules) (λ c. search rules) (λ c κs. search rules) returns
-    returns-2)
+    returns_2)

@@ -12,13 +12,13 @@ returns : tie.Need-returns-then-id-ge60
 unfolding model_of covered sum
 returns c = simp (le-ltb c.before.args.id 60 (omega arith))
 
-returns-2 : tie.Need-returns-in-Classic
+returns_2 : tie.Need-returns-in-Classic
 unfolding model_of covered sum
-returns-2 c = simp (lt-ltb c.before.before.args.id 60 (omega arith), c.in-Classic.is)
+returns_2 c = simp (lt-ltb c.before.before.args.id 60 (omega arith), c.in-Classic.is)
 
-returns-3 : tie.Need-returns-in-Enhanced
+returns_3 : tie.Need-returns-in-Enhanced
 unfolding model_of covered sum
-returns-3 c =
+returns_3 c =
     simp (
       lt-ltb c.before.before.before.args.id 60 (omega arith),
       c.before.in-Enhanced.is,
@@ -28,4 +28,4 @@ returns-3 c =
 
 pub start_spec : {M : Type 1} → statement M
 start_spec =
-    tie.close (tie.spec returns (λ c. search rules) (λ c. search rules) (λ c κs. search rules) returns-2 returns-3)
+    tie.close (tie.spec returns (λ c. search rules) (λ c. search rules) (λ c κs. search rules) returns_2 returns_3)

@@ -9,20 +9,20 @@ use Rattle.wire.proofs.Sums.{sum_step, sum_end}
 use Rattle.wire.proofs.checksum.sum.Statement.{statement}
 use Rattle.wire.proofs.checksum.sum.Tie as tie
 
-abbrev invariant-loop : tie.invariant-loop-i
-invariant-loop from bytes total₀ i₀ total i = (i ≤ length bytes) × (sum from bytes ≡ sum total (drop i bytes))
+abbrev invariant_loop : tie.invariant-loop-i
+invariant_loop from bytes total₀ i₀ total i = (i ≤ length bytes) × (sum from bytes ≡ sum total (drop i bytes))
 
-abbrev decreases-loop : tie.decreases-loop-i
-decreases-loop from bytes total₀ i₀ total i = length bytes - i
+abbrev decreases_loop : tie.decreases-loop-i
+decreases_loop from bytes total₀ i₀ total i = length bytes - i
 
-loop-again : tie.Need-loop-i-preserved invariant-loop decreases-loop
-loop-again c = (omega arith, c.before.before.before.loop-i.invariant.1 ∙ sum_step _ _ _ c.before.before.loop-i-test.true ∙ simp c.with_carry-total.ensures)
+loop_again : tie.Need-loop-i-preserved invariant_loop decreases_loop
+loop_again c = (omega arith, c.before.before.before.loop-i.invariant.1 ∙ sum_step _ _ _ c.before.before.loop-i-test.true ∙ simp c.with_carry-total.ensures)
 
-returns : tie.Need-returns invariant-loop decreases-loop
+returns : tie.Need-returns invariant_loop decreases_loop
 returns c = sym (c.before.loop-i.invariant.1 ∙ sum_end _ _ _ c.loop-i-test.false)
 
 pub sum_spec : {M : Type 1} → statement M
 sum_spec =
     tie.close
-    (tie.spec invariant-loop decreases-loop (λ c. search rules) (λ c. search rules) (λ c κs. search rules) (λ c. search rules)
-    (λ c. search rules) loop-again returns)
+    (tie.spec invariant_loop decreases_loop (λ c. search rules) (λ c. search rules) (λ c κs. search rules) (λ c. search rules)
+    (λ c. search rules) loop_again returns)

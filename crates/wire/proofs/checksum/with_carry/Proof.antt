@@ -11,10 +11,10 @@ returns : tie.Need-returns-then-added-gt255
 unfolding with_carry
 returns c = simp (le-ltb (c.before.args.sum + c.before.args.byte) 256 (omega arith))
 
-returns-2 : tie.Need-returns-else-added-gt255
+returns_2 : tie.Need-returns-else-added-gt255
 unfolding with_carry
-returns-2 c = simp (lt-ltb (c.before.args.sum + c.before.args.byte) 256 (omega arith))
+returns_2 c = simp (lt-ltb (c.before.args.sum + c.before.args.byte) 256 (omega arith))
 
 pub with_carry_spec : {M : Type 1} → statement M
 with_carry_spec =
-    tie.close (tie.spec (λ c. search rules) (λ c. search rules) (λ c. search rules) (λ c. search rules) returns returns-2)
+    tie.close (tie.spec (λ c. search rules) (λ c. search rules) (λ c. search rules) (λ c. search rules) returns returns_2)

@@ -13,9 +13,9 @@ use Rattle.wire.proofs.ListLaws.{right_at, listed}
 use Rattle.wire.proofs.identifier.read.Statement.{statement}
 use Rattle.wire.proofs.identifier.read.Tie as tie
 
-protected-in-requires : tie.Need-protected_in-requires
+protected_in_requires : tie.Need-protected_in-requires
 unfolding right_at protected_byte p0 p1 bit xor
-protected-in-requires c κs = (listed _ refl refl, omega arith)
+protected_in_requires c κs = (listed _ refl refl, omega arith)
 
 returns : tie.Need-returns-then-protected_in-protected
 unfolding read_of
@@ -23,9 +23,9 @@ returns c =
     let b : c.before.before.before.before.args.protected < 256 = omega arith in
     read_told_lem _ _ (simp (parity_built _ b, eq-eqb _ _ (sym c.before.protected_in.ensures ∙ c.if-protected_in-protected.true)))
 
-returns-2 : tie.Need-returns-else-protected_in-protected
+returns_2 : tie.Need-returns-else-protected_in-protected
 unfolding read_of
-returns-2 c =
+returns_2 c =
     let b : c.before.before.before.before.before.args.protected < 256 = omega arith in
     read_told_lem _ _ (simp (
       parity_built _ b,
@@ -34,4 +34,4 @@ returns-2 c =
     ))
 
 pub read_spec : {M : Type 1} → statement M
-read_spec = tie.close (tie.spec protected-in-requires (λ c κs. search rules) returns returns-2)
+read_spec = tie.close (tie.spec protected_in_requires (λ c κs. search rules) returns returns_2)

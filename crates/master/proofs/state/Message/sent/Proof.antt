@@ -6,17 +6,17 @@ use Rattle.master.proofs.state.Message.sent.Tie as tie
 returns : tie.Need-returns-in-Nothing
 returns c = rw c.in-Nothing.is
 
-returns-2 : tie.Need-returns-in-Frame
-returns-2 c = rw c.in-Frame.is
+returns_2 : tie.Need-returns-in-Frame
+returns_2 c = rw c.in-Frame.is
 
-returns-3 : tie.Need-returns-in-Request
-returns-3 c = rw (c.before.in-Request.is, c.moved.ensures)
+returns_3 : tie.Need-returns-in-Request
+returns_3 c = rw (c.before.in-Request.is, c.moved.ensures)
 
-returns-4 : tie.Need-returns-in-Response
-returns-4 c = rw c.in-Response.is
+returns_4 : tie.Need-returns-in-Response
+returns_4 c = rw c.in-Response.is
 
 pub sent_spec : {M : Type 1} → statement M
 sent_spec =
     tie.close
     (tie.spec (λ c. search rules) (λ c. search rules) (λ c. search rules) (λ c κs. search rules)
-    (λ c. search rules) returns returns-2 returns-3 returns-4)
+    (λ c. search rules) returns returns_2 returns_3 returns_4)

@@ -7,12 +7,12 @@ use Rattle.master.specs.Transfers.{open_checksum}
 use Rattle.master.proofs.state.Opened.checksum.Statement.{statement}
 use Rattle.master.proofs.state.Opened.checksum.Tie as tie
 
-cast-checksum-byte : tie.Need-overflow_cast-format
-cast-checksum-byte c =
+cast_checksum_byte : tie.Need-overflow_cast-format
+cast_checksum_byte c =
     record { fits = omega (arith, ap (λ (x : Format). x.identifier) c.before.format-format.ensures, c.before.before.before.before.requires.0) }
 
-checksum-byte-requires : tie.Need-checksum_byte-requires
-checksum-byte-requires c κs =
+checksum_byte_requires : tie.Need-checksum_byte-requires
+checksum_byte_requires c κs =
     let asked = c.before.before.before.before.requires in
     (omega (arith, ap (λ (x : Format). x.identifier) c.before.format-format.ensures, asked.0), asked.1, asked.2)
 
@@ -21,4 +21,4 @@ unfolding open_checksum
 returns c = rw (c.checksum_byte.ensures, c.before.before.format-format.ensures)
 
 pub checksum_spec : {M : Type 1} → statement M
-checksum_spec = tie.close (tie.spec (λ c κs. search rules) cast-checksum-byte checksum-byte-requires returns)
+checksum_spec = tie.close (tie.spec (λ c κs. search rules) cast_checksum_byte checksum_byte_requires returns)

@@ -10,14 +10,14 @@ use Rattle.master.specs.Byte.{checksum_right}
 use Rattle.master.proofs.state.Opened.checksum_right.Statement.{statement}
 use Rattle.master.proofs.state.Opened.checksum_right.Tie as tie
 
-array-read-result : tie.Need-bounds-nine-n
-array-read-result c = omega (arith, c.length-n.ensures, c.before.before.requires.2)
+array_read_result : tie.Need-bounds-nine-n
+array_read_result c = omega (arith, c.length-n.ensures, c.before.before.requires.2)
 
-part-checksum-end : tie.Need-slice_bounds-checksum-end
-part-checksum-end c = omega (arith, c.length-n.ensures, c.before.before.requires.2)
+part_checksum_end : tie.Need-slice_bounds-checksum-end
+part_checksum_end c = omega (arith, c.length-n.ensures, c.before.before.requires.2)
 
-checksum-requires : tie.Need-checksum-requires
-checksum-requires c κs =
+checksum_requires : tie.Need-checksum-requires
+checksum_requires c κs =
     let a = c.before.before.before.args in
     let asked = c.before.before.before.requires in
     let told = c.before.length-n in
@@ -32,5 +32,5 @@ returns c = rw (c.checksum.ensures, c.before.before.length-n.ensures, sub-zero)
 pub checksum_right_spec : {M : Type 1} → statement M
 checksum_right_spec =
     tie.close
-    (tie.spec (λ c κs. search rules) (λ c. search rules) array-read-result (λ c. search rules)
-    (λ c. search rules) part-checksum-end checksum-requires returns)
+    (tie.spec (λ c κs. search rules) (λ c. search rules) array_read_result (λ c. search rules)
+    (λ c. search rules) part_checksum_end checksum_requires returns)

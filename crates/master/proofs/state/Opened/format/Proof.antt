@@ -8,25 +8,25 @@ returns : tie.Need-returns-in-Nothing
 unfolding format_of
 returns c = rw (c.before.in-Nothing.is, c.of.ensures)
 
-returns-2 : tie.Need-returns-in-Frame
+returns_2 : tie.Need-returns-in-Frame
 unfolding format_of
-returns-2 c =
+returns_2 c =
     let length = c.before.before.before.length in
     let identifier = c.before.before.before.before.identifier in
     let opened = c.before.before.before.before.before.in-Frame in
     rw (opened.is, c.of-in-Frame.ensures, c.before.published.ensures, c.before.before.model.ensures, length.ensures, identifier.ensures)
 
-returns-3 : tie.Need-returns-in-Request
+returns_3 : tie.Need-returns-in-Request
 unfolding format_of
-returns-3 c = rw (c.before.in-Request.is, c.of-in-Request.ensures)
+returns_3 c = rw (c.before.in-Request.is, c.of-in-Request.ensures)
 
-returns-4 : tie.Need-returns-in-Response
+returns_4 : tie.Need-returns-in-Response
 unfolding format_of
-returns-4 c = rw (c.before.in-Response.is, c.of-in-Response.ensures)
+returns_4 c = rw (c.before.in-Response.is, c.of-in-Response.ensures)
 
 pub format_spec : {M : Type 1} → statement M
 format_spec =
     tie.close
     (tie.spec (λ c. search rules) (λ c κs. search rules) (λ c. search rules) (λ c κs. search rules) (λ c κs. search rules)
     (λ c κs. search rules) (λ c κs. search rules) (λ c κs. search rules) (λ c. search rules) (λ c κs. search rules)
-    (λ c. search rules) (λ c κs. search rules) returns returns-2 returns-3 returns-4)
+    (λ c. search rules) (λ c κs. search rules) returns returns_2 returns_3 returns_4)

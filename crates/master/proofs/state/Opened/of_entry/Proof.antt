@@ -8,20 +8,20 @@ returns : tie.Need-returns-in-Nothing
 unfolding entry_opens
 returns c = rw c.in-Nothing.is
 
-returns-2 : tie.Need-returns-in-Frame
+returns_2 : tie.Need-returns-in-Frame
 unfolding entry_opens
-returns-2 c = rw (c.before.in-Frame.is, c.opens_frame.ensures)
+returns_2 c = rw (c.before.in-Frame.is, c.opens_frame.ensures)
 
-returns-3 : tie.Need-returns-in-Request
+returns_3 : tie.Need-returns-in-Request
 unfolding entry_opens
-returns-3 c = rw (c.before.in-Request.is, c.opens_request.ensures)
+returns_3 c = rw (c.before.in-Request.is, c.opens_request.ensures)
 
-returns-4 : tie.Need-returns-in-Response
+returns_4 : tie.Need-returns-in-Response
 unfolding entry_opens
-returns-4 c = rw (c.before.in-Response.is, c.kind.ensures)
+returns_4 c = rw (c.before.in-Response.is, c.kind.ensures)
 
 pub of_entry_spec : {M : Type 1} → statement M
 of_entry_spec =
     tie.close
     (tie.spec (λ c. search rules) (λ c. search rules) (λ c κs. search rules) (λ c. search rules)
-    (λ c κs. search rules) (λ c. search rules) (λ c κs. search rules) returns returns-2 returns-3 returns-4)
+    (λ c κs. search rules) (λ c. search rules) (λ c κs. search rules) returns returns_2 returns_3 returns_4)

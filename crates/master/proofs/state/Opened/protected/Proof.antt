@@ -7,16 +7,16 @@ use Rattle.master.specs.Transfers.{open_protected}
 use Rattle.master.proofs.state.Opened.protected.Statement.{statement}
 use Rattle.master.proofs.state.Opened.protected.Tie as tie
 
-cast-protected-byte : tie.Need-overflow_cast-format
-cast-protected-byte c =
+cast_protected_byte : tie.Need-overflow_cast-format
+cast_protected_byte c =
     record { fits = omega (arith, ap (λ (x : Format). x.identifier) c.before.format.ensures, c.before.before.before.requires) }
 
-protected-byte-requires : tie.Need-protected_byte-requires
-protected-byte-requires c κs = omega (arith, ap (λ (x : Format). x.identifier) c.before.format.ensures, c.before.before.before.requires)
+protected_byte_requires : tie.Need-protected_byte-requires
+protected_byte_requires c κs = omega (arith, ap (λ (x : Format). x.identifier) c.before.format.ensures, c.before.before.before.requires)
 
 returns : tie.Need-returns
 unfolding open_protected
 returns c = rw (c.protected_byte.ensures, c.before.before.format.ensures)
 
 pub protected_spec : {M : Type 1} → statement M
-protected_spec = tie.close (tie.spec (λ c κs. search rules) cast-protected-byte protected-byte-requires returns)
+protected_spec = tie.close (tie.spec (λ c κs. search rules) cast_protected_byte protected_byte_requires returns)

@@ -8,20 +8,20 @@ returns : tie.Need-returns-in-Nothing
 unfolding received_by
 returns c = rw c.in-Nothing.is
 
-returns-2 : tie.Need-returns-in-Frame
+returns_2 : tie.Need-returns-in-Frame
 unfolding received_by
-returns-2 c = rw (c.before.in-Frame.is, c.received_in.ensures)
+returns_2 c = rw (c.before.in-Frame.is, c.received_in.ensures)
 
-returns-3 : tie.Need-returns-in-Request
+returns_3 : tie.Need-returns-in-Request
 unfolding received_by
-returns-3 c = rw c.in-Request.is
+returns_3 c = rw c.in-Request.is
 
-returns-4 : tie.Need-returns-in-Response
+returns_4 : tie.Need-returns-in-Response
 unfolding received_by
-returns-4 c = rw c.in-Response.is
+returns_4 c = rw c.in-Response.is
 
 pub received_by_spec : {M : Type 1} → statement M
 received_by_spec =
     tie.close
     (tie.spec (λ c. search rules) (λ c. search rules) (λ c κs. search rules) (λ c. search rules) (λ c. search rules)
-    returns returns-2 returns-3 returns-4)
+    returns returns_2 returns_3 returns_4)

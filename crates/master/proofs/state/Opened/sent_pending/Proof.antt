@@ -8,8 +8,8 @@ use Rattle.master.specs.Closing.{pending_sent}
 use Rattle.master.proofs.state.Opened.sent_pending.Statement.{statement}
 use Rattle.master.proofs.state.Opened.sent_pending.Tie as tie
 
-cleared-requires : tie.Need-cleared-requires
-cleared-requires c κs =
+cleared_requires : tie.Need-cleared-requires
+cleared_requires c κs =
     let a = c.before.before.args in
     let asked = c.before.before.requires in
     omega (arith, frame_below a.t.now asked.0 c.in-Frame.f (rw c.in-Frame.is at asked.1), frame_count_lem a.t.now asked.0)
@@ -18,20 +18,20 @@ returns : tie.Need-returns-in-Nothing
 unfolding pending_sent
 returns c = rw c.in-Nothing.is
 
-returns-2 : tie.Need-returns-in-Frame
+returns_2 : tie.Need-returns-in-Frame
 unfolding pending_sent
-returns-2 c = rw (c.before.in-Frame.is, c.cleared.ensures)
+returns_2 c = rw (c.before.in-Frame.is, c.cleared.ensures)
 
-returns-3 : tie.Need-returns-in-Request
+returns_3 : tie.Need-returns-in-Request
 unfolding pending_sent
-returns-3 c = rw c.in-Request.is
+returns_3 c = rw c.in-Request.is
 
-returns-4 : tie.Need-returns-in-Response
+returns_4 : tie.Need-returns-in-Response
 unfolding pending_sent
-returns-4 c = rw c.in-Response.is
+returns_4 c = rw c.in-Response.is
 
 pub sent_pending_spec : {M : Type 1} → statement M
 sent_pending_spec =
     tie.close
-    (tie.spec (λ c. search rules) (λ c. search rules) cleared-requires (λ c. search rules) (λ c. search rules)
-    returns returns-2 returns-3 returns-4)
+    (tie.spec (λ c. search rules) (λ c. search rules) cleared_requires (λ c. search rules) (λ c. search rules)
+    returns returns_2 returns_3 returns_4)

@@ -8,12 +8,12 @@ returns : tie.Need-returns-in-None
 unfolding can_open
 returns c = rw (c.before.in-None.is, c.is_open.ensures)
 
-returns-2 : tie.Need-returns-in-Entry
+returns_2 : tie.Need-returns-in-Entry
 unfolding can_open
-returns-2 c = rw (c.before.in-Entry.is, c.of_entry.ensures)
+returns_2 c = rw (c.before.in-Entry.is, c.of_entry.ensures)
 
 pub can_open_spec : {M : Type 1} → statement M
 can_open_spec =
     tie.close
     (tie.spec (λ c. search rules) (λ c κs. search rules) (λ c. search rules) (λ c κs. search rules) returns
-    returns-2)
+    returns_2)

@@ -6,11 +6,11 @@ use Rattle.master.proofs.state.Plan.due.Tie as tie
 returns : tie.Need-returns-in-Schedule
 returns c = rw (c.before.in-Schedule.is, c.first.ensures)
 
-returns-2 : tie.Need-returns-in-None
-returns-2 c = rw (c.before.in-None.is, c.next.ensures)
+returns_2 : tie.Need-returns-in-None
+returns_2 c = rw (c.before.in-None.is, c.next.ensures)
 
 pub due_spec : {M : Type 1} → statement M
 due_spec =
     tie.close
     (tie.spec (λ c. search rules) (λ c κs. search rules) (λ c. search rules) (λ c κs. search rules) returns
-    returns-2)
+    returns_2)

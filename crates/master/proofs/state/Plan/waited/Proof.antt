@@ -5,11 +5,11 @@ use native.Mathlib.Omega.{arith}
 use Rattle.master.proofs.state.Plan.waited.Statement.{statement}
 use Rattle.master.proofs.state.Plan.waited.Tie as tie
 
-sub-next : tie.Need-overflow_sub-next
-sub-next c = omega (arith, ltb-true 1 c.before.args.self.wait c.before.requires)
+sub_next : tie.Need-overflow_sub-next
+sub_next c = omega (arith, ltb-true 1 c.before.args.self.wait c.before.requires)
 
 returns : tie.Need-returns
 returns c = refl
 
 pub waited_spec : {M : Type 1} → statement M
-waited_spec = tie.close (tie.spec sub-next returns)
+waited_spec = tie.close (tie.spec sub_next returns)

@@ -8,8 +8,8 @@ returns : tie.Need-returns-in-Never
 unfolding last_fits
 returns c = rw c.in-Never.is
 
-returns-2 : tie.Need-returns-in-Placement
-returns-2 c = rw c.before.in-Placement.is c.placed.ensures
+returns_2 : tie.Need-returns-in-Placement
+returns_2 c = rw c.before.in-Placement.is c.placed.ensures
 
 pub fits_spec : {M : Type 1} → statement M
-fits_spec = tie.close (tie.spec (λ c. search rules) (λ c. search rules) (λ c κs. search rules) returns returns-2)
+fits_spec = tie.close (tie.spec (λ c. search rules) (λ c. search rules) (λ c κs. search rules) returns returns_2)

@@ -6,10 +6,10 @@ use Rattle.master.proofs.state.Requested.is_there.Tie as tie
 returns : tie.Need-returns-in-None
 returns c = rw c.in-None.is
 
-returns-2 : tie.Need-returns-in-Schedule
-returns-2 c = rw (c.before.in-Schedule.is, c.schedules.ensures.0)
+returns_2 : tie.Need-returns-in-Schedule
+returns_2 c = rw (c.before.in-Schedule.is, c.schedules.ensures.0)
 
 pub is_there_spec : {M : Type 1} → statement M
 is_there_spec =
     tie.close (tie.spec (λ c. search rules) (λ c. search rules) (λ c. search rules) (λ c κs. search rules) returns
-    returns-2)
+    returns_2)

@@ -12,8 +12,8 @@ returns c =
     let frames = c.before.in-Frames in
     counted_frames a.self.length a.self.next frames.frames (sym count.ensures.0 ∙ frames.is)
 
-returns-2 : tie.Need-returns-in-Refused
-returns-2 c =
+returns_2 : tie.Need-returns-in-Refused
+returns_2 c =
     let a = c.before.before.before.args in
     counted_refused a.self.length a.self.next c.in-Refused.refusal (sym c.before.count.ensures.0 ∙ c.in-Refused.is)
 
@@ -21,4 +21,4 @@ pub fits_spec : {M : Type 1} → statement M
 fits_spec =
     tie.close
     (tie.spec (λ c. search rules) (λ c κs. search rules) (λ c. search rules) (λ c. search rules) returns
-    returns-2)
+    returns_2)

@@ -7,8 +7,8 @@ use Rattle.master.specs.Message.{moved}
 use Rattle.master.proofs.state.Sending.moved.Statement.{statement}
 use Rattle.master.proofs.state.Sending.moved.Tie as tie
 
-add-next : tie.Need-overflow_add-next
-add-next c = omega (arith, next_high c.before.args.self c.before.requires)
+add_next : tie.Need-overflow_add-next
+add_next c = omega (arith, next_high c.before.args.self c.before.requires)
 
 returns : tie.Need-returns-in-Frames
 unfolding moved
@@ -18,9 +18,9 @@ returns c =
     let frames = c.before.in-Frames in
     rw (c.at.ensures, frames_counted a.self.length frames.frames (sym count.ensures.0 ∙ frames.is))
 
-returns-2 : tie.Need-returns-in-Refused
+returns_2 : tie.Need-returns-in-Refused
 unfolding moved
-returns-2 c =
+returns_2 c =
     let a = c.before.before.before.before.args in
     let asked = c.before.before.before.before.requires in
     absurd (never_refused a.self asked c.in-Refused.refusal (sym c.before.count.ensures.0 ∙ c.in-Refused.is))
@@ -28,5 +28,5 @@ returns-2 c =
 pub moved_spec : {M : Type 1} → statement M
 moved_spec =
     tie.close
-    (tie.spec add-next (λ c. search rules) (λ c κs. search rules) (λ c. search rules) (λ c κs. search rules)
-    (λ c. search rules) returns returns-2)
+    (tie.spec add_next (λ c. search rules) (λ c κs. search rules) (λ c. search rules) (λ c κs. search rules)
+    (λ c. search rules) returns returns_2)

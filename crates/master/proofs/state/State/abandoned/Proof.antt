@@ -8,9 +8,9 @@ returns : tie.Need-returns-then-is_open
 unfolding abandoned
 returns c = rw (← c.before.before.before.is_open.ensures, c.before.before.if-is_open.true, c.failed.ensures)
 
-returns-2 : tie.Need-returns
+returns_2 : tie.Need-returns
 unfolding abandoned
-returns-2 c = rw (← c.before.is_open.ensures, c.if-is_open.false)
+returns_2 c = rw (← c.before.is_open.ensures, c.if-is_open.false)
 
 pub abandoned_spec : {M : Type 1} → statement M
-abandoned_spec = tie.close (tie.spec (λ c κs. search rules) (λ c κs. search rules) returns returns-2)
+abandoned_spec = tie.close (tie.spec (λ c κs. search rules) (λ c κs. search rules) returns returns_2)

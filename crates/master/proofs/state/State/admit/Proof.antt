@@ -10,15 +10,15 @@ returns : tie.Need-returns-in-Refused
 unfolding admitted
 returns c = head_told _ _ _ _ (rw (← c.before.taken.ensures.0, c.in-Refused.is))
 
-returns-2 : tie.Need-returns-then-size-buffer_size
+returns_2 : tie.Need-returns-then-size-buffer_size
 unfolding admitted
-returns-2 c =
+returns_2 c =
     let taken = c.before.before.before.before.taken in
     head_told _ _ _ _ (rw (← taken.ensures.0, c.before.before.before.in_default.is, ← c.before.before.buffer_size.ensures, ne_eqb _ _ c.before.if-size-buffer_size.true, c.refused.ensures))
 
-returns-3 : tie.Need-returns-then-not-fits
+returns_3 : tie.Need-returns-then-not-fits
 unfolding admitted
-returns-3 c =
+returns_3 c =
     let taken = c.before.before.before.before.before.before.taken in
     let enum_told = c.before.before.before.before.before.in_default in
     let buffer-size = c.before.before.before.before.buffer_size in
@@ -34,9 +34,9 @@ returns-3 c =
       c.refused-then-not-fits.ensures,
     ))
 
-returns-4 : tie.Need-returns
+returns_4 : tie.Need-returns
 unfolding admitted
-returns-4 c =
+returns_4 c =
     let taken = c.before.before.before.before.before.taken in
     let enum_told = c.before.before.before.before.in_default in
     head_told _ _ _ _ (rw (
@@ -53,4 +53,4 @@ pub admit_spec : {M : Type 1} → statement M
 admit_spec =
     tie.close
     (tie.spec (λ c κs. search rules) (λ c. search rules) returns (λ c. search rules) (λ c κs. search rules)
-    (λ c κs. search rules) returns-2 (λ c κs. search rules) (λ c κs. search rules) returns-3 returns-4)
+    (λ c κs. search rules) returns_2 (λ c κs. search rules) (λ c κs. search rules) returns_3 returns_4)

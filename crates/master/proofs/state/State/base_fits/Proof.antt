@@ -7,14 +7,14 @@ use Rattle.master.proofs.state.State.base_fits.Tie as tie
 returns : tie.Need-returns-then-not-is_there
 returns c = rw (← c.before.is_there.ensures, not-true c.before.is_there.result c.if-not-is_there.true-raw)
 
-returns-2 : tie.Need-returns-then-not-is_there-2
-returns-2 c =
+returns_2 : tie.Need-returns-then-not-is_there-2
+returns_2 c =
     let is-there = c.before.before.before.is_there in
     let is-there2 = c.before.is_there-2 in
     rw (← is-there.ensures, not-false is-there.result c.before.before.if-not-is_there.false-raw, ← is-there2.ensures, not-true is-there2.result c.if-not-is_there-2.true-raw)
 
-returns-3 : tie.Need-returns-then-not-wait_fits
-returns-3 c =
+returns_3 : tie.Need-returns-then-not-wait_fits
+returns_3 c =
     let is-there = c.before.before.before.before.before.is_there in
     let is-there2 = c.before.before.before.is_there-2 in
     let wait-fits = c.before.wait_fits in
@@ -27,8 +27,8 @@ returns-3 c =
       not-true wait-fits.result c.if-not-wait_fits.true-raw,
     )
 
-returns-4 : tie.Need-returns-then-not-pending_fits
-returns-4 c =
+returns_4 : tie.Need-returns-then-not-pending_fits
+returns_4 c =
     let is-there = c.before.before.before.before.before.before.before.is_there in
     let if1 = c.before.before.before.before.before.before.if-not-is_there in
     let is-there2 = c.before.before.before.before.before.is_there-2 in
@@ -47,8 +47,8 @@ returns-4 c =
       not-true pending-fits.result c.if-not-pending_fits.true-raw,
     )
 
-returns-5 : tie.Need-returns-then-not-can_open
-returns-5 c =
+returns_5 : tie.Need-returns-then-not-can_open
+returns_5 c =
     let is-there = c.before.before.before.before.before.before.before.before.before.is_there in
     let if1 = c.before.before.before.before.before.before.before.before.if-not-is_there in
     let is-there2 = c.before.before.before.before.before.before.before.is_there-2 in
@@ -70,8 +70,8 @@ returns-5 c =
       not-true c.before.can_open.result c.if-not-can_open.true-raw,
     )
 
-returns-6 : tie.Need-returns-then-not-count_fits
-returns-6 c =
+returns_6 : tie.Need-returns-then-not-count_fits
+returns_6 c =
     let is-there = c.before.before.before.before.before.before.before.before.before.before.before.is_there in
     let if1 = c.before.before.before.before.before.before.before.before.before.before.if-not-is_there in
     let is-there2 = c.before.before.before.before.before.before.before.before.before.is_there-2 in
@@ -99,8 +99,8 @@ returns-6 c =
       not-true count_fits.result c.if-not-count_fits.true-raw,
     )
 
-returns-7 : tie.Need-returns
-returns-7 c =
+returns_7 : tie.Need-returns
+returns_7 c =
     let is-there = c.before.before.before.before.before.before.before.before.before.before.before.before.is_there in
     let if1 = c.before.before.before.before.before.before.before.before.before.before.before.if-not-is_there in
     let is-there2 = c.before.before.before.before.before.before.before.before.before.before.is_there-2 in
@@ -133,6 +133,6 @@ returns-7 c =
 pub base_fits_spec : {M : Type 1} → statement M
 base_fits_spec =
     tie.close
-    (tie.spec (λ c κs. search rules) returns (λ c κs. search rules) returns-2 (λ c κs. search rules) returns-3
-    (λ c κs. search rules) returns-4 (λ c κs. search rules) returns-5 (λ c κs. search rules) returns-6
-    (λ c κs. search rules) returns-7)
+    (tie.spec (λ c κs. search rules) returns (λ c κs. search rules) returns_2 (λ c κs. search rules) returns_3
+    (λ c κs. search rules) returns_4 (λ c κs. search rules) returns_5 (λ c κs. search rules) returns_6
+    (λ c κs. search rules) returns_7)

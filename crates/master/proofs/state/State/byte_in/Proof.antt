@@ -15,31 +15,31 @@ returns c =
     let e = (sym c.before.before.judge_byte.ensures ∙ c.before.in-Refused.is) in
     byte_told_lem _ _ _ _ _ _ (record { handed = rw (e, c.answering.ensures); kept = rw e })
 
-sent-byte-requires : tie.Need-sent_byte-requires
-sent-byte-requires c κs =
+sent_byte_requires : tie.Need-sent_byte-requires
+sent_byte_requires c κs =
     let a = c.before.before.before.before.before.before.before.args in
     let judge-byte = c.before.before.before.before.judge_byte in
     let e = (sym judge-byte.ensures ∙ c.before.before.before.in_default.is) in
     rw (← byte_size a.t.now (length a.bytes.now) a.self e) e
 
-returns-2 : tie.Need-returns-then-sends
+returns_2 : tie.Need-returns-then-sends
 unfolding byte_of byte_effect
-returns-2 c =
+returns_2 c =
     let judge-byte = c.before.before.before.before.before.judge_byte in
     let enum_told = c.before.before.before.before.in_default in
     let sends = c.before.before.sends in
     let e = (sym judge-byte.ensures ∙ enum_told.is) in
     byte_told_lem _ _ _ _ _ _ (record { handed = rw (e, ← sends.ensures, c.before.if-sends.true, c.sent_byte.ensures); kept = rw (e, ← sends.ensures, c.before.if-sends.true) })
 
-received-byte-requires : tie.Need-received_byte-requires
-received-byte-requires c κs =
+received_byte_requires : tie.Need-received_byte-requires
+received_byte_requires c κs =
     let judge-byte = c.before.before.before.before.before.judge_byte in
     let enum_told = c.before.before.before.before.in_default in
     (sym judge-byte.ensures ∙ enum_told.is)
 
-returns-3 : tie.Need-returns
+returns_3 : tie.Need-returns
 unfolding byte_of byte_effect
-returns-3 c =
+returns_3 c =
     let judge-byte = c.before.before.before.before.before.before.before.before.judge_byte in
     let enum_told = c.before.before.before.before.before.before.before.in_default in
     let sends = c.before.before.before.before.before.sends in
@@ -52,4 +52,4 @@ pub byte_in_spec : {M : Type 1} → statement M
 byte_in_spec =
     tie.close
     (tie.spec (λ c κs. search rules) (λ c. search rules) (λ c κs. search rules) returns (λ c. search rules)
-    (λ c κs. search rules) sent-byte-requires returns-2 received-byte-requires (λ c. search rules) returns-3)
+    (λ c κs. search rules) sent_byte_requires returns_2 received_byte_requires (λ c. search rules) returns_3)

@@ -11,9 +11,9 @@ returns c =
     let buffer-size = c.before.before.buffer_size in
     rw (← buffer-size.ensures, ← c.before.admit.ensures.0, c.in-Refused.is)
 
-returns-2 : tie.Need-returns-then-count-of_frame
+returns_2 : tie.Need-returns-then-count-of_frame
 unfolding ahead_verdict
-returns-2 c =
+returns_2 c =
     let buffer-size = c.before.before.before.before.before.before.buffer_size in
     let admit = c.before.before.before.before.before.admit in
     let enum_told = c.before.before.before.before.in_default in
@@ -28,9 +28,9 @@ returns-2 c =
       c.refused.ensures,
     )
 
-returns-3 : tie.Need-returns
+returns_3 : tie.Need-returns
 unfolding ahead_verdict
-returns-3 c =
+returns_3 c =
     let buffer-size = c.before.before.before.before.before.buffer_size in
     let admit = c.before.before.before.before.admit in
     rw (← buffer-size.ensures, ← admit.ensures.0, c.before.before.before.in_default.is, ← c.before.before.count.ensures, ← c.before.of_frame.ensures, lt-ltb _ _ c.if-count-of_frame.false)
@@ -39,4 +39,4 @@ pub judge_ahead_spec : {M : Type 1} → statement M
 judge_ahead_spec =
     tie.close
     (tie.spec (λ c κs. search rules) (λ c κs. search rules) (λ c. search rules) returns (λ c. search rules)
-    (λ c κs. search rules) (λ c κs. search rules) (λ c κs. search rules) returns-2 returns-3)
+    (λ c κs. search rules) (λ c κs. search rules) (λ c κs. search rules) returns_2 returns_3)

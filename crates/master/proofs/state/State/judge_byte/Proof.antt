@@ -9,17 +9,17 @@ returns : tie.Need-returns-in-Refused
 unfolding byte_verdict
 returns c = rw (← c.before.admit.ensures.0, c.in-Refused.is)
 
-returns-2 : tie.Need-returns-then-not-is_open
+returns_2 : tie.Need-returns-then-not-is_open
 unfolding byte_verdict
-returns-2 c =
+returns_2 c =
     let admit = c.before.before.before.before.before.admit in
     let enum_told = c.before.before.before.before.in_default in
     let is_open = c.before.before.is_open in
     rw (← admit.ensures.0, enum_told.is, ← is_open.ensures, not-true is_open.result c.before.if-not-is_open.true-raw, c.refused.ensures)
 
-returns-3 : tie.Need-returns
+returns_3 : tie.Need-returns
 unfolding byte_verdict
-returns-3 c =
+returns_3 c =
     let admit = c.before.before.before.before.admit in
     rw (← admit.ensures.0, c.before.before.before.in_default.is, ← c.before.is_open.ensures, not-false c.before.is_open.result c.if-not-is_open.false-raw)
 
@@ -27,4 +27,4 @@ pub judge_byte_spec : {M : Type 1} → statement M
 judge_byte_spec =
     tie.close
     (tie.spec (λ c κs. search rules) (λ c. search rules) returns (λ c. search rules) (λ c κs. search rules)
-    (λ c κs. search rules) returns-2 returns-3)
+    (λ c κs. search rules) returns_2 returns_3)

@@ -10,15 +10,15 @@ returns : tie.Need-returns-in-Refused
 unfolding read_verdict
 returns c = rw (← c.before.admit.ensures.0, c.in-Refused.is)
 
-returns-2 : tie.Need-returns-then-count-s
+returns_2 : tie.Need-returns-then-count-s
 unfolding read_verdict
-returns-2 c =
+returns_2 c =
     let admit = c.before.before.before.before.admit in
     rw (← admit.ensures.0, c.before.before.before.in_default.is, ← c.before.before.count.ensures, le-ltb _ _ c.before.if-count-s.true, c.refused.ensures)
 
-returns-3 : tie.Need-returns-then-is_array-array
+returns_3 : tie.Need-returns-then-is_array-array
 unfolding read_verdict
-returns-3 c =
+returns_3 c =
     let a = c.before.before.before.before.before.before.before.before.args in
     let admit = c.before.before.before.before.before.before.admit in
     let enum_told = c.before.before.before.before.before.in_default in
@@ -35,9 +35,9 @@ returns-3 c =
       c.refused-then-is_array-array.ensures,
     )
 
-returns-4 : tie.Need-returns
+returns_4 : tie.Need-returns
 unfolding read_verdict
-returns-4 c =
+returns_4 c =
     let a = c.before.before.before.before.before.before.before.args in
     let admit = c.before.before.before.before.before.admit in
     let enum_told = c.before.before.before.before.in_default in
@@ -55,4 +55,4 @@ pub judge_read_spec : {M : Type 1} → statement M
 judge_read_spec =
     tie.close
     (tie.spec (λ c κs. search rules) (λ c. search rules) returns (λ c. search rules) (λ c κs. search rules)
-    (λ c κs. search rules) returns-2 (λ c κs. search rules) (λ c κs. search rules) returns-3 returns-4)
+    (λ c κs. search rules) returns_2 (λ c κs. search rules) (λ c κs. search rules) returns_3 returns_4)

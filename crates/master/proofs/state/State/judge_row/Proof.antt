@@ -11,18 +11,18 @@ returns : tie.Need-returns-in-Refused
 unfolding row_verdict
 returns c = rw (← c.before.admit.ensures.0, c.in-Refused.is)
 
-returns-2 : tie.Need-returns-then-signals-values
+returns_2 : tie.Need-returns-then-signals-values
 unfolding row_verdict
-returns-2 c = rw (← c.before.before.before.admit.ensures.0, c.before.before.in_default.is, ne_eqb _ _ c.before.if-signals-values.true, c.refused.ensures)
+returns_2 c = rw (← c.before.before.before.admit.ensures.0, c.before.before.in_default.is, ne_eqb _ _ c.before.if-signals-values.true, c.refused.ensures)
 
-first-bad-requires : tie.Need-first_bad-requires
-first-bad-requires c κs = (admitted_table _ _ _ (sym c.before.before.admit.ensures.0 ∙ c.before.in_default.is), c.if-signals-values.false)
+first_bad_requires : tie.Need-first_bad-requires
+first_bad_requires c κs = (admitted_table _ _ _ (sym c.before.before.admit.ensures.0 ∙ c.before.in_default.is), c.if-signals-values.false)
 
-returns-3 : tie.Need-returns
+returns_3 : tie.Need-returns
 unfolding row_verdict
-returns-3 c = rw (← c.before.before.before.admit.ensures.0, c.before.before.in_default.is, eq-eqb _ _ c.before.if-signals-values.false, c.first_bad.ensures)
+returns_3 c = rw (← c.before.before.before.admit.ensures.0, c.before.before.in_default.is, eq-eqb _ _ c.before.if-signals-values.false, c.first_bad.ensures)
 
 pub judge_row_spec : {M : Type 1} → statement M
 judge_row_spec =
     tie.close
-    (tie.spec (λ c κs. search rules) (λ c. search rules) returns (λ c. search rules) (λ c κs. search rules) returns-2 first-bad-requires returns-3)
+    (tie.spec (λ c κs. search rules) (λ c. search rules) returns (λ c. search rules) (λ c κs. search rules) returns_2 first_bad_requires returns_3)

@@ -8,14 +8,14 @@ use Rattle.master.proofs.state.State.judge_scalar.Tie as tie
 returns : tie.Need-returns-in-Refused
 returns c = rw (← c.before.admit.ensures.0, c.in-Refused.is)
 
-writable-requires : tie.Need-writable-requires
-writable-requires c κs = admitted_table _ _ _ (sym c.before.before.admit.ensures.0 ∙ c.before.in_default.is)
+writable_requires : tie.Need-writable-requires
+writable_requires c κs = admitted_table _ _ _ (sym c.before.before.admit.ensures.0 ∙ c.before.in_default.is)
 
-returns-2 : tie.Need-returns
-returns-2 c = rw (← c.before.before.before.admit.ensures.0, c.before.before.in_default.is, c.writable.ensures, c.before.scalar_fits.ensures)
+returns_2 : tie.Need-returns
+returns_2 c = rw (← c.before.before.before.admit.ensures.0, c.before.before.in_default.is, c.writable.ensures, c.before.scalar_fits.ensures)
 
 pub judge_scalar_spec : {M : Type 1} → statement M
 judge_scalar_spec =
     tie.close
     (tie.spec (λ c κs. search rules) (λ c. search rules) returns (λ c. search rules) (λ c κs. search rules)
-    writable-requires returns-2)
+    writable_requires returns_2)

@@ -11,17 +11,17 @@ returns c =
     let buffer-size = c.before.before.buffer_size in
     rw (← buffer-size.ensures, ← c.before.admit.ensures.0, c.in-Refused.is)
 
-returns-2 : tie.Need-returns-then-schedules-n
+returns_2 : tie.Need-returns-then-schedules-n
 unfolding select_verdict
-returns-2 c =
+returns_2 c =
     let buffer-size = c.before.before.before.before.before.buffer_size in
     let admit = c.before.before.before.before.admit in
     let accepted = c.before.before.before.in_default.is in
     rw (← buffer-size.ensures, ← admit.ensures.0, accepted, ← c.before.before.schedules.ensures.0, le-ltb _ _ c.before.if-schedules-n.true, c.refused.ensures)
 
-returns-3 : tie.Need-returns
+returns_3 : tie.Need-returns
 unfolding select_verdict
-returns-3 c =
+returns_3 c =
     let buffer-size = c.before.before.before.before.buffer_size in
     let admit = c.before.before.before.admit in
     rw (← buffer-size.ensures, ← admit.ensures.0, c.before.before.in_default.is, ← c.before.schedules.ensures.0, lt-ltb _ _ c.if-schedules-n.false)
@@ -30,4 +30,4 @@ pub judge_select_spec : {M : Type 1} → statement M
 judge_select_spec =
     tie.close
     (tie.spec (λ c κs. search rules) (λ c κs. search rules) (λ c. search rules) returns (λ c. search rules)
-    (λ c κs. search rules) (λ c κs. search rules) returns-2 returns-3)
+    (λ c κs. search rules) (λ c κs. search rules) returns_2 returns_3)

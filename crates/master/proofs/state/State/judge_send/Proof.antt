@@ -11,24 +11,24 @@ returns c =
     let buffer-size = c.before.before.buffer_size in
     rw (← buffer-size.ensures, ← c.before.admit.ensures.0, c.in-Refused.is)
 
-returns-2 : tie.Need-returns-then-size-lt1
+returns_2 : tie.Need-returns-then-size-lt1
 unfolding send_verdict
-returns-2 c =
+returns_2 c =
     let buffer-size = c.before.before.before.before.buffer_size in
     let admit = c.before.before.before.admit in
     rw (← buffer-size.ensures, ← admit.ensures.0, c.before.before.in_default.is, lt-leb _ _ c.before.if-size-lt1.true, c.refused.ensures)
 
-returns-3 : tie.Need-returns-then-size
+returns_3 : tie.Need-returns-then-size
 unfolding send_verdict
-returns-3 c =
+returns_3 c =
     let buffer-size = c.before.before.before.before.before.buffer_size in
     let admit = c.before.before.before.before.admit in
     let accepted = c.before.before.before.in_default.is in
     rw (← buffer-size.ensures, ← admit.ensures.0, accepted, le-leb _ _ c.before.before.if-size-lt1.false, lt-leb _ _ c.before.if-size.true, c.refused-then-size.ensures)
 
-returns-4 : tie.Need-returns-then-is_sending
+returns_4 : tie.Need-returns-then-is_sending
 unfolding send_verdict
-returns-4 c =
+returns_4 c =
     let buffer-size = c.before.before.before.before.before.before.before.buffer_size in
     let admit = c.before.before.before.before.before.before.admit in
     let enum_told = c.before.before.before.before.before.in_default in
@@ -43,9 +43,9 @@ returns-4 c =
       c.refused-then-is_sending.ensures,
     )
 
-returns-5 : tie.Need-returns
+returns_5 : tie.Need-returns
 unfolding send_verdict
-returns-5 c =
+returns_5 c =
     let buffer-size = c.before.before.before.before.before.before.buffer_size in
     let admit = c.before.before.before.before.before.admit in
     let enum_told = c.before.before.before.before.in_default in
@@ -64,5 +64,5 @@ pub judge_send_spec : {M : Type 1} → statement M
 judge_send_spec =
     tie.close
     (tie.spec (λ c κs. search rules) (λ c κs. search rules) (λ c. search rules) returns (λ c. search rules)
-    (λ c κs. search rules) returns-2 (λ c. search rules) (λ c κs. search rules) returns-3 (λ c κs. search rules)
-    (λ c κs. search rules) returns-4 returns-5)
+    (λ c κs. search rules) returns_2 (λ c. search rules) (λ c κs. search rules) returns_3 (λ c κs. search rules)
+    (λ c κs. search rules) returns_4 returns_5)

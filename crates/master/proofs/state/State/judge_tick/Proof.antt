@@ -9,16 +9,16 @@ returns : tie.Need-returns-in-Refused
 unfolding tick_verdict
 returns c = rw (← c.before.admit.ensures.0, c.in-Refused.is)
 
-returns-2 : tie.Need-returns-then-not-lent_fits
+returns_2 : tie.Need-returns-then-not-lent_fits
 unfolding tick_verdict
-returns-2 c =
+returns_2 c =
     let admit = c.before.before.before.before.admit in
     let lent-fits = c.before.before.lent_fits in
     rw (← admit.ensures.0, c.before.before.before.in_default.is, ← lent-fits.ensures, not-true lent-fits.result c.before.if-not-lent_fits.true-raw, c.refused.ensures)
 
-returns-3 : tie.Need-returns
+returns_3 : tie.Need-returns
 unfolding tick_verdict
-returns-3 c =
+returns_3 c =
     let admit = c.before.before.before.admit in
     let lent-fits = c.before.lent_fits in
     rw (← admit.ensures.0, c.before.before.in_default.is, ← lent-fits.ensures, not-false lent-fits.result c.if-not-lent_fits.false-raw)
@@ -27,4 +27,4 @@ pub judge_tick_spec : {M : Type 1} → statement M
 judge_tick_spec =
     tie.close
     (tie.spec (λ c κs. search rules) (λ c. search rules) returns (λ c. search rules) (λ c κs. search rules)
-    (λ c κs. search rules) returns-2 returns-3)
+    (λ c κs. search rules) returns_2 returns_3)

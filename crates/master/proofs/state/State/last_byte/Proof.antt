@@ -12,8 +12,8 @@ use Rattle.master.specs.Byte.{last_byte}
 use Rattle.master.proofs.state.State.last_byte.Statement.{statement}
 use Rattle.master.proofs.state.State.last_byte.Tie as tie
 
-checksum-right-requires : tie.Need-checksum_right-requires
-checksum-right-requires c κs =
+checksum_right_requires : tie.Need-checksum_right-requires
+checksum_right_requires c κs =
     let a = c.before.before.before.args in
     let asked = c.before.before.before.requires in (
       byte_identifier a.t.now (length a.bytes.now) a.self asked,
@@ -22,8 +22,8 @@ checksum-right-requires c κs =
       byte_length_high a.t.now (length a.bytes.now) a.self asked,
     )
 
-failed-requires : tie.Need-failed-requires
-failed-requires c κs =
+failed_requires : tie.Need-failed-requires
+failed_requires c κs =
     let a = c.before.before.before.before.before.args in
     let asked = c.before.before.before.before.before.requires in
     byte_identifier a.t.now (length a.bytes.now) a.self asked
@@ -43,14 +43,14 @@ returns c =
       kept = rw (← checksum-right.ensures, not-true checksum-right.result if1.true-raw);
     }
 
-received-requires : tie.Need-received-closed-requires
-received-requires c κs =
+received_requires : tie.Need-received-closed-requires
+received_requires c κs =
     let a = c.before.before.before.before.before.args in
     let asked = c.before.before.before.before.before.requires in
     byte_identifier a.t.now (length a.bytes.now) a.self asked
 
-store-requires : tie.Need-store-requires
-store-requires c κs =
+store_requires : tie.Need-store-requires
+store_requires c κs =
     let a = c.before.before.before.before.before.before.before.before.before.args in
     let asked = c.before.before.before.before.before.before.before.before.before.requires in
     let opened = c.before.before.in-Frame in (
@@ -61,18 +61,18 @@ store-requires c κs =
           (arith, c.length.ensures, rw opened.is at (byte_length_high a.t.now (length a.bytes.now) a.self asked)),
     )
 
-returns-2 : tie.Need-returns-in-Nothing
+returns_2 : tie.Need-returns-in-Nothing
 unfolding last_byte
-returns-2 c =
+returns_2 c =
     let a = c.before.before.before.before.before.before.before.before.args in
     let checksum-right = c.before.before.before.before.checksum_right in
     last_nothing a.t.now a.self a.nine a.bytes.now
     (sym checksum-right.ensures ∙ not-false checksum-right.result c.before.before.before.if-not-checksum_right.false-raw) _ _
     c.before.in-Nothing.is (c.answering-in-Nothing.ensures ∙ rw c.before.before.received-closed.ensures) refl
 
-returns-3 : tie.Need-returns-in-Frame
+returns_3 : tie.Need-returns-in-Frame
 unfolding last_byte
-returns-3 c =
+returns_3 c =
     let a = c.before.before.before.before.before.before.before.before.before.before.before.before.before.args in
     let checksum-right = c.before.before.before.before.before.before.before.before.before.checksum_right in
     let if1 = c.before.before.before.before.before.before.before.before.if-not-checksum_right in
@@ -83,18 +83,18 @@ returns-3 c =
     (sym checksum-right.ensures ∙ not-false checksum-right.result if1.false-raw) _ _ opened.f told.result
     opened.is (c.answering-in-Frame.ensures ∙ rw received.ensures) told.ensures c.before.before.before.store.ensures
 
-returns-4 : tie.Need-returns-in-Request
+returns_4 : tie.Need-returns-in-Request
 unfolding last_byte
-returns-4 c =
+returns_4 c =
     let a = c.before.before.before.before.before.before.before.before.args in
     let checksum-right = c.before.before.before.before.checksum_right in
     last_request a.t.now a.self a.nine a.bytes.now
     (sym checksum-right.ensures ∙ not-false checksum-right.result c.before.before.before.if-not-checksum_right.false-raw) _ _
     c.before.in-Request.is (c.answering-in-Request.ensures ∙ rw c.before.before.received-closed.ensures) refl
 
-returns-5 : tie.Need-returns-in-Response
+returns_5 : tie.Need-returns-in-Response
 unfolding last_byte
-returns-5 c =
+returns_5 c =
     let a = c.before.before.before.before.before.before.before.before.args in
     let checksum-right = c.before.before.before.before.checksum_right in
     last_response a.t.now a.self a.nine a.bytes.now
@@ -104,7 +104,7 @@ returns-5 c =
 pub last_byte_spec : {M : Type 1} → statement M
 last_byte_spec =
     tie.close
-    (tie.spec checksum-right-requires failed-requires (λ c κs. search rules) returns received-requires
-    (λ c. search rules) (λ c κs. search rules) (λ c. search rules) (λ c κs. search rules) store-requires
+    (tie.spec checksum_right_requires failed_requires (λ c κs. search rules) returns received_requires
+    (λ c. search rules) (λ c κs. search rules) (λ c. search rules) (λ c κs. search rules) store_requires
     (λ c κs. search rules) (λ c. search rules) (λ c κs. search rules) (λ c. search rules) (λ c κs. search rules)
-    returns-2 (λ c. search rules) returns-3 returns-4 returns-5)
+    returns_2 (λ c. search rules) returns_3 returns_4 returns_5)

@@ -11,9 +11,9 @@ returns c =
     let buffer-size = c.before.before.buffer_size in
     message_told_lem _ _ _ (rw (← buffer-size.ensures, ← c.before.admit.ensures.0, c.in-Refused.is))
 
-returns-2 : tie.Need-returns
+returns_2 : tie.Need-returns
 unfolding message_of
-returns-2 c =
+returns_2 c =
     let buffer-size = c.before.before.before.buffer_size in
     message_told_lem _ _ _ (rw (← buffer-size.ensures, ← c.before.before.admit.ensures.0, c.before.in_default.is, c.told.ensures))
 
@@ -21,4 +21,4 @@ pub message_state_spec : {M : Type 1} → statement M
 message_state_spec =
     tie.close
     (tie.spec (λ c κs. search rules) (λ c κs. search rules) (λ c. search rules) returns (λ c. search rules)
-    (λ c κs. search rules) returns-2)
+    (λ c κs. search rules) returns_2)

@@ -14,16 +14,16 @@ returns : tie.Need-returns-in-Refused
 unfolding ahead_of frames_ahead
 returns c = ahead_told_lem _ _ _ _ (rw (← c.before.judge_ahead.ensures, c.in-Refused.is))
 
-count-pending-requires : tie.Need-count_pending-requires
-count-pending-requires c κs =
+count_pending_requires : tie.Need-count_pending-requires
+count_pending_requires c κs =
     let a = c.before.before.before.before.before.before.args in
     let judge-ahead = c.before.before.before.before.judge_ahead in
     let e = sym judge-ahead.ensures ∙ c.before.before.before.in_default.is in
     (ahead_table a.t.now a.self a.f e, omega (arith, c.before.of_frame-m.ensures, ahead_member a.t.now a.self a.f e))
 
-returns-2 : tie.Need-returns
+returns_2 : tie.Need-returns
 unfolding ahead_of frames_ahead
-returns-2 c =
+returns_2 c =
     let judge-ahead = c.before.before.before.before.before.judge_ahead in
     let enum_told = c.before.before.before.before.in_default in
     ahead_told_lem _ _ _ _ (rw (← judge-ahead.ensures, enum_told.is, c.count_pending.ensures, c.before.list-l.ensures, c.before.before.of_frame-m.ensures))
@@ -32,4 +32,4 @@ pub number_ahead_spec : {M : Type 1} → statement M
 number_ahead_spec =
     tie.close
     (tie.spec (λ c κs. search rules) (λ c. search rules) returns (λ c. search rules) (λ c κs. search rules)
-    (λ c κs. search rules) count-pending-requires returns-2)
+    (λ c κs. search rules) count_pending_requires returns_2)

@@ -11,19 +11,19 @@ returns : tie.Need-returns-then-not-is_open
 unfolding opens_or_silent
 returns c = rw (← c.before.is_open.ensures, not-true c.before.is_open.result c.if-not-is_open.true-raw)
 
-protected-requires : tie.Need-protected-requires
-protected-requires c κs =
+protected_requires : tie.Need-protected-requires
+protected_requires c κs =
     let a = c.before.before.before.before.before.before.before.args in
     let asked = c.before.before.before.before.before.before.before.requires in
     open_identifier_lem a.t.now asked.0 a.opened asked.2
 
-returns-2 : tie.Need-returns
+returns_2 : tie.Need-returns
 unfolding opens_or_silent
-returns-2 c =
+returns_2 c =
     let is_open = c.before.before.before.before.is_open in
     let left = not-false is_open.result c.before.before.before.if-not-is_open.false-raw in
     rw (← is_open.ensures, left, c.protected.ensures, c.before.with_transfer.ensures, c.before.before.opening.ensures)
 
 pub open_spec : {M : Type 1} → statement M
 open_spec =
-    tie.close (tie.spec (λ c κs. search rules) returns (λ c κs. search rules) (λ c κs. search rules) protected-requires returns-2)
+    tie.close (tie.spec (λ c κs. search rules) returns (λ c κs. search rules) (λ c κs. search rules) protected_requires returns_2)

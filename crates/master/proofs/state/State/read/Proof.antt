@@ -12,23 +12,23 @@ returns : tie.Need-returns-in-Refused
 unfolding read_scalar_of
 returns c = read_told_lem _ _ _ _ _ (rw (← c.before.judge_read.ensures, c.in-Refused.is))
 
-source-requires : tie.Need-source-requires
-source-requires c κs = read_table _ _ _ _ _ (sym c.before.judge_read.ensures ∙ c.in_default.is)
+source_requires : tie.Need-source-requires
+source_requires c κs = read_table _ _ _ _ _ (sym c.before.judge_read.ensures ∙ c.in_default.is)
 
-returns-2 : tie.Need-returns-in-Never
+returns_2 : tie.Need-returns-in-Never
 unfolding read_scalar_of scalar_from
-returns-2 c =
+returns_2 c =
     let d = c in
     read_told_lem _ _ _ _ _ (rw (← d.before.before.before.before.judge_read.ensures, d.before.before.before.in_default.is, ← d.before.before.source.ensures, c.before.in-Never.is, c.start.ensures))
 
-returns-3 : tie.Need-returns-in-Placement
+returns_3 : tie.Need-returns-in-Placement
 unfolding read_scalar_of scalar_from
-returns-3 c =
+returns_3 c =
     let d = c in
     read_told_lem _ _ _ _ _ (rw (← d.before.before.before.before.judge_read.ensures, d.before.before.before.in_default.is, ← d.before.before.source.ensures, c.before.in-Placement.is, c.scalar_at.ensures))
 
 pub read_spec : {M : Type 1} → statement M
 read_spec =
     tie.close
-    (tie.spec (λ c κs. search rules) (λ c. search rules) returns (λ c. search rules) source-requires
-    (λ c. search rules) (λ c κs. search rules) (λ c. search rules) (λ c κs. search rules) returns-2 returns-3)
+    (tie.spec (λ c κs. search rules) (λ c. search rules) returns (λ c. search rules) source_requires
+    (λ c. search rules) (λ c κs. search rules) (λ c. search rules) (λ c κs. search rules) returns_2 returns_3)

@@ -12,12 +12,12 @@ returns : tie.Need-returns-in-Refused
 unfolding read_array_of
 returns c = read_array_told _ _ _ _ _ (rw (← c.before.judge_read.ensures, c.in-Refused.is))
 
-source-requires : tie.Need-source-requires
-source-requires c κs = read_table _ _ _ _ _ (sym c.before.judge_read.ensures ∙ c.in_default.is)
+source_requires : tie.Need-source-requires
+source_requires c κs = read_table _ _ _ _ _ (sym c.before.judge_read.ensures ∙ c.in_default.is)
 
-returns-2 : tie.Need-returns-in-Never
+returns_2 : tie.Need-returns-in-Never
 unfolding read_array_of array_from
-returns-2 c =
+returns_2 c =
     let d = c in
     read_array_told _ _ _ _ _
     (rw (
@@ -29,9 +29,9 @@ returns-2 c =
       c.before.start_array.ensures,
     ))
 
-returns-3 : tie.Need-returns-in-Placement
+returns_3 : tie.Need-returns-in-Placement
 unfolding read_array_of array_from
-returns-3 c =
+returns_3 c =
     let d = c in
     read_array_told _ _ _ _ _
     (rw (
@@ -46,5 +46,5 @@ returns-3 c =
 pub read_array_spec : {M : Type 1} → statement M
 read_array_spec =
     tie.close
-    (tie.spec (λ c κs. search rules) (λ c. search rules) returns (λ c. search rules) source-requires
-    (λ c. search rules) (λ c κs. search rules) (λ c κs. search rules) (λ c. search rules) (λ c κs. search rules) (λ c κs. search rules) returns-2 returns-3)
+    (tie.spec (λ c κs. search rules) (λ c. search rules) returns (λ c. search rules) source_requires
+    (λ c. search rules) (λ c κs. search rules) (λ c κs. search rules) (λ c. search rules) (λ c κs. search rules) (λ c κs. search rules) returns_2 returns_3)

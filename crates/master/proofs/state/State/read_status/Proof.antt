@@ -11,9 +11,9 @@ returns c =
     let buffer-size = c.before.before.buffer_size in
     status_told_lem _ _ _ (rw (← buffer-size.ensures, ← c.before.admit.ensures.0, c.in-Refused.is))
 
-returns-2 : tie.Need-returns
+returns_2 : tie.Need-returns
 unfolding status_of
-returns-2 c =
+returns_2 c =
     let buffer-size = c.before.before.before.before.before.before.buffer_size in
     let admit = c.before.before.before.before.before.admit in
     let accepted = c.before.before.before.before.in_default in
@@ -23,4 +23,4 @@ pub read_status_spec : {M : Type 1} → statement M
 read_status_spec =
     tie.close
     (tie.spec (λ c κs. search rules) (λ c κs. search rules) (λ c. search rules) returns (λ c. search rules)
-    (λ c κs. search rules) (λ c κs. search rules) (λ c κs. search rules) returns-2)
+    (λ c κs. search rules) (λ c κs. search rules) (λ c κs. search rules) returns_2)

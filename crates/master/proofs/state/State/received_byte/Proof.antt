@@ -7,13 +7,13 @@ use Rattle.master.specs.Byte.{received_byte}
 use Rattle.master.proofs.state.State.received_byte.Statement.{statement}
 use Rattle.master.proofs.state.State.received_byte.Tie as tie
 
-with-byte-requires : tie.Need-with_byte-nine-requires
-with-byte-requires c κs =
+with_byte_requires : tie.Need-with_byte-nine-requires
+with_byte_requires c κs =
     let a = c.before.before.before.args in
     byte_count_high a.t.now (length a.bytes.now) a.self c.before.before.before.requires
 
-passed-requires : tie.Need-passed-requires
-passed-requires c κs =
+passed_requires : tie.Need-passed-requires
+passed_requires c κs =
     let a = c.before.before.before.before.before.before.args in
     let asked = c.before.before.before.before.before.before.requires in
     byte_count_high a.t.now (length a.bytes.now) a.self asked
@@ -26,9 +26,9 @@ returns c =
     let if1 = c.before.before.if-early in
     record { handed = rw (← early.ensures, if1.true, c.answering.ensures, c.before.passed.ensures, with_byte.ensures); kept = rw (← early.ensures, if1.true) }
 
-returns-2 : tie.Need-returns
+returns_2 : tie.Need-returns
 unfolding received_byte
-returns-2 c =
+returns_2 c =
     let with_byte = c.before.before.before.before.before.before.with_byte-nine in
     let early = c.before.before.before.before.before.early in
     let if1 = c.before.before.before.before.if-early in
@@ -38,5 +38,5 @@ returns-2 c =
 pub received_byte_spec : {M : Type 1} → statement M
 received_byte_spec =
     tie.close
-    (tie.spec with-byte-requires (λ c κs. search rules) passed-requires (λ c κs. search rules) returns
-    (λ c κs. search rules) (λ c. search rules) returns-2)
+    (tie.spec with_byte_requires (λ c κs. search rules) passed_requires (λ c κs. search rules) returns
+    (λ c κs. search rules) (λ c. search rules) returns_2)

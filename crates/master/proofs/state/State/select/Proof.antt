@@ -9,9 +9,9 @@ returns : tie.Need-returns-in-Refused
 unfolding select_of
 returns c = select_told_lem _ _ _ _ (rw (← c.before.judge_select.ensures, c.in-Refused.is))
 
-returns-2 : tie.Need-returns
+returns_2 : tie.Need-returns
 unfolding select_of
-returns-2 c =
+returns_2 c =
     let judge-select = c.before.before.before.before.judge_select in
     select_told_lem _ _ _ _ (rw (← judge-select.ensures, c.before.before.before.in_default.is, c.with_plan.ensures, c.before.asking.ensures))
 
@@ -19,4 +19,4 @@ pub select_spec : {M : Type 1} → statement M
 select_spec =
     tie.close
     (tie.spec (λ c κs. search rules) (λ c. search rules) returns (λ c. search rules) (λ c κs. search rules)
-    (λ c κs. search rules) returns-2)
+    (λ c κs. search rules) returns_2)

@@ -12,17 +12,17 @@ returns : tie.Need-returns-in-Refused
 unfolding send_of
 returns c = send_told_lem _ _ _ _ _ (rw (← c.before.judge_send.ensures, c.in-Refused.is))
 
-cast-t9 : tie.Need-overflow_cast-size
-cast-t9 c =
+cast_t9 : tie.Need-overflow_cast-size
+cast_t9 c =
     let a = c.before.before.before.args in
     record { fits = omega (arith, send_length a.t.now a.self a.size (sym c.before.judge_send.ensures ∙ c.in_default.is)) }
 
-returns-2 : tie.Need-returns
+returns_2 : tie.Need-returns
 unfolding send_of
-returns-2 c = send_told_lem _ _ _ _ _ (rw (← c.before.before.judge_send.ensures, c.before.in_default.is, c.with_message.ensures))
+returns_2 c = send_told_lem _ _ _ _ _ (rw (← c.before.before.judge_send.ensures, c.before.in_default.is, c.with_message.ensures))
 
 pub send_spec : {M : Type 1} → statement M
 send_spec =
     tie.close
-    (tie.spec (λ c κs. search rules) (λ c. search rules) returns (λ c. search rules) cast-t9
-    (λ c κs. search rules) returns-2)
+    (tie.spec (λ c κs. search rules) (λ c. search rules) returns (λ c. search rules) cast_t9
+    (λ c κs. search rules) returns_2)

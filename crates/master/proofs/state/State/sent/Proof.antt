@@ -6,8 +6,8 @@ use Rattle.master.specs.Closing.{sent}
 use Rattle.master.proofs.state.State.sent.Statement.{statement}
 use Rattle.master.proofs.state.State.sent.Tie as tie
 
-closed-requires : tie.Need-closed-requires
-closed-requires c κs =
+closed_requires : tie.Need-closed-requires
+closed_requires c κs =
     let a = c.before.before.before.before.args in
     let asked = c.before.before.before.before.requires in
     open_identifier_lem a.t.now asked.0 a.self.transfer.opened asked.1
@@ -22,5 +22,5 @@ returns c =
 pub sent_spec : {M : Type 1} → statement M
 sent_spec =
     tie.close
-    (tie.spec (λ c κs. search rules) closed-requires (λ c κs. search rules) (λ c κs. search rules)
+    (tie.spec (λ c κs. search rules) closed_requires (λ c κs. search rules) (λ c κs. search rules)
     (λ c κs. search rules) returns)

@@ -9,13 +9,13 @@ use Rattle.master.specs.Byte.{sent_byte}
 use Rattle.master.proofs.state.State.sent_byte.Statement.{statement}
 use Rattle.master.proofs.state.State.sent_byte.Tie as tie
 
-array-read-if1 : tie.Need-bounds-bytes-transfer
-array-read-if1 c =
+array_read_if1 : tie.Need-bounds-bytes-transfer
+array_read_if1 c =
     let a = c.before.before.before.before.args in
     omega (arith, byte_count_high a.t.now (buffer_size a.t.now) a.self c.before.before.before.before.requires)
 
-failed-requires : tie.Need-failed-requires
-failed-requires c κs =
+failed_requires : tie.Need-failed-requires
+failed_requires c κs =
     let a = c.before.before.before.before.before.args in
     let asked = c.before.before.before.before.before.requires in
     byte_identifier a.t.now (buffer_size a.t.now) a.self asked
@@ -24,15 +24,15 @@ returns : tie.Need-returns-then-bytes-transfer
 unfolding sent_byte
 returns c = rw (ne_eqb _ _ c.before.before.if-bytes-transfer.true, c.answering.ensures, c.before.failed.ensures)
 
-passed-requires : tie.Need-passed-requires
-passed-requires c κs =
+passed_requires : tie.Need-passed-requires
+passed_requires c κs =
     let a = c.before.before.before.before.before.before.before.args in
     let asked = c.before.before.before.before.before.before.before.requires in
     byte_count_high a.t.now (buffer_size a.t.now) a.self asked
 
-returns-2 : tie.Need-returns-then-early
+returns_2 : tie.Need-returns-then-early
 unfolding sent_byte
-returns-2 c = rw (
+returns_2 c = rw (
   eq-eqb _ _ c.before.before.before.before.if-bytes-transfer.false,
   ← c.before.before.before.early.ensures,
   c.before.before.if-early.true,
@@ -40,8 +40,8 @@ returns-2 c = rw (
   c.before.passed.ensures,
 )
 
-sent-requires : tie.Need-sent-requires
-sent-requires c κs =
+sent_requires : tie.Need-sent-requires
+sent_requires c κs =
     let a = c.before.before.before.before.before.before.before.args in
     let asked = c.before.before.before.before.before.before.before.requires in (
       byte_table a.t.now (buffer_size a.t.now) a.self asked,
@@ -50,9 +50,9 @@ sent-requires c κs =
       (byte_fits a.t.now (buffer_size a.t.now) a.self asked).message_fits_lem,
     )
 
-returns-3 : tie.Need-returns
+returns_3 : tie.Need-returns
 unfolding sent_byte
-returns-3 c = rw (
+returns_3 c = rw (
   eq-eqb _ _ c.before.before.before.before.if-bytes-transfer.false,
   ← c.before.before.before.early.ensures,
   c.before.before.if-early.false,
@@ -63,6 +63,6 @@ returns-3 c = rw (
 pub sent_byte_spec : {M : Type 1} → statement M
 sent_byte_spec =
     tie.close
-    (tie.spec (λ c. search rules) array-read-if1 failed-requires (λ c κs. search rules) returns
-    (λ c κs. search rules) passed-requires (λ c κs. search rules) returns-2 sent-requires
-    (λ c κs. search rules) returns-3)
+    (tie.spec (λ c. search rules) array_read_if1 failed_requires (λ c κs. search rules) returns
+    (λ c κs. search rules) passed_requires (λ c κs. search rules) returns_2 sent_requires
+    (λ c κs. search rules) returns_3)

@@ -8,19 +8,19 @@ use Rattle.master.specs.Tick.{slot, slot_at}
 use Rattle.master.proofs.state.State.slot.Statement.{statement}
 use Rattle.master.proofs.state.State.slot.Tie as tie
 
-abandoned-requires : tie.Need-abandoned-closed-requires
-abandoned-requires c κs =
+abandoned_requires : tie.Need-abandoned-closed-requires
+abandoned_requires c κs =
     let a = c.before.before.before.args in
     tick_identifier a.t.now (length a.bytes.now) (length a.lent.now) a.self c.before.before.before.requires
 
-slot-opens-requires : tie.Need-slot_opens-opened-requires
-slot-opens-requires c κs =
+slot_opens_requires : tie.Need-slot_opens-opened-requires
+slot_opens_requires c κs =
     let a = c.before.before.before.before.before.before.before.before.args in
     let asked = c.before.before.before.before.before.before.before.before.requires in
     tick_table a.t.now (length a.bytes.now) (length a.lent.now) a.self asked
 
-open-requires : tie.Need-open-requires
-open-requires c κs =
+open_requires : tie.Need-open-requires
+open_requires c κs =
     let a = c.before.before.before.before.before.before.before.before.before.before.before.args in
     let asked = c.before.before.before.before.before.before.before.before.before.before.before.requires in
     let due = c.before.before.before.before.due in
@@ -40,9 +40,9 @@ returns : tie.Need-returns-in-None
 unfolding slot slot_at
 returns c = rw (← c.before.due.ensures, c.in-None.is, c.before.before.before.before.abandoned-closed.ensures)
 
-returns-2 : tie.Need-returns-in-Entry
+returns_2 : tie.Need-returns-in-Entry
 unfolding slot slot_at
-returns-2 c =
+returns_2 c =
     let abandoned = c.before.before.before.before.before.before.before.before.abandoned-closed in
     let due = c.before.before.before.before.before.due in
     let e' = c.before.before.before.before.in-Entry in
@@ -51,5 +51,5 @@ returns-2 c =
 pub slot_spec : {M : Type 1} → statement M
 slot_spec =
     tie.close
-    (tie.spec abandoned-requires (λ c κs. search rules) (λ c. search rules) (λ c. search rules)
-    slot-opens-requires (λ c κs. search rules) (λ c κs. search rules) open-requires returns returns-2)
+    (tie.spec abandoned_requires (λ c κs. search rules) (λ c. search rules) (λ c. search rules)
+    slot_opens_requires (λ c κs. search rules) (λ c κs. search rules) open_requires returns returns_2)

@@ -14,9 +14,9 @@ returns c =
     let e = sym c.before.before.judge.ensures ∙ c.before.in-Refused.is in
     start_told a.t.now a.bytes.now _ _ (record { handed = rw (e, c.fresh.ensures); kept = rw e })
 
-returns-2 : tie.Need-returns
+returns_2 : tie.Need-returns
 unfolding fresh_of
-returns-2 c =
+returns_2 c =
     let a = c.before.before.before.before.before.before.before.before.before.args in
     let judge = c.before.before.before.before.before.before.judge in
     let enum_told = c.before.before.before.before.before.in_default in
@@ -27,4 +27,4 @@ pub start_spec : {M : Type 1} → statement M
 start_spec =
     tie.close
     (tie.spec (λ c κs. search rules) (λ c. search rules) (λ c κs. search rules) returns (λ c. search rules)
-    (λ c κs. search rules) (λ c κs. search rules) (λ c. search rules) returns-2)
+    (λ c κs. search rules) (λ c κs. search rules) (λ c. search rules) returns_2)

@@ -11,24 +11,24 @@ returns : tie.Need-returns-in-Refused
 unfolding tick_of tick_effect
 returns c = tick_told_lem _ _ _ _ _ (rw (← c.before.judge_tick.ensures, c.in-Refused.is))
 
-waited-requires : tie.Need-waited-requires
-waited-requires c κs = sym c.before.waits.ensures ∙ c.if-waits.true
+waited_requires : tie.Need-waited-requires
+waited_requires c κs = sym c.before.waits.ensures ∙ c.if-waits.true
 
-returns-2 : tie.Need-returns-then-waits
+returns_2 : tie.Need-returns-then-waits
 unfolding tick_of tick_effect
-returns-2 c =
+returns_2 c =
     let judge-tick = c.before.before.before.before.before.before.judge_tick in
     let enum_told = c.before.before.before.before.before.in_default in
     tick_told_lem _ _ _ _ _ (rw (← judge-tick.ensures, enum_told.is, ← c.before.before.before.waits.ensures, c.before.before.if-waits.true, c.with_plan.ensures, c.before.waited.ensures))
 
-slot-requires : tie.Need-slot-requires
-slot-requires c κs =
+slot_requires : tie.Need-slot-requires
+slot_requires c κs =
     let judge-tick = c.before.before.before.before.judge_tick in
     (sym judge-tick.ensures ∙ c.before.before.before.in_default.is)
 
-returns-3 : tie.Need-returns
+returns_3 : tie.Need-returns
 unfolding tick_of tick_effect
-returns-3 c =
+returns_3 c =
     let judge-tick = c.before.before.before.before.before.judge_tick in
     let enum_told = c.before.before.before.before.in_default in
     tick_told_lem _ _ _ _ _ (rw (← judge-tick.ensures, enum_told.is, ← c.before.before.waits.ensures, c.before.if-waits.false, c.slot.ensures))
@@ -37,4 +37,4 @@ pub tick_spec : {M : Type 1} → statement M
 tick_spec =
     tie.close
     (tie.spec (λ c κs. search rules) (λ c. search rules) returns (λ c. search rules) (λ c κs. search rules)
-    waited-requires (λ c κs. search rules) returns-2 slot-requires returns-3)
+    waited_requires (λ c κs. search rules) returns_2 slot_requires returns_3)

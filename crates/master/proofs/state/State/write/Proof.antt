@@ -16,8 +16,8 @@ returns c =
     let e = (sym c.before.before.judge_scalar.ensures ∙ c.before.in-Refused.is) in
     write_told_lem _ _ _ _ _ _ (record { handed = rw (e, c.not_written.ensures); kept = rw e })
 
-cast-put-scalar : tie.Need-overflow_cast-v
-cast-put-scalar c =
+cast_put_scalar : tie.Need-overflow_cast-v
+cast_put_scalar c =
     let a = c.before.before.before.before.before.args in
     record {
       fits = omega (
@@ -27,17 +27,17 @@ cast-put-scalar c =
       );
     }
 
-put-scalar-requires : tie.Need-put_scalar-requires
-put-scalar-requires c κs = write_table _ _ _ _ _ _ (sym c.before.before.judge_scalar.ensures ∙ c.before.in_default.is)
+put_scalar_requires : tie.Need-put_scalar-requires
+put_scalar_requires c κs = write_table _ _ _ _ _ _ (sym c.before.before.judge_scalar.ensures ∙ c.before.in_default.is)
 
-marked-requires : tie.Need-marked-requires
-marked-requires c κs =
+marked_requires : tie.Need-marked-requires
+marked_requires c κs =
     let d = c in
     write_table _ _ _ _ _ _ (sym d.before.before.before.before.before.judge_scalar.ensures ∙ d.before.before.before.before.in_default.is)
 
-returns-2 : tie.Need-returns
+returns_2 : tie.Need-returns
 unfolding write_of
-returns-2 c =
+returns_2 c =
     let judge-scalar = c.before.before.before.before.before.before.judge_scalar in
     let enum_told = c.before.before.before.before.before.in_default in
     let e = (sym judge-scalar.ensures ∙ enum_told.is) in
@@ -47,4 +47,4 @@ pub write_spec : {M : Type 1} → statement M
 write_spec =
     tie.close
     (tie.spec (λ c κs. search rules) (λ c. search rules) (λ c κs. search rules) returns (λ c. search rules)
-    cast-put-scalar put-scalar-requires marked-requires (λ c. search rules) returns-2)
+    cast_put_scalar put_scalar_requires marked_requires (λ c. search rules) returns_2)

@@ -14,17 +14,17 @@ returns c =
     let e = (sym c.before.before.judge_array.ensures ∙ c.before.in-Refused.is) in
     write_told_lem _ _ _ _ _ _ (record { handed = rw (e, c.not_written.ensures); kept = rw e })
 
-put-array-requires : tie.Need-put_array-requires
-put-array-requires c κs = write_table _ _ _ _ _ _ (sym c.before.before.judge_array.ensures ∙ c.before.in_default.is)
+put_array_requires : tie.Need-put_array-requires
+put_array_requires c κs = write_table _ _ _ _ _ _ (sym c.before.before.judge_array.ensures ∙ c.before.in_default.is)
 
-marked-requires : tie.Need-marked-requires
-marked-requires c κs =
+marked_requires : tie.Need-marked-requires
+marked_requires c κs =
     let d = c in
     write_table _ _ _ _ _ _ (sym d.before.before.before.before.before.judge_array.ensures ∙ d.before.before.before.before.in_default.is)
 
-returns-2 : tie.Need-returns
+returns_2 : tie.Need-returns
 unfolding write_of
-returns-2 c =
+returns_2 c =
     let judge-array = c.before.before.before.before.before.before.judge_array in
     let enum_told = c.before.before.before.before.before.in_default in
     let e = (sym judge-array.ensures ∙ enum_told.is) in
@@ -34,4 +34,4 @@ pub write_array_spec : {M : Type 1} → statement M
 write_array_spec =
     tie.close
     (tie.spec (λ c κs. search rules) (λ c. search rules) (λ c κs. search rules) returns (λ c. search rules)
-    put-array-requires marked-requires (λ c. search rules) returns-2)
+    put_array_requires marked_requires (λ c. search rules) returns_2)

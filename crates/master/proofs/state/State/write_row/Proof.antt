@@ -14,25 +14,25 @@ returns c =
     let e = (sym c.before.before.judge_row.ensures ∙ c.before.in-Refused.is) in
     row_told_lem _ _ _ _ _ _ _ (record { handed = rw (e, c.not_written.ensures); kept = rw e })
 
-put-row-requires : tie.Need-put_row-requires
-put-row-requires c κs =
+put_row_requires : tie.Need-put_row-requires
+put_row_requires c κs =
     let a = c.before.before.before.before.before.before.before.args in
     let knows = row_knows a.t.now (length a.bytes.now) a.self a.signals.now a.values.now (sym c.before.before.judge_row.ensures ∙ c.before.in_default.is) in
     (row_table _ _ _ _ _ knows, knows.equal, knows.good)
 
-marked-row-requires : tie.Need-marked_row-requires
-marked-row-requires c κs =
+marked_row_requires : tie.Need-marked_row-requires
+marked_row_requires c κs =
     let d = c in
     row_table _ _ _ _ _ (row_knows _ _ _ _ _ (sym d.before.before.before.before.before.judge_row.ensures ∙ d.before.before.before.before.in_default.is))
 
-returns-2 : tie.Need-returns
+returns_2 : tie.Need-returns
 unfolding row_of
-returns-2 c =
+returns_2 c =
     let e = (sym c.before.before.before.before.before.before.judge_row.ensures ∙ c.before.before.before.before.before.in_default.is) in
     row_told_lem _ _ _ _ _ _ _ (record { handed = rw (e, c.marked_row.ensures); kept = rw (e, c.before.before.before.put_row.ensures) })
 
 pub write_row_spec : {M : Type 1} → statement M
 write_row_spec =
     tie.close
-    (tie.spec (λ c κs. search rules) (λ c. search rules) (λ c κs. search rules) returns (λ c. search rules) put-row-requires marked-row-requires
-    (λ c. search rules) returns-2)
+    (tie.spec (λ c κs. search rules) (λ c. search rules) (λ c κs. search rules) returns (λ c. search rules) put_row_requires marked_row_requires
+    (λ c. search rules) returns_2)

@@ -6,8 +6,8 @@ use Rattle.master.proofs.state.Status.after.Tie as tie
 returns : tie.Need-returns-then-counts
 returns c = rw (c.before.if-counts.true, c.counted.ensures)
 
-returns-2 : tie.Need-returns-else-counts
-returns-2 c = rw c.if-counts.false
+returns_2 : tie.Need-returns-else-counts
+returns_2 c = rw c.if-counts.false
 
 pub after_spec : {M : Type 1} → statement M
-after_spec = tie.close (tie.spec (λ c κs. search rules) returns returns-2)
+after_spec = tie.close (tie.spec (λ c κs. search rules) returns returns_2)

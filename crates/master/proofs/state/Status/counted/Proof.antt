@@ -9,9 +9,9 @@ returns : tie.Need-returns-then-success
 unfolding with_counted
 returns c = rw (c.overruns.ensures, c.before.if-success.true, or_false c.before.before.args.self.error, or_true c.before.before.args.self.success)
 
-returns-2 : tie.Need-returns-else-success
+returns_2 : tie.Need-returns-else-success
 unfolding with_counted
-returns-2 c = rw (c.overruns-else-success.ensures, c.before.if-success.false, or_true c.before.before.args.self.error, or_false c.before.before.args.self.success)
+returns_2 c = rw (c.overruns-else-success.ensures, c.before.if-success.false, or_true c.before.before.args.self.error, or_false c.before.before.args.self.success)
 
 pub counted_spec : {M : Type 1} → statement M
-counted_spec = tie.close (tie.spec (λ c κs. search rules) (λ c κs. search rules) returns returns-2)
+counted_spec = tie.close (tie.spec (λ c κs. search rules) (λ c κs. search rules) returns returns_2)

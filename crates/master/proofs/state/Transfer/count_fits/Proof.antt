@@ -8,10 +8,10 @@ returns : tie.Need-returns-then-is_open
 unfolding count_fits
 returns c = rw (← c.before.before.before.is_open.ensures, c.before.before.if-is_open.true, c.length.ensures)
 
-returns-2 : tie.Need-returns
+returns_2 : tie.Need-returns
 unfolding count_fits
-returns-2 c = rw (← c.before.is_open.ensures, c.if-is_open.false)
+returns_2 c = rw (← c.before.is_open.ensures, c.if-is_open.false)
 
 pub count_fits_spec : {M : Type 1} → statement M
 count_fits_spec =
-    tie.close (tie.spec (λ c κs. search rules) (λ c. search rules) (λ c κs. search rules) returns returns-2)
+    tie.close (tie.spec (λ c κs. search rules) (λ c. search rules) (λ c κs. search rules) returns returns_2)

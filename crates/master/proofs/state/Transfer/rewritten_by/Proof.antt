@@ -9,24 +9,24 @@ use Rattle.master.proofs.RowTurns.{rewrites_turn, rewrites_end}
 use Rattle.master.proofs.state.Transfer.rewritten_by.Statement.{statement}
 use Rattle.master.proofs.state.Transfer.rewritten_by.Tie as tie
 
-abbrev invariant-loop : tie.invariant-loop-i
-invariant-loop t signals next₀ i₀ next i = (i ≤ length signals) × (rewritten_by t signals next₀ ≡ rewritten_by t (drop i signals) next)
+abbrev invariant_loop : tie.invariant-loop-i
+invariant_loop t signals next₀ i₀ next i = (i ≤ length signals) × (rewritten_by t signals next₀ ≡ rewritten_by t (drop i signals) next)
 
-abbrev decreases-loop : tie.decreases-loop-i
-decreases-loop t signals next₀ i₀ next i = length signals - i
+abbrev decreases_loop : tie.decreases-loop-i
+decreases_loop t signals next₀ i₀ next i = length signals - i
 
-loop-holds : tie.Need-loop-i-init invariant-loop decreases-loop
-loop-holds c = (omega arith, refl)
+loop_holds : tie.Need-loop-i-init invariant_loop decreases_loop
+loop_holds c = (omega arith, refl)
 
-loop-again : tie.Need-loop-i-preserved invariant-loop decreases-loop
-loop-again c =
+loop_again : tie.Need-loop-i-preserved invariant_loop decreases_loop
+loop_again c =
     let a = c.before.before.before.before.before.before.args in
     let at = c.before.before.before.loop-i in (
       omega (arith, c.before.before.loop-i-test.true),
       at.invariant.1 ∙ rewrites_turn a.t.now a.signals.now at.i c.before.before.loop-i-test.true at.next ∙ rw c.rewritten-next.ensures,
     )
 
-returns : tie.Need-returns invariant-loop decreases-loop
+returns : tie.Need-returns invariant_loop decreases_loop
 returns c =
     let a = c.before.before.before.before.args in
     let at = c.before.loop-i in
@@ -35,5 +35,5 @@ returns c =
 pub rewritten_by_spec : {M : Type 1} → statement M
 rewritten_by_spec =
     tie.close
-    (tie.spec invariant-loop decreases-loop loop-holds (λ c. search rules) (λ c. search rules) (λ c κs. search rules) (λ c. search rules) (λ c. search rules)
-    loop-again returns)
+    (tie.spec invariant_loop decreases_loop loop_holds (λ c. search rules) (λ c. search rules) (λ c κs. search rules) (λ c. search rules) (λ c. search rules)
+    loop_again returns)

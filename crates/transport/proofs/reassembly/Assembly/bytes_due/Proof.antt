@@ -9,13 +9,13 @@ returns : tie.Need-returns-then-self
 unfolding bytes_due
 returns c = omega arith
 
-returns-2 : tie.Need-returns-then-rest-lt6
+returns_2 : tie.Need-returns-then-rest-lt6
 unfolding bytes_due
-returns-2 c = omega arith
+returns_2 c = omega arith
 
-returns-3 : tie.Need-returns-else-rest-lt6
+returns_3 : tie.Need-returns-else-rest-lt6
 unfolding bytes_due
-returns-3 c = omega arith
+returns_3 c = omega arith
 
 pub bytes_due_spec : {M : Type 1} → statement M
-bytes_due_spec = tie.close (tie.spec returns (λ c. search rules) returns-2 returns-3)
+bytes_due_spec = tie.close (tie.spec returns (λ c. search rules) returns_2 returns_3)

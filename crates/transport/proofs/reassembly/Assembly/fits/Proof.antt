@@ -12,33 +12,33 @@ returns : tie.Need-returns-then-self-eq0
 unfolding assembly_fits
 returns c = simp (eq-eqb _ _ c.if-self-eq0.true)
 
-returns-2 : tie.Need-returns-then-self-lt7
+returns_2 : tie.Need-returns-then-self-lt7
 unfolding assembly_fits
-returns-2 c = simp (ne_eqb _ _ c.before.before.if-self-eq0.false, lt-leb _ _ c.if-self-lt7.true)
+returns_2 c = simp (ne_eqb _ _ c.before.before.if-self-eq0.false, lt-leb _ _ c.if-self-lt7.true)
 
-returns-3 : tie.Need-returns-then-self-gt-LONGEST
+returns_3 : tie.Need-returns-then-self-gt-LONGEST
 unfolding assembly_fits
-returns-3 c = simp (ne_eqb _ _ c.before.before.before.before.if-self-eq0.false, le-leb _ _ c.before.before.if-self-lt7.false, lt-leb _ _ c.if-self-gt-LONGEST.true)
+returns_3 c = simp (ne_eqb _ _ c.before.before.before.before.if-self-eq0.false, le-leb _ _ c.before.before.if-self-lt7.false, lt-leb _ _ c.if-self-gt-LONGEST.true)
 
-returns-4 : tie.Need-returns-then-self-ne5
+returns_4 : tie.Need-returns-then-self-ne5
 unfolding assembly_fits
-returns-4 c =
+returns_4 c =
     let d = c in
     let m = d.before.before.before.before.before.before.before.before.args.self in
     let parts = ne_eqb m.count (5 + 6 * ((m.count - 5) / 6)) (λ e. omega arith) in
     simp (ne_eqb _ _ d.before.before.before.before.before.before.if-self-eq0.false, le-leb _ _ d.before.before.before.before.if-self-lt7.false, le-leb _ _ c.before.before.if-self-gt-LONGEST.false, parts)
 
-returns-5 : tie.Need-returns-then-self
+returns_5 : tie.Need-returns-then-self
 unfolding assembly_fits
-returns-5 c =
+returns_5 c =
     let d = c in
     let m = d.before.before.before.before.before.before.before.before.before.before.args.self in
     let nad = ne_eqb _ _ d.before.before.before.before.before.before.before.before.if-self-eq0.false in
     let parts = eq-eqb m.count (5 + 6 * ((m.count - 5) / 6)) (omega arith) in
     simp (nad, le-leb _ _ d.before.before.before.before.before.before.if-self-lt7.false, le-leb _ _ d.before.before.before.before.if-self-gt-LONGEST.false, parts, le-ltb _ _ c.if-self.true)
 
-returns-6 : tie.Need-returns
-returns-6 c =
+returns_6 : tie.Need-returns
+returns_6 c =
     let d = c in
     fits_by_counter _
     d.before.before.before.before.before.before.before.before.before.before.if-self-eq0.false
@@ -50,4 +50,4 @@ returns-6 c =
 pub fits_spec : {M : Type 1} → statement M
 fits_spec =
     tie.close
-    (tie.spec returns returns-2 returns-3 returns-4 returns-5 (λ c. search rules) (λ c. search rules) returns-6)
+    (tie.spec returns returns_2 returns_3 returns_4 returns_5 (λ c. search rules) (λ c. search rules) returns_6)

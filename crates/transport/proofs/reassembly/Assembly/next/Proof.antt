@@ -8,29 +8,29 @@ use Rattle.transport.proofs.Outcomes.{leaves_plain, next_broken, next_short, nex
 use Rattle.transport.proofs.reassembly.Assembly.next.Statement.{statement}
 use Rattle.transport.proofs.reassembly.Assembly.next.Tie as tie
 
-add-if1 : tie.Need-overflow_add-self
-add-if1 c = omega (arith, counter_below _ c.before.before.before.before.requires.0)
+add_if1 : tie.Need-overflow_add-self
+add_if1 c = omega (arith, counter_below _ c.before.before.before.before.requires.0)
 
 returns : tie.Need-returns-then-frame-self
 returns c = leaves_plain _ _ _ _ _ (next_broken _ _ _ c.before.if-frame-self.true) c.answering.ensures
 
-returns-2 : tie.Need-returns-then-buffer-self
-returns-2 c = leaves_plain _ _ _ _ _ (next_short _ _ _ c.before.before.before.if-frame-self.false c.before.if-buffer-self.true) c.refused.ensures
+returns_2 : tie.Need-returns-then-buffer-self
+returns_2 c = leaves_plain _ _ _ _ _ (next_short _ _ _ c.before.before.before.if-frame-self.false c.before.if-buffer-self.true) c.refused.ensures
 
-deliver-requires : tie.Need-deliver-requires
-deliver-requires c κs =
+deliver_requires : tie.Need-deliver-requires
+deliver_requires c κs =
     let d = c in
     let h = due_high d.before.before.before.before.before.before.before.before.before.args.self in
     let l = due_left d.before.before.before.before.before.before.before.before.before.args.self d.before.before.before.before.before.before.before.before.before.requires.0 in
     (omega arith, omega arith)
 
-add-reached : tie.Need-overflow_add-self-2
-add-reached c =
+add_reached : tie.Need-overflow_add-self-2
+add_reached c =
     let d = c in
     omega (arith, due_left d.before.before.before.before.before.before.before.before.before.before.before.before.before.args.self d.before.before.before.before.before.before.before.before.before.before.before.before.before.requires.0, ((fits_exactly d.before.before.before.before.before.before.before.before.before.before.before.before.before.args.self).0 d.before.before.before.before.before.before.before.before.before.before.before.before.before.requires.0).length_high)
 
-returns-3 : tie.Need-returns
-returns-3 c =
+returns_3 : tie.Need-returns
+returns_3 c =
     let d = c in
     let a = d.before.before.before.before.before.before.before.before.before.before.before.before.before.before.args in
     let taken = next_taken _ _ _ d.before.before.before.before.before.before.before.before.before.if-frame-self.false d.before.before.before.before.before.before.before.if-buffer-self.false in
@@ -39,6 +39,6 @@ returns-3 c =
 pub next_spec : {M : Type 1} → statement M
 next_spec =
     tie.close
-    (tie.spec (λ c. search rules) add-if1 (λ c κs. search rules) returns (λ c. search rules)
-    (λ c κs. search rules) returns-2 (λ c κs. search rules) deliver-requires add-reached (λ c κs. search rules)
-    (λ c. search rules) returns-3)
+    (tie.spec (λ c. search rules) add_if1 (λ c κs. search rules) returns (λ c. search rules)
+    (λ c κs. search rules) returns_2 (λ c κs. search rules) deliver_requires add_reached (λ c κs. search rules)
+    (λ c. search rules) returns_3)

@@ -9,9 +9,9 @@ returns : tie.Need-returns-then-n-self
 unfolding reached
 returns c = simp (lt-ltb _ _ c.before.if-n-self.true, c.counter_after.ensures)
 
-returns-2 : tie.Need-returns-else-n-self
+returns_2 : tie.Need-returns-else-n-self
 unfolding reached
-returns-2 c = simp (le-ltb _ _ c.if-n-self.false)
+returns_2 c = simp (le-ltb _ _ c.if-n-self.false)
 
 pub reached_spec : {M : Type 1} → statement M
-reached_spec = tie.close (tie.spec (λ c κs. search rules) returns returns-2)
+reached_spec = tie.close (tie.spec (λ c κs. search rules) returns returns_2)

@@ -18,22 +18,22 @@ returns c =
     let kind = kind_single (frame_pci d.before.before.before.before.before.before.before.before.args.frame.now) (omega arith) (omega arith) in
     rw (step_kind _ _ _ p.0 p.1 p.2 single kind refl) c.before.before.single.ensures
 
-returns-2 : tie.Need-returns-in-16-to-31
-returns-2 c =
+returns_2 : tie.Need-returns-in-16-to-31
+returns_2 c =
     let d = c in
     let p = d.before.before.before.before.before.before.before.before.requires in
     let kind = kind_first (frame_pci d.before.before.before.before.before.before.before.before.args.frame.now) (omega arith) (omega arith) in
     rw (step_kind _ _ _ p.0 p.1 p.2 first kind refl) c.before.before.first.ensures
 
-returns-3 : tie.Need-returns-in-32-to-47
-returns-3 c =
+returns_3 : tie.Need-returns-in-32-to-47
+returns_3 c =
     let d = c in
     let p = d.before.before.before.before.before.before.before.before.requires in
     let kind = kind_next (frame_pci d.before.before.before.before.before.before.before.before.args.frame.now) (omega arith) (omega arith) in
     rw (step_next _ _ _ p.0 p.1 p.2 kind) c.before.before.next.ensures
 
-returns-4 : tie.Need-returns-in_default
-returns-4 c =
+returns_4 : tie.Need-returns-in_default
+returns_4 c =
     let d = c in
     let p = d.before.before.before.before.before.requires in
     let pci = frame_pci d.before.before.before.before.before.args.frame.now in
@@ -49,5 +49,5 @@ pub by_kind_spec : {M : Type 1} → statement M
 by_kind_spec =
     tie.close
     (tie.spec (λ c. search rules) (λ c κs. search rules) (λ c κs. search rules) (λ c κs. search rules)
-    (λ c κs. search rules) (λ c. search rules) returns (λ c. search rules) returns-2 (λ c. search rules)
-    returns-3 returns-4)
+    (λ c κs. search rules) (λ c. search rules) returns (λ c. search rules) returns_2 (λ c. search rules)
+    returns_3 returns_4)

@@ -11,14 +11,14 @@ use Rattle.transport.proofs.reassembly.Reassembly.first.Lts.{then-length-lt7-via
 use Rattle.transport.proofs.reassembly.Reassembly.first.Statement.{statement}
 use Rattle.transport.proofs.reassembly.Reassembly.first.Tie as tie
 
-cast-length-2 : tie.Need-overflow_cast-length-2
-cast-length-2 c = omega (arith, c.shared_slice_known-3-1.given 2)
+cast_length_2 : tie.Need-overflow_cast-length-2
+cast_length_2 c = omega (arith, c.shared_slice_known-3-1.given 2)
 
-add-length : tie.Need-overflow_add-length
-add-length c = omega (arith, c.shared_slice_known-3-1.given 2)
+add_length : tie.Need-overflow_add-length
+add_length c = omega (arith, c.shared_slice_known-3-1.given 2)
 
-cast-if2 : tie.Need-overflow_cast-length-else-length-lt7
-cast-if2 c = omega (arith, c.before.shared_slice_known-3-1.given 2)
+cast_if2 : tie.Need-overflow_cast-length-else-length-lt7
+cast_if2 c = omega (arith, c.before.shared_slice_known-3-1.given 2)
 
 returns : tie.Need-returns-then-length-lt7
 returns c =
@@ -28,15 +28,15 @@ returns c =
           leaves_plain _ _ _ _ _ (first_high _ _ _ w.if-length-lt7.false (ltb-true _ _ w.if-buffer-length.true-raw)) c.answering.ensures
     ]
 
-deliver-requires : tie.Need-deliver-requires
-deliver-requires c κs =
+deliver_requires : tie.Need-deliver-requires
+deliver_requires c κs =
     let a = c.before.before.before.before.before.before.before.args in
     let high = ltb-false (length a.buffer.now) (first_length a.frame.now) c.before.if-buffer-length.false-raw in
     (search rules, omega arith)
 
-returns-2 : tie.Need-returns
+returns_2 : tie.Need-returns
 unfolding first_step
-returns-2 c =
+returns_2 c =
     let d = c in
     let a = d.before.before.before.before.before.before.before.before.before.before.before.args in
     let taken = first_taken a.self a.frame.now a.buffer.now d.before.before.before.before.before.before.if-length-lt7.false (ltb-false _ _ d.before.before.before.before.before.if-buffer-length.false-raw) in
@@ -46,5 +46,5 @@ pub first_spec : {M : Type 1} → statement M
 first_spec =
     tie.close
     (tie.spec (λ c. search rules) (λ c. search rules) (λ c. search rules) (λ c. search rules) (λ c. search rules)
-    cast-length-2 add-length cast-if2 (λ c κs. search rules) returns deliver-requires (λ c. search rules)
-    (λ c. search rules) returns-2)
+    cast_length_2 add_length cast_if2 (λ c κs. search rules) returns deliver_requires (λ c. search rules)
+    (λ c. search rules) returns_2)

@@ -9,9 +9,9 @@ returns : tie.Need-returns-in-Nothing
 unfolding fits
 returns c = rw c.in-Nothing.is
 
-returns-2 : tie.Need-returns-in-Open
+returns_2 : tie.Need-returns-in-Open
 unfolding fits
-returns-2 c = c.fits.ensures ∙ rw c.before.in-Open.is
+returns_2 c = c.fits.ensures ∙ rw c.before.in-Open.is
 
 pub fits_spec : {M : Type 1} → statement M
-fits_spec = tie.close (tie.spec (λ c. search rules) (λ c. search rules) (λ c κs. search rules) returns returns-2)
+fits_spec = tie.close (tie.spec (λ c. search rules) (λ c. search rules) (λ c κs. search rules) returns returns_2)

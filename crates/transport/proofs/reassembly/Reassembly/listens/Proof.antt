@@ -9,13 +9,13 @@ returns : tie.Need-returns-in-Nothing
 unfolding listens
 returns c = rw c.in-Nothing.is
 
-returns-2 : tie.Need-returns-then-nad-ne0
+returns_2 : tie.Need-returns-then-nad-ne0
 unfolding listens
-returns-2 c = simp (c.before.before.in-Open.is, ne_eqb _ _ c.before.if-nad-ne0.true)
+returns_2 c = simp (c.before.before.in-Open.is, ne_eqb _ _ c.before.if-nad-ne0.true)
 
-returns-3 : tie.Need-returns-else-nad-ne0
+returns_3 : tie.Need-returns-else-nad-ne0
 unfolding listens
-returns-3 c = simp (c.before.in-Open.is, eq-eqb _ _ c.if-nad-ne0.false)
+returns_3 c = simp (c.before.in-Open.is, eq-eqb _ _ c.if-nad-ne0.false)
 
 pub listens_spec : {M : Type 1} → statement M
-listens_spec = tie.close (tie.spec (λ c. search rules) (λ c. search rules) returns returns-2 returns-3)
+listens_spec = tie.close (tie.spec (λ c. search rules) (λ c. search rules) returns returns_2 returns_3)

@@ -7,20 +7,20 @@ use Rattle.transport.proofs.Outcomes.{leaves_plain}
 use Rattle.transport.proofs.reassembly.Reassembly.next.Statement.{statement}
 use Rattle.transport.proofs.reassembly.Reassembly.next.Tie as tie
 
-next-requires : tie.Need-next-requires
+next_requires : tie.Need-next-requires
 unfolding fits
-next-requires c κs = (rw c.before.in-Open.is at c.before.before.before.before.requires.0, search rules)
+next_requires c κs = (rw c.before.in-Open.is at c.before.before.before.before.requires.0, search rules)
 
 returns : tie.Need-returns-in-Nothing
 unfolding next_outcome
 returns c = leaves_plain _ _ _ _ _ (rw c.before.in-Nothing.is) c.answering.ensures
 
-returns-2 : tie.Need-returns-in-Open
+returns_2 : tie.Need-returns-in-Open
 unfolding next_outcome
-returns-2 c = rw c.before.before.before.before.in-Open.is c.before.before.next.ensures
+returns_2 c = rw c.before.before.before.before.in-Open.is c.before.before.next.ensures
 
 pub next_spec : {M : Type 1} → statement M
 next_spec =
     tie.close
-    (tie.spec (λ c. search rules) (λ c κs. search rules) (λ c. search rules) next-requires returns
-    (λ c. search rules) returns-2)
+    (tie.spec (λ c. search rules) (λ c κs. search rules) (λ c. search rules) next_requires returns
+    (λ c. search rules) returns_2)

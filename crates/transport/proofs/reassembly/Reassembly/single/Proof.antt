@@ -9,9 +9,9 @@ use Rattle.transport.proofs.reassembly.Reassembly.single.Tie as tie
 returns : tie.Need-returns-then-buffer-bytes
 returns c = leaves_plain _ _ _ _ _ (single_ignored _ _ _ c.before.if-buffer-bytes.true) c.answering.ensures
 
-returns-2 : tie.Need-returns
+returns_2 : tie.Need-returns
 unfolding single_step
-returns-2 c =
+returns_2 c =
     let d = c in
     let a = d.before.before.before.before.before.before.before.before.args in
     leaves_written _ (single_step a.frame.now) _ _ _ (single_taken a.self a.frame.now a.buffer.now d.before.before.before.before.if-buffer-bytes.false) refl c.before.before.deliver.ensures
@@ -20,4 +20,4 @@ pub single_spec : {M : Type 1} → statement M
 single_spec =
     tie.close
     (tie.spec (λ c. search rules) (λ c. search rules) (λ c. search rules) (λ c κs. search rules) returns
-    (λ c κs. search rules) (λ c. search rules) returns-2)
+    (λ c κs. search rules) (λ c. search rules) returns_2)

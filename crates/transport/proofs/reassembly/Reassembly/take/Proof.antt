@@ -11,28 +11,28 @@ use Rattle.transport.proofs.reassembly.Reassembly.take.Tie as tie
 returns : tie.Need-returns-then-not-fits
 returns c = take_told_lem _ _ _ _ _ (leaves_plain _ _ _ _ _ (step_unfit _ _ _ (sym c.before.before.fits.ensures ∙ not-true _ c.before.if-not-fits.true-raw)) c.refused.ensures)
 
-returns-2 : tie.Need-returns-then-frame-ne8
-returns-2 c =
+returns_2 : tie.Need-returns-then-frame-ne8
+returns_2 c =
     let fit = sym c.before.before.before.fits.ensures ∙ not-false _ c.before.before.if-not-fits.false-raw in
     take_told_lem _ _ _ _ _ (leaves_plain _ _ _ _ _ (step_length _ _ _ fit c.before.if-frame-ne8.true) c.refused-then-frame-ne8.ensures)
 
-returns-3 : tie.Need-returns-then-not-listens
-returns-3 c =
+returns_3 : tie.Need-returns-then-not-listens
+returns_3 c =
     let d = c in
     let fit = sym d.before.before.before.before.before.before.fits.ensures ∙ not-false _ d.before.before.before.before.before.if-not-fits.false-raw in
     take_told_lem _ _ _ _ _ (leaves_plain _ _ _ _ _ (step_nad _ _ _ fit d.before.before.before.before.if-frame-ne8.false (sym c.before.before.listens.ensures ∙ not-true _ c.before.if-not-listens.true-raw)) c.answering.ensures)
 
-by-kind-requires : tie.Need-by_kind-requires
-by-kind-requires c κs =
+by_kind_requires : tie.Need-by_kind-requires
+by_kind_requires c κs =
     let d = c in
     (sym d.before.before.before.before.before.before.fits.ensures ∙ not-false _ d.before.before.before.before.before.if-not-fits.false-raw, d.before.before.before.before.if-frame-ne8.false, sym c.before.before.listens.ensures ∙ not-false _ c.before.if-not-listens.false-raw)
 
-returns-4 : tie.Need-returns
-returns-4 c = take_told_lem _ _ _ _ _ c.before.before.by_kind.ensures
+returns_4 : tie.Need-returns
+returns_4 c = take_told_lem _ _ _ _ _ c.before.before.by_kind.ensures
 
 pub take_spec : {M : Type 1} → statement M
 take_spec =
     tie.close
-    (tie.spec (λ c κs. search rules) (λ c κs. search rules) returns (λ c κs. search rules) returns-2
-    (λ c. search rules) (λ c κs. search rules) (λ c κs. search rules) returns-3 by-kind-requires
-    (λ c. search rules) returns-4)
+    (tie.spec (λ c κs. search rules) (λ c κs. search rules) returns (λ c κs. search rules) returns_2
+    (λ c. search rules) (λ c κs. search rules) (λ c κs. search rules) returns_3 by_kind_requires
+    (λ c. search rules) returns_4)
