@@ -1,31 +1,41 @@
 // Two calls on bytes: the search for the first one of a value, and the copy to the front of a buffer.
 #![tactic(auto)]
 
-ghost use Rattle.std.specs.Prelude.{◌≡◌, ◌+◌, ◌≤◌, ◌++◌, length, take, drop};
+ghost use Rattle.std.specs.Prelude.{◌≡◌, ◌+◌, ◌<◌, ◌≤◌, ◌++◌, length, min, take, drop};
 ghost use Rattle.scan.specs.Bytes.{index_of, slice};
 
-// The place of the first byte of a value from one place up to another, and the second place where there is none.
+// The place of the first byte of a value from one place up to another, or up to the end; where there is none, the place behind those that
+// were looked at.
 pub fn find(bytes: &[u8], from: usize, to: usize, byte: u8) -> usize
-    requires ordered { from ≤ to }
-    requires within { to ≤ length bytes.now }
     ensures index { result ≡ from + index_of byte (slice from to bytes.now) }
-    ensures at_most { result ≤ to }
+    ensures at_most { from ≤ to → result ≤ to }
 {
-    for i in from..to {
+    let end = least(to, bytes.len());
+    for i in from..end {
         if bytes[i] == byte {
             return i;
         }
     }
-    to
+    if from < end { end } else { from }
 }
 
-// Copies bytes to the front of a buffer that has room for them, and tells how many there are.
+// Copies bytes to the front of a buffer that has room for them, and tells how many there are; to any other it copies nothing, and tells 0.
 pub fn copy(from: &[u8], to: &mut [u8]) -> usize
-    requires { length from.now ≤ length to.old }
-    ensures count { result ≡ length from.now }
-    ensures left { to.new ≡ take (length from.now) from.now ++ drop (length from.now) to.old }
+    ensures count { length from.now ≤ length to.old → result ≡ length from.now }
+    ensures left { length from.now ≤ length to.old → to.new ≡ take (length from.now) from.now ++ drop (length from.now) to.old }
+    ensures no_room { length to.old < length from.now → (result ≡ 0) × (to.new ≡ to.old) }
 {
     let n = from.len();
+    if to.len() < n {
+        return 0;
+    }
     to[..n].copy_from_slice(from);
     n
+}
+
+// The lesser of two numbers.
+fn least(a: usize, b: usize) -> usize
+    ensures { result ≡ min a b }
+{
+    if a < b { a } else { b }
 }

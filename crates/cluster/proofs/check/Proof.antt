@@ -15,7 +15,7 @@ use Rattle.cluster.proofs.check.Tie as tie
 -- the table where each section is passed
 
 abbrev table1 : tie.In_default → List ℕ
-table1 c = c.before.before.before.args.t.now
+table1 c = c.args.t.now
 
 abbrev table2 : tie.In_default-judge → List ℕ
 table2 c = table1 c.before.before
@@ -38,34 +38,34 @@ table7 c = table6 c.before.before
 -- what is left to be judged behind each section that accepts
 
 header_right : (c : tie.In_default) → header_faults (table1 c) ≡ Accepted
-header_right c = sym c.before.judge.ensures ∙ c.in_default.is
+header_right c = sym c.judge.ensures ∙ c.in_default.is
 
 frames_left : (c : tie.In_default) → judged (table1 c) ≡ from_frames (table1 c)
 frames_left c = judged_sections (table1 c) ∙ rw (header_right c)
 
 frames_right : (c : tie.In_default-judge) → frame_faults (table2 c) ≡ Accepted
-frames_right c = sym c.before.judge-2.ensures ∙ c.in_default-judge.is
+frames_right c = sym c.judge-2.ensures ∙ c.in_default-judge.is
 
 signals_left : (c : tie.In_default-judge) → judged (table2 c) ≡ from_signals (table2 c)
 signals_left c = frames_left c.before.before ∙ rw (frames_right c)
 
 signals_right : (c : tie.In_default-judge-2) → signal_faults (table3 c) ≡ Accepted
-signals_right c = sym c.before.judge-3.ensures ∙ c.in_default-judge-2.is
+signals_right c = sym c.judge-3.ensures ∙ c.in_default-judge-2.is
 
 placements_left : (c : tie.In_default-judge-2) → judged (table3 c) ≡ from_placements (table3 c)
 placements_left c = signals_left c.before.before ∙ rw (signals_right c)
 
 unplaced_left : (c : tie.In_default-judge-3) → judged (table4 c) ≡ from_unplaced (table4 c)
-unplaced_left c = placements_left c.before.before ∙ rw (sym c.before.judge-4.ensures ∙ c.in_default-judge-3.is)
+unplaced_left c = placements_left c.before.before ∙ rw (sym c.judge-4.ensures ∙ c.in_default-judge-3.is)
 
 members_left : (c : tie.In_default-unplaced) → judged (table5 c) ≡ from_members (table5 c)
-members_left c = unplaced_left c.before.before ∙ rw (sym c.before.unplaced.ensures ∙ c.in_default-unplaced.is)
+members_left c = unplaced_left c.before.before ∙ rw (sym c.unplaced.ensures ∙ c.in_default-unplaced.is)
 
 entries_left : (c : tie.In_default-judge-4) → judged (table6 c) ≡ from_entries (table6 c)
-entries_left c = members_left c.before.before ∙ rw (sym c.before.judge-5.ensures ∙ c.in_default-judge-4.is)
+entries_left c = members_left c.before.before ∙ rw (sym c.judge-5.ensures ∙ c.in_default-judge-4.is)
 
 nothing_left : (c : tie.In_default-judge-5) → judged (table7 c) ≡ surplus (table7 c)
-nothing_left c = entries_left c.before.before ∙ rw (sym c.before.judge-6.ensures ∙ c.in_default-judge-5.is)
+nothing_left c = entries_left c.before.before ∙ rw (sym c.judge-6.ensures ∙ c.in_default-judge-5.is)
 
 -- what the header says, where each section is passed
 
@@ -79,15 +79,15 @@ header5 c = header3 c.before.before.before.before
 
 returns : tie.Need-returns-in-Refused
 returns c =
-    let refused = sym c.before.judge.ensures ∙ c.in-Refused.is in
-    check_told_lem _ _ (rw (judged_sections c.before.before.before.args.t.now, refused))
+    let refused = sym c.judge.ensures ∙ c.in-Refused.is in
+    check_told_lem _ _ (rw (judged_sections c.args.t.now, refused))
 
 judge_requires_2 : tie.Need-judge-requires-2
 judge_requires_2 c κs = (header_passed (table1 c) (header_right c)).0
 
 returns_2 : tie.Need-returns-in-Refused-judge
 returns_2 c =
-    let refused = sym c.before.judge-2.ensures ∙ c.in-Refused-judge.is in
+    let refused = sym c.judge-2.ensures ∙ c.in-Refused-judge.is in
     check_told_lem _ _ (rw (frames_left c.before.before, refused))
 
 judge_requires_3 : tie.Need-judge-requires-3
@@ -97,7 +97,7 @@ judge_requires_3 c κs =
 
 returns_3 : tie.Need-returns-in-Refused-judge-2
 returns_3 c =
-    let refused = sym c.before.judge-3.ensures ∙ c.in-Refused-judge-2.is in
+    let refused = sym c.judge-3.ensures ∙ c.in-Refused-judge-2.is in
     check_told_lem _ _ (rw (signals_left c.before.before, refused))
 
 -- the records that those behind the signals name
@@ -109,12 +109,12 @@ judge_requires_4 c κs = ((header_passed (table3 c) (header_right (header3 c))).
 
 returns_4 : tie.Need-returns-in-Refused-judge-3
 returns_4 c =
-    let refused = sym c.before.judge-4.ensures ∙ c.in-Refused-judge-3.is in
+    let refused = sym c.judge-4.ensures ∙ c.in-Refused-judge-3.is in
     check_told_lem _ _ (rw (placements_left c.before.before, refused))
 
 returns_5 : tie.Need-returns-in-Refused-unplaced
 returns_5 c =
-    let refused = sym c.before.unplaced.ensures ∙ c.in-Refused-unplaced.is in
+    let refused = sym c.unplaced.ensures ∙ c.in-Refused-unplaced.is in
     check_told_lem _ _ (rw (unplaced_left c.before.before, refused))
 
 judge_requires_5 : tie.Need-judge-requires-5
@@ -124,7 +124,7 @@ judge_requires_5 c κs =
 
 returns_6 : tie.Need-returns-in-Refused-judge-4
 returns_6 c =
-    let refused = sym c.before.judge-5.ensures ∙ c.in-Refused-judge-4.is in
+    let refused = sym c.judge-5.ensures ∙ c.in-Refused-judge-4.is in
     check_told_lem _ _ (rw (members_left c.before.before, refused))
 
 judge_requires_6 : tie.Need-judge-requires-6
@@ -134,7 +134,7 @@ judge_requires_6 c κs =
 
 returns_7 : tie.Need-returns-in-Refused-judge-5
 returns_7 c =
-    let refused = sym c.before.judge-6.ensures ∙ c.in-Refused-judge-5.is in
+    let refused = sym c.judge-6.ensures ∙ c.in-Refused-judge-5.is in
     check_told_lem _ _ (rw (entries_left c.before.before, refused))
 
 returns_8 : tie.Need-returns

@@ -11,7 +11,7 @@ returns c = rw c.in-Byte.is (omega arith)
 
 returns_2 : tie.Need-returns-in-Refused
 unfolding coded
-returns_2 c = rw c.before.in-Refused.is (omega arith)
+returns_2 c = rw c.in-Refused.is (omega arith)
 
 pub coded_spec : {M : Type 1} → statement M
 coded_spec =

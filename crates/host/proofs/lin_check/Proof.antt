@@ -9,15 +9,15 @@ use Rattle.host.specs.Coded.{table_coded}
 use Rattle.host.proofs.lin_check.Statement.{statement}
 use Rattle.host.proofs.lin_check.Tie as tie
 
-refused : (c : tie.In-Refused) → taken_of c.before.before.before.args.table.now ≡ Refused c.in-Refused.refusal
-refused c = sym c.before.taken.ensures.0 ∙ c.in-Refused.is
+refused : (c : tie.In-Refused) → taken_of c.args.table.now ≡ Refused c.in-Refused.refusal
+refused c = sym c.taken.ensures.0 ∙ c.in-Refused.is
 
 placed_requires : tie.Need-placed-requires
 placed_requires c κs = omega (arith, taken_high _ _ (refused c))
 
 returns : tie.Need-returns-in-Accepted
 unfolding table_coded
-returns c = rw (sym c.before.taken.ensures.0 ∙ c.in-Accepted.is)
+returns c = rw (sym c.taken.ensures.0 ∙ c.in-Accepted.is)
 
 returns_2 : tie.Need-returns-in-Refused
 unfolding table_coded

@@ -8,11 +8,11 @@ use Rattle.host.proofs.lin_checksum.Tie as tie
 
 returns : tie.Need-returns-then-model-eq0
 unfolding wish_of
-returns c = simp (eq-eqb _ _ c.before.before.if-model-eq0.true) (c.coded.ensures ∙ ap coded c.before.of.ensures.0)
+returns c = simp (eq-eqb _ _ c.if-model-eq0.true) (c.coded.ensures ∙ ap coded c.of.ensures.0)
 
 returns_2 : tie.Need-returns-else-model-eq0
 unfolding wish_of
-returns_2 c = simp (ne_eqb _ _ c.before.before.if-model-eq0.false) (c.coded-else-model-eq0.ensures ∙ ap coded c.before.of-else-model-eq0.ensures.0)
+returns_2 c = simp (ne_eqb _ _ c.if-model-eq0.false) (c.coded-else-model-eq0.ensures ∙ ap coded c.of-else-model-eq0.ensures.0)
 
 pub lin_checksum_spec : {M : Type 1} → statement M
 lin_checksum_spec =

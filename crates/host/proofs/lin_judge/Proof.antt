@@ -10,20 +10,20 @@ use Rattle.host.proofs.lin_judge.Statement.{statement}
 use Rattle.host.proofs.lin_judge.Tie as tie
 
 refused : (c : tie.In-Refused)
-    → judge_of c.before.before.before.args.table.now c.before.before.before.args.tick c.before.before.before.args.bit
+    → judge_of c.args.table.now c.args.tick c.args.bit
     ≡ Refused c.in-Refused.refusal
-refused c = sym c.before.judge.ensures.0 ∙ c.in-Refused.is
+refused c = sym c.judge.ensures.0 ∙ c.in-Refused.is
 
 placed_requires : tie.Need-placed-requires
 placed_requires c κs = omega (arith, refused_high _ _ _ _ (refused c))
 
 returns : tie.Need-returns-in-Holds
 unfolding judge_coded
-returns c = rw (sym c.before.judge.ensures.0 ∙ c.in-Holds.is)
+returns c = rw (sym c.judge.ensures.0 ∙ c.in-Holds.is)
 
 returns_2 : tie.Need-returns-in-Short
 unfolding judge_coded
-returns_2 c = rw (sym c.before.judge.ensures.0 ∙ c.in-Short.is) (omega arith)
+returns_2 c = rw (sym c.judge.ensures.0 ∙ c.in-Short.is) (omega arith)
 
 returns_3 : tie.Need-returns-in-Refused
 unfolding judge_coded

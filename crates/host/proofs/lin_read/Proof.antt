@@ -6,7 +6,7 @@ use Rattle.host.proofs.lin_read.Statement.{statement}
 use Rattle.host.proofs.lin_read.Tie as tie
 
 returns : tie.Need-returns
-returns c = c.coded.ensures ∙ ap coded c.before.read.ensures.0
+returns c = c.coded.ensures ∙ ap coded c.read.ensures.0
 
 pub lin_read_spec : {M : Type 1} → statement M
 lin_read_spec = tie.close (tie.spec (λ c κs. search rules) (λ c κs. search rules) returns)

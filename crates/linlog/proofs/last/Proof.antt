@@ -8,15 +8,14 @@ returns : tie.Need-returns-then-kept-eq0
 returns c = nothing_left _ _ _ _ (omega arith) c.ended.ensures
 
 whole_lines_requires : tie.Need-whole_lines-requires
-whole_lines_requires c κs = (simp length-set (omega arith), simp length-set c.before.before.before.before.before.requires.1)
+whole_lines_requires c κs = (simp length-set (omega arith), simp length-set c.requires.1)
 
 same_length : tie.Need-shape_of-text
-same_length c = c.before.before.before.before.before.whole_lines.auto.text ∙ simp length-set
+same_length c = c.whole_lines.auto.text ∙ simp length-set
 
 returns_2 : tie.Need-returns
 returns_2 c =
-    let start = c in
-    line_left start.before.before.before.before.before.before.before.before.before.before.before.args.log _ start.before.before.before.before.before.before.before.before.before.before.before.args.text.now _ (omega arith) start.before.before.before.before.before.before.before.before.before.before.before.requires.0 c.before.before.before.before.before.whole_lines.ensures c.ended-2.ensures
+    line_left c.args.log _ c.args.text.now _ (omega arith) c.requires.0 c.whole_lines.ensures c.ended-2.ensures
 
 pub last_spec : {M : Type 1} → statement M
 last_spec =

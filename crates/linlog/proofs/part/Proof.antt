@@ -6,32 +6,26 @@ use Rattle.linlog.proofs.part.Tie as tie
 
 returns : tie.Need-returns-then-got-lt0
 returns c =
-    let start = c in
-    let bad = negative start.before.before.before.before.args.got start.before.before.before.before.ranges.got c.before.if-got-lt0.true in
+    let bad = negative c.args.got c.ranges.got c.if-got-lt0.true in
     goes_failed _ _ _ _ _ _ _ bad.0 bad.1 record { no_rows = refl; none_kept = c.ended.ensures.0; over = c.ended.ensures.1 }
 
 returns_2 : tie.Need-returns-then-more-eq0
 returns_2 c =
-    let start = c in
-    let was = c in
-    let none = counted start.before.before.before.before.before.before.before.before.before.before.before.before.before.args.got _ _ _ start.before.before.before.before.before.before.before.before.before.before.before.before.before.ranges.got start.before.before.before.before.before.before.before.before.before.before.before.before.before.requires.1
-    c.before.before.before.before.before.before.before.before.before.before.if-got-lt0.false
-    was.before.before.before.before.before.before.before.before.count-more.ensures.1 (simp (length-take, length-drop) (omega arith)) in
-    goes_over _ _ _ _ _ _ _ (rw was.before.before.before.before.before.before.before.if-more-eq0.true at none) c.before.before.before.before.last.ensures
+    let none = counted c.args.got _ _ _ c.ranges.got c.requires.1
+    c.if-got-lt0.false
+    c.count-more.ensures.1 (simp (length-take, length-drop) (omega arith)) in
+    goes_over _ _ _ _ _ _ _ (rw c.if-more-eq0.true at none) c.last.ensures
 
 whole_lines_requires : tie.Need-whole_lines-requires
 whole_lines_requires c κs =
-    let start = c in
-    (omega (arith, start.before.before.before.before.before.before.before.before.requires.0, simp (length-take, length-drop) at c.before.before.before.count-more.ensures.0.0), start.before.before.before.before.before.before.before.before.requires.2)
+    (omega (arith, c.requires.0, simp (length-take, length-drop) at c.count-more.ensures.0.0), c.requires.2)
 
 returns_3 : tie.Need-returns
 returns_3 c =
-    let start = c in
-    let was = c in
-    let some = counted start.before.before.before.before.before.before.before.before.before.before.before.before.before.args.got _ _ _ start.before.before.before.before.before.before.before.before.before.before.before.before.before.ranges.got start.before.before.before.before.before.before.before.before.before.before.before.before.before.requires.1
-    c.before.before.before.before.before.before.before.before.before.before.if-got-lt0.false
-    was.before.before.before.before.before.before.before.before.count-more.ensures.1 (simp (length-take, length-drop) (omega arith)) in
-    goes_on _ _ _ _ _ _ _ _ some (omega arith) (omega (arith, start.before.before.before.before.before.before.before.before.before.before.before.before.before.requires.0)) c.before.before.before.before.whole_lines.ensures
+    let some = counted c.args.got _ _ _ c.ranges.got c.requires.1
+    c.if-got-lt0.false
+    c.count-more.ensures.1 (simp (length-take, length-drop) (omega arith)) in
+    goes_on _ _ _ _ _ _ _ _ some (omega arith) (omega (arith, c.requires.0)) c.whole_lines.ensures
 
 pub part_spec : {M : Type 1} → statement M
 part_spec =

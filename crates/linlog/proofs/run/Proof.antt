@@ -20,8 +20,8 @@ loop_holds c = (refl, refl, rw c.started-log.ensures (omega arith), omega arith,
 
 turn_requires : tie.Need-turn-log-requires invariant_loop decreases_loop
 turn_requires c κs =
-    let now = c.before.before.before.before.loop-turns.invariant in
-    let asked = c.before.before.before.before.before.before.before.before.requires in
+    let now = c.loop-turns.invariant in
+    let asked = c.requires in
     (omega (arith, now.0, now.2, asked.0), omega (arith, now.0, now.1, asked.1))
 
 sub_turns : tie.Need-overflow_sub-turns invariant_loop decreases_loop
@@ -32,35 +32,34 @@ loop_less c = omega arith
 
 loop_again : tie.Need-loop-turns-preserved invariant_loop decreases_loop
 loop_again c =
-    let test = c in
-    let now = test.before.before.before.before.before.before.before.before.before.loop-turns.invariant in
-    let turn = c.before.before.before.before.turn-log in
-    let left = test.before.before.before.before.before.before.before.before.before.loop-turns.turns in
-    let more : 18446744073709551615 - (left - 1) ≡ suc (18446744073709551615 - left) = omega (arith, now.3, test.before.before.before.before.before.before.before.before.loop-turns-test.true) in (
+    let now = c.loop-turns.invariant in
+    let turn = c.turn-log in
+    let left = c.loop-turns.turns in
+    let more : 18446744073709551615 - (left - 1) ≡ suc (18446744073709551615 - left) = omega (arith, now.3, c.loop-turns-test.true) in (
       turn.auto.text ∙ now.0,
       turn.auto.out ∙ now.1,
       few_kept _ _ _ _ _ _ turn.ensures,
       omega (arith, now.3),
-      rw more (turned now.4 c.before.before.before.before.before.before.before.if-log.true turn.ensures),
+      rw more (turned now.4 c.if-log.true turn.ensures),
     )
 
 same_length : tie.Need-shape_of-text-else-log invariant_loop decreases_loop
-same_length c = c.before.before.loop-turns.invariant.0
+same_length c = c.loop-turns.invariant.0
 
 same_length_2 : tie.Need-shape_of-out-else-log invariant_loop decreases_loop
-same_length_2 c = c.before.before.loop-turns.invariant.1
+same_length_2 c = c.loop-turns.invariant.1
 
 returns : tie.Need-returns-else-log invariant_loop decreases_loop
-returns c = record { turns = _; last = _; ran = c.before.before.loop-turns.invariant.4; over = inl c.if-log.false }
+returns c = record { turns = _; last = _; ran = c.loop-turns.invariant.4; over = inl c.if-log.false }
 
 same_length_3 : tie.Need-shape_of-text-after-loop-turns invariant_loop decreases_loop
-same_length_3 c = c.before.loop-turns.invariant.0
+same_length_3 c = c.loop-turns.invariant.0
 
 same_length_4 : tie.Need-shape_of-out-after-loop-turns invariant_loop decreases_loop
-same_length_4 c = c.before.loop-turns.invariant.1
+same_length_4 c = c.loop-turns.invariant.1
 
 returns_2 : tie.Need-returns-after-loop-turns invariant_loop decreases_loop
-returns_2 c = record { turns = _; last = _; ran = c.before.loop-turns.invariant.4; over = inr (omega (arith, c.loop-turns-test.false)) }
+returns_2 c = record { turns = _; last = _; ran = c.loop-turns.invariant.4; over = inr (omega (arith, c.loop-turns-test.false)) }
 
 pub run_spec : {M : Type 1} → statement M
 run_spec =

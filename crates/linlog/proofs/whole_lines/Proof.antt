@@ -7,29 +7,27 @@ use Rattle.linlog.proofs.whole_lines.Statement.{statement}
 use Rattle.linlog.proofs.whole_lines.Tie as tie
 
 slice_aggregate_write_2 : tie.Need-slice_bounds-write-end-3
-slice_aggregate_write_2 c = sym (length-take-le _ c.before.before.before.before.args.text.now (omega (arith, c.before.before.before.before.requires.0)))
+slice_aggregate_write_2 c = sym (length-take-le _ c.args.text.now (omega (arith, c.requires.0)))
 
 slice_reshare_prefix_write_out : tie.Need-slice_bounds-write_out-end
-slice_reshare_prefix_write_out c = put_within _ _ _ _ _ _ _ c.before.before.write-written.ensures.0
+slice_reshare_prefix_write_out c = put_within _ _ _ _ _ _ _ c.write-written.ensures.0
 
 slice_aggregate_write_out : tie.Need-slice_bounds-write_out-end-2
-slice_aggregate_write_out c = sym (length-take-le _ _ (put_within _ _ _ _ _ _ _ c.before.before.write-written.ensures.0))
+slice_aggregate_write_out c = sym (length-take-le _ _ (put_within _ _ _ _ _ _ _ c.write-written.ensures.0))
 
 slice_aggregate_keep : tie.Need-slice_bounds-keep-end-2
-slice_aggregate_keep c = sym (length-take-le _ c.before.before.before.before.before.before.before.before.before.before.before.args.text.now (omega (
+slice_aggregate_keep c = sym (length-take-le _ c.args.text.now (omega (
   arith,
-  c.before.before.before.before.before.before.before.before.before.before.before.requires.0,
+  c.requires.0,
 )))
 
 returns : tie.Need-returns
 returns c =
-    let start = c in
-    let wrote = c in
-    let few : longest_row * length (take start.before.before.before.before.before.before.before.before.before.before.before.before.before.before.args.n start.before.before.before.before.before.before.before.before.before.before.before.before.before.before.args.text.now) ≤ length start.before.before.before.before.before.before.before.before.before.before.before.before.before.before.args.out.now =
-    omega (arith, length-take-le start.before.before.before.before.before.before.before.before.before.before.before.before.before.before.args.n start.before.before.before.before.before.before.before.before.before.before.before.before.before.before.args.text.now start.before.before.before.before.before.before.before.before.before.before.before.before.before.before.requires.0, start.before.before.before.before.before.before.before.before.before.before.before.before.before.before.requires.1) in
-    step start.before.before.before.before.before.before.before.before.before.before.before.before.before.before.args.log _ _ (take start.before.before.before.before.before.before.before.before.before.before.before.before.before.before.args.n start.before.before.before.before.before.before.before.before.before.before.before.before.before.before.args.text.now) start.before.before.before.before.before.before.before.before.before.before.before.before.before.before.args.out.now _ _ few
-    c.before.before.before.before.before.before.before.before.before.before.before.table-table.ensures
-    wrote.before.before.before.before.before.before.before.before.write-written.ensures.0 _ _ c.before.before.before.before.wrapping_add_u64.ensures c.before.before.keep.ensures
+    let few : longest_row * length (take c.args.n c.args.text.now) ≤ length c.args.out.now =
+    omega (arith, length-take-le c.args.n c.args.text.now c.requires.0, c.requires.1) in
+    step c.args.log _ _ (take c.args.n c.args.text.now) c.args.out.now _ _ few
+    c.table-table.ensures
+    c.write-written.ensures.0 _ _ c.wrapping_add_u64.ensures c.keep.ensures
 
 pub whole_lines_spec : {M : Type 1} → statement M
 whole_lines_spec =

@@ -10,9 +10,9 @@ use Rattle.signal.proofs.get.Tie as tie
 returns : tie.Need-returns
 unfolding get_scalar
 returns c =
-    let o = c.before.before.before.args.offset in
+    let o = c.args.offset in
     let e : 8 * (o / 8) + o % 8 ≡ o = omega arith in
-    rw (e, c.before.scalar_width.ensures) at c.get_at.ensures
+    rw (e, c.scalar_width.ensures) at c.get_at.ensures
 
 pub get_spec : {M : Type 1} → statement M
 get_spec = tie.close (tie.spec (λ c. search rules) (λ c κs. search rules) (λ c κs. search rules) returns)

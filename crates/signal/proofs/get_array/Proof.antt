@@ -21,20 +21,20 @@ loop_holds c = (omega arith, refl, gotten_none _ _)
 
 loop_again : tie.Need-loop-i-preserved invariant_loop decreases_loop
 loop_again c =
-    let o = c.before.before.before.before.before.args.offset in
-    let i = c.before.before.loop-i.i in
+    let o = c.args.offset in
+    let i = c.loop-i.i in
     let e : 8 * (o / 8 + i) + o % 8 ≡ o + 8 * i = omega arith in (
       omega arith,
-      simp length-set c.before.before.loop-i.invariant.1,
-      get_turn _ _ _ _ _ _ _ _ e (omega arith) c.before.before.loop-i.invariant.2 c.get_at.ensures,
+      simp length-set c.loop-i.invariant.1,
+      get_turn _ _ _ _ _ _ _ _ e (omega arith) c.loop-i.invariant.2 c.get_at.ensures,
     )
 
 same_length : tie.Need-shape_of-values invariant_loop decreases_loop
-same_length c = c.before.loop-i.invariant.1
+same_length c = c.loop-i.invariant.1
 
 returns : tie.Need-returns invariant_loop decreases_loop
 unfolding get_array
-returns c = c.before.loop-i.invariant.2 ∙ gotten_all _ _ _ (omega arith)
+returns c = c.loop-i.invariant.2 ∙ gotten_all _ _ _ (omega arith)
 
 pub get_array_spec : {M : Type 1} → statement M
 get_array_spec =

@@ -12,15 +12,15 @@ cast_result : tie.Need-overflow_cast-result
 cast_result c =
     omega (
       arith,
-      mod-lt (c.before.before.window.result / c.before.power.result) c.power-2.ensures.1,
+      mod-lt (c.window.result / c.power.result) c.power-2.ensures.1,
       c.power-2.ensures.0,
-      pow_mono {j = 16} c.before.before.before.before.requires.2,
+      pow_mono {j = 16} c.requires.2,
     )
 
 returns : tie.Need-returns
 returns c =
-    rw (c.before.power.ensures.0, c.power-2.ensures.0)
-    (get_window _ _ _ _ _ (omega arith) c.before.before.window.ensures)
+    rw (c.power.ensures.0, c.power-2.ensures.0)
+    (get_window _ _ _ _ _ (omega arith) c.window.ensures)
 
 pub get_at_spec : {M : Type 1} → statement M
 get_at_spec =

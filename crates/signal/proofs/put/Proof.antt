@@ -10,9 +10,9 @@ use Rattle.signal.proofs.put.Tie as tie
 returns : tie.Need-returns
 unfolding put_scalar
 returns c =
-    let o = c.before.before.before.before.before.before.args.offset in
+    let o = c.args.offset in
     let e : 8 * (o / 8) + o % 8 ≡ o = omega arith in
-    rw (e, c.before.before.before.scalar_width.ensures) at c.before.before.put_at.ensures
+    rw (e, c.scalar_width.ensures) at c.put_at.ensures
 
 pub put_spec : {M : Type 1} → statement M
 put_spec =

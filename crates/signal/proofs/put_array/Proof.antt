@@ -19,24 +19,24 @@ decreases_loop bytes₀ offset values i₀ bytes i = length values - i
 
 loop_holds : tie.Need-loop-i-init invariant_loop decreases_loop
 loop_holds c =
-    (omega arith, sym (put_none _ _ _ (λ i. (c.before.slice_known-1.given i).fits)))
+    (omega arith, sym (put_none _ _ _ (λ i. (c.slice_known-1.given i).fits)))
 
 cast_put_at_2 : tie.Need-overflow_cast-values invariant_loop decreases_loop
-cast_put_at_2 c = omega (arith, c.shared_slice_known-in-loop-i-1.given c.before.before.before.loop-i.i)
+cast_put_at_2 c = omega (arith, c.shared_slice_known-in-loop-i-1.given c.loop-i.i)
 
 loop_again : tie.Need-loop-i-preserved invariant_loop decreases_loop
 loop_again c =
-    let o = c.before.before.before.before.before.before.before.before.before.args.offset in
-    let i = c.before.before.before.before.before.before.loop-i.i in
+    let o = c.args.offset in
+    let i = c.loop-i.i in
     let e : 8 * (o / 8 + i) + o % 8 ≡ o + 8 * i = omega arith in
-    (omega arith, put_turn _ _ _ _ _ _ _ _ e c.before.before.before.before.before.before.loop-i.invariant.1 c.before.before.put_at.ensures)
+    (omega arith, put_turn _ _ _ _ _ _ _ _ e c.loop-i.invariant.1 c.put_at.ensures)
 
 same_length : tie.Need-shape_of-bytes invariant_loop decreases_loop
-same_length c = ap length c.before.loop-i.invariant.1 ∙ put_length _ _ _ _
+same_length c = ap length c.loop-i.invariant.1 ∙ put_length _ _ _ _
 
 returns : tie.Need-returns invariant_loop decreases_loop
 unfolding put_array
-returns c = let e : c.before.loop-i.i ≡ length c.before.before.before.before.args.values.now = omega arith in c.before.loop-i.invariant.1 ∙ rw e
+returns c = let e : c.loop-i.i ≡ length c.args.values.now = omega arith in c.loop-i.invariant.1 ∙ rw e
 
 pub put_array_spec : {M : Type 1} → statement M
 put_array_spec =

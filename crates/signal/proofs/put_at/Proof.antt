@@ -12,11 +12,10 @@ with_field_requires c κs = (rw c.window.ensures (number_below 24 _), search rul
 
 returns : tie.Need-returns
 returns c =
-    let d = c in
-    c.before.before.set_byte-3.ensures
-    ∙ rw (c.before.before.before.before.before.before.set_byte-2.ensures, c.before.before.before.before.before.before.before.before.before.before.set_byte.ensures)
-    (put_window _ _ _ _ _ _ _ (λ i. (d.before.before.before.before.before.before.before.before.before.before.before.before.before.before.slice_known-1.given i).fits) (omega (arith, d.before.before.before.before.before.before.before.before.before.before.before.before.before.before.before.requires))
-    d.before.before.before.before.before.before.before.before.before.before.before.before.before.window.ensures d.before.before.before.before.before.before.before.before.before.before.before.before.with_field-new.ensures)
+    c.set_byte-3.ensures
+    ∙ rw (c.set_byte-2.ensures, c.set_byte.ensures)
+    (put_window _ _ _ _ _ _ _ (λ i. (c.slice_known-1.given i).fits) (omega (arith, c.requires))
+    c.window.ensures c.with_field-new.ensures)
 
 pub put_at_spec : {M : Type 1} → statement M
 put_at_spec =

@@ -6,8 +6,8 @@ use Rattle.signal.proofs.window.Tie as tie
 
 returns : tie.Need-returns
 returns c =
-    rw (c.before.before.byte.ensures.0, c.before.byte-2.ensures.0, c.byte-3.ensures.0)
-    (window_is _ _ (λ i. (c.before.before.before.shared_slice_known-1.given i).fits))
+    rw (c.byte.ensures.0, c.byte-2.ensures.0, c.byte-3.ensures.0)
+    (window_is _ _ (λ i. (c.shared_slice_known-1.given i).fits))
 
 pub window_spec : {M : Type 1} → statement M
 window_spec =

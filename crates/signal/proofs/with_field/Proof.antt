@@ -11,18 +11,18 @@ use Rattle.signal.proofs.with_field.Tie as tie
 returns : tie.Need-returns
 returns c =
     field_sum _ _ _ _ _ _ _ _
-    (rw c.before.before.before.before.field_end.ensures at c.before.before.before.power-above.ensures.0)
-    c.before.before.power.ensures.0
-    c.before.power-2.ensures.0
+    (rw c.field_end.ensures at c.power-above.ensures.0)
+    c.power.ensures.0
+    c.power-2.ensures.0
     c.power-3.ensures.0
-    c.before.before.before.before.before.requires.1
-    c.before.before.before.before.before.requires.2
-    c.before.before.before.before.before.requires.0
+    c.requires.1
+    c.requires.2
+    c.requires.0
 
 fits : (c : tie.After-power-3) →
-    c.before.before.before.before.before.args.old % c.before.before.power.result
-    + c.before.before.before.before.before.args.value % c.before.power-2.result * c.power-3.result
-    + c.before.before.before.before.before.args.old / c.before.before.before.power-above.result * c.before.before.before.power-above.result
+    c.args.old % c.power.result
+    + c.args.value % c.power-2.result * c.power-3.result
+    + c.args.old / c.power-above.result * c.power-above.result
     < 2 ^ 24
 fits c = rw (returns c) (number_below 24 _)
 

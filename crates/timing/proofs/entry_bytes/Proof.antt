@@ -12,31 +12,29 @@ use Rattle.timing.proofs.entry_bytes.Tie as tie
 
 returns : tie.Need-returns-then-kind-eq0
 returns c =
-    let a = c.before.before.before.before.before.args in
-    let kind = sym c.before.before.before.kind-kind.ensures ∙ c.before.if-kind-eq0.true in
-    c.length.ensures ∙ ap (frame_length a.t.now) c.before.before.target-target.ensures ∙ sym (frame_bytes a.t.now a.e kind)
+    let a = c.args in
+    let kind = sym c.kind-kind.ensures ∙ c.if-kind-eq0.true in
+    c.length.ensures ∙ ap (frame_length a.t.now) c.target-target.ensures ∙ sym (frame_bytes a.t.now a.e kind)
 
 element_copy_out_result : tie.Need-bounds-longest-target
 element_copy_out_result c =
-    let a = c in
-    let t = a.before.before.before.before.before.before.args.t.now in
-    let kind = sym c.before.before.before.before.kind-kind.ensures ∙ c.before.if-kind-eq1.true in
-    let there = list_target t a.before.before.before.before.before.before.requires.0 a.before.before.before.before.before.before.args.e a.before.before.before.before.before.before.requires.1 kind in
-    omega (arith, c.before.before.before.target-target.ensures, there, list_count_lem t a.before.before.before.before.before.before.requires.0, member_count_lem t a.before.before.before.before.before.before.requires.0)
+    let t = c.args.t.now in
+    let kind = sym c.kind-kind.ensures ∙ c.if-kind-eq1.true in
+    let there = list_target t c.requires.0 c.args.e c.requires.1 kind in
+    omega (arith, c.target-target.ensures, there, list_count_lem t c.requires.0, member_count_lem t c.requires.0)
 
 returns_2 : tie.Need-returns-then-kind-eq1
 returns_2 c =
-    let a = c in
-    let t = a.before.before.before.before.before.before.before.args.t.now in
-    let target = c.before.before.before.before.target-target.ensures in
-    let kind = sym c.before.before.before.before.before.kind-kind.ensures ∙ c.before.before.if-kind-eq1.true in
-    rw target (a.before.before.before.before.before.before.before.requires.2 (entry_target t a.before.before.before.before.before.before.before.args.e) ∙ sym (list_bytes t a.before.before.before.before.before.before.before.args.e kind))
+    let t = c.args.t.now in
+    let target = c.target-target.ensures in
+    let kind = sym c.kind-kind.ensures ∙ c.if-kind-eq1.true in
+    rw target (c.requires.2 (entry_target t c.args.e) ∙ sym (list_bytes t c.args.e kind))
 
 returns_3 : tie.Need-returns
 returns_3 c =
-    let a = c.before.before.before.before.before.args in
-    let kind = c.before.before.before.kind-kind.ensures in
-    sym (other_bytes a.t.now a.e (λ k. c.before.if-kind-eq0.false (kind ∙ k)) (λ k. c.if-kind-eq1.false (kind ∙ k)))
+    let a = c.args in
+    let kind = c.kind-kind.ensures in
+    sym (other_bytes a.t.now a.e (λ k. c.if-kind-eq0.false (kind ∙ k)) (λ k. c.if-kind-eq1.false (kind ∙ k)))
 
 pub entry_bytes_spec : {M : Type 1} → statement M
 entry_bytes_spec =

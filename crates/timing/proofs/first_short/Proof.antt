@@ -25,35 +25,35 @@ loop_holds c = (c.count-n.ensures, rw (c.count-n.ensures, sub-zero))
 
 entry_bytes_requires : tie.Need-entry_bytes-requires invariant_loop decreases_loop
 entry_bytes_requires c κs =
-    let at = c.before.before.before.loop-e in (
-      c.before.before.before.before.before.before.before.requires,
-      omega (arith, at.invariant.0, c.before.before.loop-e-test.true),
-      c.before.before.before.before.before.longest_members-longest.ensures,
+    let at = c.loop-e in (
+      c.requires,
+      omega (arith, at.invariant.0, c.loop-e-test.true),
+      c.longest_members-longest.ensures,
     )
 
 -- whether the slot of the entry at hand is short
 short : (c : tie.After-slot_holds invariant_loop decreases_loop)
     → not (entry_holds
-    c.before.before.before.before.before.before.before.before.before.args.t.now
-    c.before.before.before.before.before.before.before.before.before.args.tick
-    c.before.before.before.before.before.before.before.before.before.args.bit
-    c.before.before.before.before.before.loop-e.e)
+    c.args.t.now
+    c.args.tick
+    c.args.bit
+    c.loop-e.e)
     ≡ not c.slot_holds.result
-short c = short_by _ _ _ _ _ _ _ c.before.before.before.delay.ensures c.before.entry_bytes.ensures c.slot_holds.ensures
+short c = short_by _ _ _ _ _ _ _ c.delay.ensures c.entry_bytes.ensures c.slot_holds.ensures
 
 returns : tie.Need-returns-then-not-slot_holds invariant_loop decreases_loop
 returns c =
     sym
-    (c.before.before.before.before.before.before.loop-e.invariant.1
-    ∙ right _ _ _ c.before.before.before.before.before.loop-e-test.true (short c.before ∙ c.if-not-slot_holds.true-raw))
+    (c.loop-e.invariant.1
+    ∙ right _ _ _ c.loop-e-test.true (short c.before ∙ c.if-not-slot_holds.true-raw))
 
 loop_again : tie.Need-loop-e-preserved invariant_loop decreases_loop
 loop_again c =
-    let inv = c.before.before.before.before.before.before.loop-e.invariant in
-    (inv.0, inv.1 ∙ wrong _ _ _ c.before.before.before.before.before.loop-e-test.true (short c.before ∙ c.if-not-slot_holds.false-raw))
+    let inv = c.loop-e.invariant in
+    (inv.0, inv.1 ∙ wrong _ _ _ c.loop-e-test.true (short c.before ∙ c.if-not-slot_holds.false-raw))
 
 returns_2 : tie.Need-returns invariant_loop decreases_loop
-returns_2 c = sym (c.before.loop-e.invariant.1 ∙ ended _ _ _ c.loop-e-test.false)
+returns_2 c = sym (c.loop-e.invariant.1 ∙ ended _ _ _ c.loop-e-test.false)
 
 pub first_short_spec : {M : Type 1} → statement M
 first_short_spec =

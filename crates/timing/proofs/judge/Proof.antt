@@ -14,39 +14,37 @@ use Rattle.timing.proofs.judge.Statement.{statement}
 use Rattle.timing.proofs.judge.Tie as tie
 
 -- the table is taken where its check refuses nothing
-taken : (c : tie.After-times_right) → taken_of c.before.before.before.before.args.t.now ≡ Accepted
-taken c = sym c.before.before.taken.ensures.0 ∙ c.before.in_default.is
+taken : (c : tie.After-times_right) → taken_of c.args.t.now ≡ Accepted
+taken c = sym c.taken.ensures.0 ∙ c.in_default.is
 
 -- and the times are right where their test says so
 times : (c : tie.Else-not-times_right)
-    → (time_right c.before.before.before.before.before.args.tick && time_right c.before.before.before.before.before.args.bit)
+    → (time_right c.args.tick && time_right c.args.bit)
     ≡ true
-times c = sym c.before.times_right.ensures ∙ not-false _ c.if-not-times_right.false-raw
+times c = sym c.times_right.ensures ∙ not-false _ c.if-not-times_right.false-raw
 
 returns : tie.Need-returns-in-Refused
-returns c = judge_told_lem _ _ _ _ (sym (table_refused _ _ _ _ (sym c.before.taken.ensures.0 ∙ c.in-Refused.is)))
+returns c = judge_told_lem _ _ _ _ (sym (table_refused _ _ _ _ (sym c.taken.ensures.0 ∙ c.in-Refused.is)))
 
 returns_2 : tie.Need-returns-then-not-times_right
 returns_2 c =
     judge_told_lem _ _ _ _
     (ap Refused c.of.ensures
-    ∙ sym (time_refused _ _ _ (taken c.before.before) (sym c.before.before.times_right.ensures ∙ not-true _ c.before.if-not-times_right.true-raw)))
+    ∙ sym (time_refused _ _ _ (taken c.before.before) (sym c.times_right.ensures ∙ not-true _ c.if-not-times_right.true-raw)))
 
 first_short_requires : tie.Need-first_short-e-requires
 first_short_requires c κs = taken_right _ (taken c.before)
 
 returns_3 : tie.Need-returns-then-e-count
 returns_3 c =
-    let d = c in
-    let e = c.before.before.first_short-e.ensures in
-    let here = short_told_lem _ _ _ (taken d.before.before.before.before) (times d.before.before.before) (omega (arith, e, c.before.count.ensures, c.if-e-count.true)) in
+    let e = c.first_short-e.ensures in
+    let here = short_told_lem _ _ _ (taken c.before.before.before.before) (times c.before.before.before) (omega (arith, e, c.count.ensures, c.if-e-count.true)) in
     judge_told_lem _ _ _ _ (ap Short e ∙ sym here)
 
 returns_4 : tie.Need-returns-else-e-count
 returns_4 c =
-    let d = c in
-    let e = c.before.before.first_short-e.ensures in
-    let none = none_short _ _ _ (taken d.before.before.before.before) (times d.before.before.before) (omega (arith, e, c.before.count.ensures, c.if-e-count.false)) in
+    let e = c.first_short-e.ensures in
+    let none = none_short _ _ _ (taken c.before.before.before.before) (times c.before.before.before) (omega (arith, e, c.count.ensures, c.if-e-count.false)) in
     judge_told_lem _ _ _ _ (sym none)
 
 pub judge_spec : {M : Type 1} → statement M

@@ -21,18 +21,18 @@ loop_holds c = (c.count-n.ensures, rw (sub-zero, c.count-n.ensures) refl)
 returns : tie.Need-returns-then-identifier-id invariant_loop decreases_loop
 returns c =
     sym
-    (c.before.before.before.loop-f.invariant.1
-    ∙ right _ _ _ c.before.before.loop-f-test.true (eq-eqb _ _ (sym c.before.identifier.ensures ∙ c.if-identifier-id.true)))
+    (c.loop-f.invariant.1
+    ∙ right _ _ _ c.loop-f-test.true (eq-eqb _ _ (sym c.identifier.ensures ∙ c.if-identifier-id.true)))
 
 loop_again : tie.Need-loop-f-preserved invariant_loop decreases_loop
 loop_again c = (
-  c.before.before.before.loop-f.invariant.0,
-  c.before.before.before.loop-f.invariant.1
-      ∙ wrong _ _ _ c.before.before.loop-f-test.true (ne_eqb _ _ (λ e. c.if-identifier-id.false (c.before.identifier.ensures ∙ e))),
+  c.loop-f.invariant.0,
+  c.loop-f.invariant.1
+      ∙ wrong _ _ _ c.loop-f-test.true (ne_eqb _ _ (λ e. c.if-identifier-id.false (c.identifier.ensures ∙ e))),
 )
 
 returns_2 : tie.Need-returns invariant_loop decreases_loop
-returns_2 c = sym (c.before.loop-f.invariant.1 ∙ ended _ _ _ c.loop-f-test.false)
+returns_2 c = sym (c.loop-f.invariant.1 ∙ ended _ _ _ c.loop-f-test.false)
 
 pub frame_with_spec : {M : Type 1} → statement M
 frame_with_spec =

@@ -8,13 +8,13 @@ use Rattle.buslog.proofs.judge.judge.Statement.{statement}
 use Rattle.buslog.proofs.judge.judge.Tie as tie
 
 of_line_requires : tie.Need-of_line-requires
-of_line_requires c κs = taken_right _ (sym c.before.taken.ensures.0 ∙ c.in-Accepted.is)
+of_line_requires c κs = taken_right _ (sym c.taken.ensures.0 ∙ c.in-Accepted.is)
 
 returns : tie.Need-returns-in-Refused
-returns c = judge_told_lem _ _ _ (judge_refused _ _ _ (sym c.before.taken.ensures.0 ∙ c.in-Refused.is))
+returns c = judge_told_lem _ _ _ (judge_refused _ _ _ (sym c.taken.ensures.0 ∙ c.in-Refused.is))
 
 returns_2 : tie.Need-returns-in-Accepted
-returns_2 c = judge_told_lem _ _ _ (judge_accepted _ _ _ (sym c.before.before.taken.ensures.0 ∙ c.before.in-Accepted.is) c.of_line.ensures)
+returns_2 c = judge_told_lem _ _ _ (judge_accepted _ _ _ (sym c.taken.ensures.0 ∙ c.in-Accepted.is) c.of_line.ensures)
 
 pub judge_spec : {M : Type 1} → statement M
 judge_spec =

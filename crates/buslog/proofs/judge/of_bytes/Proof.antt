@@ -7,19 +7,19 @@ use Rattle.buslog.proofs.judge.of_bytes.Tie as tie
 
 of_identifier_requires : tie.Need-of_identifier-requires
 of_identifier_requires c κs = (
-  c.before.before.before.before.before.before.requires.0,
+  c.requires.0,
   read_below _
-      c.before.in-Byte.id (sym c.before.before.read.ensures.0 ∙ c.before.in-Byte.is),
+      c.in-Byte.id (sym c.read.ensures.0 ∙ c.in-Byte.is),
 )
 
 returns : tie.Need-returns-in-Refused
-returns c = wrong_parity _ _ c.in-Refused.field-0 c.before.before.before.before.before.requires.1 (sym c.before.read.ensures.0 ∙ c.in-Refused.is)
+returns c = wrong_parity _ _ c.in-Refused.field-0 c.requires.1 (sym c.read.ensures.0 ∙ c.in-Refused.is)
 
 returns_2 : tie.Need-returns-in-Byte
 returns_2 c =
     c.of_identifier.ensures
-    ∙ by_identifier _ _ _ _ c.before.before.before.before.before.before.before.requires.1 refl
-    (sym c.before.before.before.read.ensures.0 ∙ c.before.before.in-Byte.is)
+    ∙ by_identifier _ _ _ _ c.requires.1 refl
+    (sym c.read.ensures.0 ∙ c.in-Byte.is)
 
 pub of_bytes_spec : {M : Type 1} → statement M
 of_bytes_spec =

@@ -10,32 +10,31 @@ use Rattle.buslog.proofs.judge.of_identifier.Tie as tie
 returns : tie.Need-returns-then-id-eq60
 returns c =
     c.of_known.ensures
-    ∙ diagnostic _ _ _ (⊎_elim (λ w. rw (eq-eqb _ 60 w)) (λ w. rw (ne_eqb _ 60 w.0, w.1)) c.before.then-id-eq60.either)
+    ∙ diagnostic _ _ _ (⊎_elim (λ w. rw (eq-eqb _ 60 w)) (λ w. rw (ne_eqb _ 60 w.0, w.1)) c.then-id-eq60.either)
 
 of_known_requires_2 : tie.Need-of_known-requires-then-f-count
 of_known_requires_2 c κs =
-    let s = c in
-    let n = c.before.length.ensures in
-    let t = s.before.before.before.before.before.before.before.before.before.args.t.now in
-    let f = c.before.before.before.before.frame_with-f.result in
-    let k : f < frame_count t = omega (arith, c.before.before.before.count.ensures) in
-    (s.before.before.before.before.before.before.before.before.before.requires.1, omega (arith, frame_length_low t s.before.before.before.before.before.before.before.before.before.requires.0 f k, n), omega (arith, frame_length_high t s.before.before.before.before.before.before.before.before.before.requires.0 f k, n))
+    let n = c.length.ensures in
+    let t = c.args.t.now in
+    let f = c.frame_with-f.result in
+    let k : f < frame_count t = omega (arith, c.count.ensures) in
+    (c.requires.1, omega (arith, frame_length_low t c.requires.0 f k, n), omega (arith, frame_length_high t c.requires.0 f k, n))
 
 returns_2 : tie.Need-returns-then-f-count
 returns_2 c =
     c.of_known-then-f-count.ensures
     ∙ listed _ _ _ (rw (
-      ne_eqb _ 60 c.before.before.before.before.before.before.before.if-id-eq60.false,
-      c.before.before.before.before.before.before.if-id-eq61.false-raw,
+      ne_eqb _ 60 c.if-id-eq60.false,
+      c.if-id-eq61.false-raw,
     )) _ _ _
-    c.before.before.before.before.before.frame_with-f.ensures
-    (omega (arith, c.before.before.before.before.count.ensures)) c.before.before.length.ensures c.before.model.ensures
+    c.frame_with-f.ensures
+    (omega (arith, c.count.ensures)) c.length.ensures c.model.ensures
 
 returns_3 : tie.Need-returns
 returns_3 c = unlisted _ _ _ (rw (
-  ne_eqb _ 60 c.before.before.before.before.if-id-eq60.false,
-  c.before.before.before.if-id-eq61.false-raw,
-)) _ c.before.before.frame_with-f.ensures (omega (arith, c.before.count.ensures))
+  ne_eqb _ 60 c.if-id-eq60.false,
+  c.if-id-eq61.false-raw,
+)) _ c.frame_with-f.ensures (omega (arith, c.count.ensures))
 
 pub of_identifier_spec : {M : Type 1} → statement M
 of_identifier_spec =

@@ -6,23 +6,23 @@ use Rattle.buslog.proofs.judge.of_line.Statement.{statement}
 use Rattle.buslog.proofs.judge.of_line.Tie as tie
 
 returns : tie.Need-returns-then-n-eq0
-returns c = no_bytes _ _ (sym c.before.before.read-read.ensures.front ∙ rw c.if-n-eq0.true)
+returns c = no_bytes _ _ (sym c.read-read.ensures.front ∙ rw c.if-n-eq0.true)
 
 array_share_prefix_bytes : tie.Need-slice_bounds-bytes-end
-array_share_prefix_bytes c = c.before.before.read-read.ensures.within
+array_share_prefix_bytes c = c.read-read.ensures.within
 
 slice_aggregate_of_bytes : tie.Need-slice_bounds-of_bytes-end
-slice_aggregate_of_bytes c = sym (length-take-le _ c.before.before.before.read-read.result.bytes c.before.before.before.read-read.ensures.within)
+slice_aggregate_of_bytes c = sym (length-take-le _ c.read-read.result.bytes c.read-read.ensures.within)
 
 of_bytes_requires : tie.Need-of_bytes-requires
 of_bytes_requires c κs = (
-  c.before.before.before.before.before.before.requires,
+  c.requires,
   omega
-      (arith, length-take-le _ c.before.before.before.read-read.result.bytes c.before.before.before.read-read.ensures.within),
+      (arith, length-take-le _ c.read-read.result.bytes c.read-read.ensures.within),
 )
 
 returns_2 : tie.Need-returns
-returns_2 c = c.of_bytes.ensures ∙ by_bytes _ _ _ c.before.before.before.before.read-read.ensures.front
+returns_2 c = c.of_bytes.ensures ∙ by_bytes _ _ _ c.read-read.ensures.front
 
 pub of_line_spec : {M : Type 1} → statement M
 of_line_spec =

@@ -5,14 +5,14 @@ use Rattle.buslog.proofs.pairs.pair.Statement.{statement}
 use Rattle.buslog.proofs.pairs.pair.Tie as tie
 
 returns : tie.Need-returns-then-high-gt15
-returns c = no_high _ _ (omega (arith, c.before.before.before.digit-high.ensures))
+returns c = no_high _ _ (omega (arith, c.digit-high.ensures))
 
 returns_2 : tie.Need-returns-then-low-gt15
-returns_2 c = no_low _ _ (omega (arith, c.before.before.digit-low.ensures))
+returns_2 c = no_low _ _ (omega (arith, c.digit-low.ensures))
 
 returns_3 : tie.Need-returns
-returns_3 c = pair_there _ _ (omega (arith, c.before.before.before.before.digit-high.ensures))
-    (omega (arith, c.before.before.digit-low.ensures)) c.before.before.before.before.digit-high.ensures c.before.before.digit-low.ensures
+returns_3 c = pair_there _ _ (omega (arith, c.digit-high.ensures))
+    (omega (arith, c.digit-low.ensures)) c.digit-high.ensures c.digit-low.ensures
 
 pub pair_spec : {M : Type 1} → statement M
 pair_spec =

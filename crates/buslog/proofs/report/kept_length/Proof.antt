@@ -5,7 +5,7 @@ use Rattle.buslog.proofs.report.kept_length.Statement.{statement}
 use Rattle.buslog.proofs.report.kept_length.Tie as tie
 
 returns : tie.Need-returns-then-length-from
-returns c = let e : c.before.args.length - c.before.args.from ≡ 0 = omega arith in rw e
+returns c = let e : c.args.length - c.args.from ≡ 0 = omega arith in rw e
 
 returns_2 : tie.Need-returns-then-rest-lt30
 returns_2 c = sym (min-eq_right (omega arith))

@@ -8,15 +8,14 @@ use Rattle.buslog.proofs.report.write.Statement.{statement}
 use Rattle.buslog.proofs.report.write.Tie as tie
 
 rows_requires : tie.Need-rows-requires
-rows_requires c κs = taken_right _ (sym c.before.before.taken.ensures.0 ∙ c.before.in-Accepted.is)
+rows_requires c κs = taken_right _ (sym c.taken.ensures.0 ∙ c.in-Accepted.is)
 
 returns : tie.Need-returns-in-Refused
-returns c = report_told_lem _ _ _ _ _ _ _ (refuses _ _ _ _ _ (sym c.before.taken.ensures.0 ∙ c.in-Refused.is))
+returns c = report_told_lem _ _ _ _ _ _ _ (refuses _ _ _ _ _ (sym c.taken.ensures.0 ∙ c.in-Refused.is))
 
 returns_2 : tie.Need-returns-in-Accepted
 returns_2 c =
-    let d = c in
-    report_told_lem _ _ _ _ _ _ _ (accepts _ _ _ _ (sym d.before.before.before.before.before.taken.ensures.0 ∙ d.before.before.before.before.in-Accepted.is) c.before.before.rows.ensures)
+    report_told_lem _ _ _ _ _ _ _ (accepts _ _ _ _ (sym c.taken.ensures.0 ∙ c.in-Accepted.is) c.rows.ensures)
 
 pub write_spec : {M : Type 1} → statement M
 write_spec =

@@ -9,13 +9,13 @@ use Rattle.buslog.proofs.row.put.Tie as tie
 add_result : tie.Need-overflow_add-result
 add_result c = omega (
   arith,
-  fronts_within _ c.before.before.put_verdict.ensures c.before.before.put_verdict.auto.out,
-  c.before.before.before.before.before.before.put_decimal-digits.ensures.1,
+  fronts_within _ c.put_verdict.ensures c.put_verdict.auto.out,
+  c.put_decimal-digits.ensures.1,
 )
 
 returns : tie.Need-returns
 unfolding row_of verdict_text
-returns c = behind _ _ _ c.before.before.before.before.before.before.put_decimal-digits.ensures.0 c.before.before.put_verdict.ensures refl
+returns c = behind _ _ _ c.put_decimal-digits.ensures.0 c.put_verdict.ensures refl
 
 pub put_spec : {M : Type 1} → statement M
 put_spec =

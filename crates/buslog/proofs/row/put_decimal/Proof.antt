@@ -13,43 +13,40 @@ abbrev decreases_loop : tie.decreases-loop-rest
 decreases_loop out number digits₀ at₀ rest₀ digits at rest = rest
 
 loop_holds : tie.Need-loop-rest-init invariant_loop decreases_loop
-loop_holds c = (refl, omega arith, omega arith, decimal c.before.args.number c.before.ranges.number.fits)
+loop_holds c = (refl, omega arith, omega arith, decimal c.args.number c.ranges.number.fits)
 
 sub_at : tie.Need-overflow_sub-at invariant_loop decreases_loop
-sub_at c = fewer c.before.loop-rest.at c.before.loop-rest.rest c.loop-rest-test.true c.before.loop-rest.invariant.2
+sub_at c = fewer c.loop-rest.at c.loop-rest.rest c.loop-rest-test.true c.loop-rest.invariant.2
 
 loop_again : tie.Need-loop-rest-preserved invariant_loop decreases_loop
 loop_again c =
-    let i = c.before.loop-rest.invariant in
-    let f = fewer c.before.loop-rest.at c.before.loop-rest.rest c.loop-rest-test.true i.2 in (
+    let i = c.loop-rest.invariant in
+    let f = fewer c.loop-rest.at c.loop-rest.rest c.loop-rest-test.true i.2 in (
       simp length-set i.0,
       omega arith,
-      shorter c.before.loop-rest.at c.before.loop-rest.rest c.loop-rest-test.true i.2,
-      i.3 ∙ turn c.before.loop-rest.at c.before.loop-rest.rest c.before.loop-rest.digits c.loop-rest-test.true i.2 (omega arith),
+      shorter c.loop-rest.at c.loop-rest.rest c.loop-rest-test.true i.2,
+      i.3 ∙ turn c.loop-rest.at c.loop-rest.rest c.loop-rest.digits c.loop-rest-test.true i.2 (omega arith),
     )
-
-copy_requires : tie.Need-copy-requires invariant_loop decreases_loop
-copy_requires c κs = simp (length-take, length-drop) (omega arith)
 
 returns : tie.Need-returns invariant_loop decreases_loop
 returns c =
-    let e = spelled c.before.before.before.before.before.before.before.before.args.number
-    c.before.before.before.before.before.before.loop-rest.at
-    c.before.before.before.before.before.before.loop-rest.rest
-    c.before.before.before.before.before.before.loop-rest.digits
-    c.before.before.before.before.before.before.loop-rest.invariant.3 (omega arith)
-    c.before.before.before.before.before.before.loop-rest.invariant.0 in (
-      rw (← e) (copied _ _ c.before.before.copy.ensures.0 c.before.before.copy.ensures.1),
+    let e = spelled c.args.number
+    c.loop-rest.at
+    c.loop-rest.rest
+    c.loop-rest.digits
+    c.loop-rest.invariant.3 (omega arith)
+    c.loop-rest.invariant.0 in (
+      rw (← e) (copied _ _ (c.copy.ensures.0 (simp (length-take, length-drop) (omega arith))) (c.copy.ensures.1.0 (simp (length-take, length-drop) (omega arith)))),
       omega (
         arith,
-        c.before.before.copy.ensures.0,
+        (c.copy.ensures.0 (simp (length-take, length-drop) (omega arith))),
         length-take
-            (20 - c.before.before.before.before.before.before.loop-rest.at)
-            (drop c.before.before.before.before.before.before.loop-rest.at
-            c.before.before.before.before.before.before.loop-rest.digits),
+            (20 - c.loop-rest.at)
+            (drop c.loop-rest.at
+            c.loop-rest.digits),
         length-drop
-            c.before.before.before.before.before.before.loop-rest.at
-            c.before.before.before.before.before.before.loop-rest.digits,
+            c.loop-rest.at
+            c.loop-rest.digits,
       ),
     )
 
@@ -58,4 +55,4 @@ put_decimal_spec =
     tie.close
     (tie.spec invariant_loop decreases_loop (λ c. search rules) (λ c. search rules) (λ c. search rules) loop_holds sub_at
     (λ c. search rules) (λ c. search rules) (λ c. search rules) (λ c. search rules) loop_again
-    (λ c. search rules) (λ c. search rules) (λ c. search rules) copy_requires (λ c. search rules) returns)
+    (λ c. search rules) (λ c. search rules) (λ c. search rules) (λ c κs. search rules) (λ c. search rules) returns)

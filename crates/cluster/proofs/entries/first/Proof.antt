@@ -26,18 +26,18 @@ loop_holds c = (c.count-end.ensures, rw (c.count-end.ensures, sub-zero) refl)
 returns : tie.Need-returns-then-schedule-n invariant_loop decreases_loop
 returns c =
     sym
-    (c.before.before.before.loop-e.invariant.1
-    ∙ right _ _ _ c.before.before.loop-e-test.true (eq-eqb _ _ (sym c.before.schedule.ensures ∙ c.if-schedule-n.true)))
+    (c.loop-e.invariant.1
+    ∙ right _ _ _ c.loop-e-test.true (eq-eqb _ _ (sym c.schedule.ensures ∙ c.if-schedule-n.true)))
 
 loop_again : tie.Need-loop-e-preserved invariant_loop decreases_loop
 loop_again c = (
-  c.before.before.before.loop-e.invariant.0,
-  c.before.before.before.loop-e.invariant.1
-      ∙ wrong _ _ _ c.before.before.loop-e-test.true (ne_eqb _ _ (λ e. c.if-schedule-n.false (c.before.schedule.ensures ∙ e))),
+  c.loop-e.invariant.0,
+  c.loop-e.invariant.1
+      ∙ wrong _ _ _ c.loop-e-test.true (ne_eqb _ _ (λ e. c.if-schedule-n.false (c.schedule.ensures ∙ e))),
 )
 
 returns_2 : tie.Need-returns invariant_loop decreases_loop
-returns_2 c = sym (c.before.loop-e.invariant.1 ∙ ended _ _ _ c.loop-e-test.false)
+returns_2 c = sym (c.loop-e.invariant.1 ∙ ended _ _ _ c.loop-e-test.false)
 
 pub first_spec : {M : Type 1} → statement M
 first_spec =

@@ -23,7 +23,7 @@ abbrev Loop : Type 0
 Loop = tie.At-loop-e invariant_loop decreases_loop
 
 abbrev table : Loop → List ℕ
-table c = c.before.before.before.before.before.before.args.t.now
+table c = c.args.t.now
 
 abbrev entry : Loop → ℕ
 entry c = c.loop-e.e
@@ -31,13 +31,13 @@ entry c = c.loop-e.e
 abbrev schedules : Loop → ℕ
 schedules c = c.loop-e.schedules
 
-turn : (c : Loop) → entry c < c.before.before.count-n.result → Turn (table c) (entry c) (schedules c)
+turn : (c : Loop) → entry c < c.count-n.result → Turn (table c) (entry c) (schedules c)
 turn c below =
-    let known = c.before.before.before.before.before.before.requires in
-    (c.loop-e.invariant, omega (arith, c.before.before.count-n.ensures), known.0.0, known.1.0, omega (arith, c.before.before.before.before.lists-lists.ensures))
+    let known = c.requires in
+    (c.loop-e.invariant, omega (arith, c.count-n.ensures), known.0.0, known.1.0, omega (arith, c.lists-lists.ensures))
 
-here : (c : Loop) → c.before.before.before.entry_at-first.result + entry_words * entry c ≡ entry_at (table c) (entry c)
-here c = omega (arith, c.before.before.before.entry_at-first.ensures)
+here : (c : Loop) → c.entry_at-first.result + entry_words * entry c ≡ entry_at (table c) (entry c)
+here c = omega (arith, c.entry_at-first.ensures)
 
 -- what was found of a record that is whole, and of one that is cut off
 
@@ -48,16 +48,16 @@ abbrev loop : Judged → Loop
 loop c = c.before.before.before.before
 
 turn_whole : (c : Judged) → Turn (table (loop c)) (entry (loop c)) (schedules (loop c))
-turn_whole c = turn (loop c) (omega (arith, c.before.before.before.loop-e-test.true, (loop c).before.whole_records-whole.ensures.within))
+turn_whole c = turn (loop c) (omega (arith, c.loop-e-test.true, (loop c).whole_records-whole.ensures.within))
 
-read_at : (c : Judged) → EntryRead (table (loop c)) (entry_at (table (loop c)) (entry (loop c))) c.before.before.read-words.result
-read_at c = rw (here (loop c)) at c.before.before.read-words.ensures
+read_at : (c : Judged) → EntryRead (table (loop c)) (entry_at (table (loop c)) (entry (loop c))) c.read-words.result
+read_at c = rw (here (loop c)) at c.read-words.ensures
 
 seen : (c : Judged) → c.right_words-right.result ≡ leading (entry_read (table (loop c)) (entry (loop c)) (schedules (loop c)))
 seen c =
     let l = loop c in
-    let lists = l.before.before.before.before.lists-lists.ensures.0 in
-    c.right_words-right.ensures ∙ ap leading (seen_read (table l) (entry l) (schedules l) _ (read_at c) _ _ c.before.count.ensures lists)
+    let lists = l.lists-lists.ensures.0 in
+    c.right_words-right.ensures ∙ ap leading (seen_read (table l) (entry l) (schedules l) _ (read_at c) _ _ c.count.ensures lists)
 
 abbrev Cut : Type 0
 Cut = tie.After-right_words-right-then-e-n invariant_loop decreases_loop
@@ -68,28 +68,28 @@ end c = c.before.before.before.before.before
 seen_cut : (c : Cut) → c.right_words-right-then-e-n.result ≡ leading (entry_read (table (end c)) (entry (end c)) (schedules (end c)))
 seen_cut c =
     let l = end c in
-    let lists = l.before.before.before.before.lists-lists.ensures.0 in
-    let read = rw (here l) at c.before.read_due.ensures in
-    c.right_words-right-then-e-n.ensures ∙ ap leading (seen_read (table l) (entry l) (schedules l) _ read _ _ c.before.before.count-then-e-n.ensures lists)
+    let lists = l.lists-lists.ensures.0 in
+    let read = rw (here l) at c.read_due.ensures in
+    c.right_words-right-then-e-n.ensures ∙ ap leading (seen_read (table l) (entry l) (schedules l) _ read _ _ c.count-then-e-n.ensures lists)
 
 turn_cut : (c : Cut) → Turn (table (end c)) (entry (end c)) (schedules (end c))
-turn_cut c = turn (end c) c.before.before.before.if-e-n.true
+turn_cut c = turn (end c) c.if-e-n.true
 
 cut_right : (c : Cut) → leading (entry_read (table (end c)) (entry (end c)) (schedules (end c))) < entry_words
 cut_right c =
     let l = end c in
-    let more = c.before.before.before.if-e-n.true in
-    let reached = c.before.before.before.before.loop-e-test.false in
-    cut_off (table l) (entry l) (schedules l) (turn_cut c) (omega (arith, here l, l.before.whole_records-whole.ensures.cut (omega arith)))
+    let more = c.if-e-n.true in
+    let reached = c.loop-e-test.false in
+    cut_off (table l) (entry l) (schedules l) (turn_cut c) (omega (arith, here l, l.whole_records-whole.ensures.cut (omega arith)))
 
 loop_holds : tie.Need-loop-e-init invariant_loop decreases_loop
-loop_holds c = none_passed c.before.before.before.before.before.args.t.now
+loop_holds c = none_passed c.args.t.now
 
 read_requires : tie.Need-read-words-requires invariant_loop decreases_loop
-read_requires c κs = let l = c in omega (arith, l.before.before.whole_records-whole.ensures.there (entry l.before) c.loop-e-test.true)
+read_requires c κs = omega (arith, c.whole_records-whole.ensures.there (entry c.before) c.loop-e-test.true)
 
 right_words_requires : tie.Need-right_words-right-requires invariant_loop decreases_loop
-right_words_requires c κs = c.before.read-words.ensures.schedule_high
+right_words_requires c κs = c.read-words.ensures.schedule_high
 
 returns : tie.Need-returns-then-right-lt-ENTRY invariant_loop decreases_loop
 unfolding entry_columns
@@ -121,8 +121,7 @@ returns_2 c =
 
 returns_3 : tie.Need-returns invariant_loop decreases_loop
 returns_3 c =
-    let l = c in
-    all_passed _ _ _ l.before.before.loop-e.invariant (omega (arith, l.before.before.before.before.count-n.ensures))
+    all_passed _ _ _ c.loop-e.invariant (omega (arith, c.count-n.ensures))
 
 pub judge_spec : {M : Type 1} → statement M
 judge_spec =

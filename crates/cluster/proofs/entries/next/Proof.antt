@@ -12,21 +12,21 @@ use Rattle.cluster.proofs.entries.next.Tie as tie
 
 returns : tie.Need-returns-then-schedule-n
 returns c =
-    let t = c.before.before.before.before.before.before.before.before.args.t.now in
-    let e = c.before.before.before.before.before.before.before.before.args.e in
-    let s = c.before.before.before.before.before.before.schedule-n.ensures in
-    let k = sym c.before.schedule.ensures ∙ c.if-schedule-n.true ∙ s in
+    let t = c.args.t.now in
+    let e = c.args.e in
+    let s = c.schedule-n.ensures in
+    let k = sym c.schedule.ensures ∙ c.if-schedule-n.true ∙ s in
     rw (add-one e)
     (sym (next_behind t e (omega arith) (rw (add-one e) at k)))
 
 returns_2 : tie.Need-returns
 returns_2 c =
     c.first.ensures
-    ∙ ap (first_entry _) c.before.before.before.schedule-n.ensures
+    ∙ ap (first_entry _) c.schedule-n.ensures
     ∙ sym
-    (next_first _ _ (λ h k. elim c.before.if-e-count.branch [
+    (next_first _ _ (λ h k. elim c.if-e-count.branch [
       | then-e-count+then-e-count-2+else-schedule-n w ↦
-          w.if-schedule-n.false (w.schedule.ensures ∙ ap (entry_schedule _) (add-one _) ∙ k ∙ sym c.before.before.before.schedule-n.ensures)
+          w.if-schedule-n.false (w.schedule.ensures ∙ ap (entry_schedule _) (add-one _) ∙ k ∙ sym c.schedule-n.ensures)
       | then-e-count+else-e-count-2 w ↦ omega arith
       | else-e-count w ↦ omega arith
     ]))

@@ -9,27 +9,27 @@ use Rattle.cluster.proofs.entries.read.Statement.{statement}
 use Rattle.cluster.proofs.entries.read.Tie as tie
 
 cast_t6 : tie.Need-overflow_cast-result
-cast_t6 c = omega (arith, c.shared_slice_known-1.given c.before.args.at)
+cast_t6 c = omega (arith, c.shared_slice_known-1.given c.args.at)
 
 cast_t11 : tie.Need-overflow_cast-result-2
-cast_t11 c = omega (arith, c.shared_slice_known-2-1.given (c.before.before.args.at + 1))
+cast_t11 c = omega (arith, c.shared_slice_known-2-1.given (c.args.at + 1))
 
 cast_t16 : tie.Need-overflow_cast-result-3
-cast_t16 c = omega (arith, c.shared_slice_known-3-1.given (c.before.before.before.args.at + 2))
+cast_t16 c = omega (arith, c.shared_slice_known-3-1.given (c.args.at + 2))
 
 cast_t21 : tie.Need-overflow_cast-result-4
-cast_t21 c = omega (arith, c.shared_slice_known-4-1.given (c.before.before.before.before.args.at + 3))
+cast_t21 c = omega (arith, c.shared_slice_known-4-1.given (c.args.at + 3))
 
 returns : tie.Need-returns
 unfolding word
 returns c =
-    let a = c.before.before.before.before.args in
+    let a = c.args in
     record {
       schedule_is = sym (due_there a.t.now a.at (omega arith));
       kind_is = sym (due_there a.t.now (a.at + 1) (omega arith));
       target_is = sym (due_there a.t.now (a.at + 2) (omega arith));
       delay_is = sym (due_there a.t.now (a.at + 3) (omega arith));
-      schedule_high = omega (arith, c.before.before.before.shared_slice_known-1.given a.at);
+      schedule_high = omega (arith, c.shared_slice_known-1.given a.at);
     }
 
 pub read_spec : {M : Type 1} → statement M

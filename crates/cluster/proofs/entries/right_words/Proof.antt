@@ -10,17 +10,17 @@ use Rattle.cluster.proofs.entries.right_words.Tie as tie
 
 -- the tests that were passed
 
-up : (c : tie.Else-not-follows) → let a = c.before.before.args in follows a.schedules a.words.schedule ≡ true
-up c = sym c.before.follows.ensures ∙ not-false c.before.follows.result c.if-not-follows.false-raw
+up : (c : tie.Else-not-follows) → let a = c.args in follows a.schedules a.words.schedule ≡ true
+up c = sym c.follows.ensures ∙ not-false c.follows.result c.if-not-follows.false-raw
 
 target : (c : tie.Else-not-target_right)
-    → let a = c.before.before.before.before.before.before.args in
+    → let a = c.args in
     target_right a.frames a.lists a.words.kind a.words.target ≡ true
-target c = sym c.before.target_right.ensures ∙ not-false c.before.target_right.result c.if-not-target_right.false-raw
+target c = sym c.target_right.ensures ∙ not-false c.target_right.result c.if-not-target_right.false-raw
 
 returns : tie.Need-returns-then-not-follows
 unfolding entry_columns leading
-returns c = simp (sym c.before.follows.ensures ∙ not-true c.before.follows.result c.if-not-follows.true-raw)
+returns c = simp (sym c.follows.ensures ∙ not-true c.follows.result c.if-not-follows.true-raw)
 
 returns_2 : tie.Need-returns-then-words-gt3
 unfolding entry_columns leading
@@ -29,33 +29,26 @@ returns_2 c = simp (up c.before.before, lt-leb _ _ c.if-words-gt3.true)
 returns_3 : tie.Need-returns-then-not-target_right
 unfolding entry_columns leading
 returns_3 c =
-    let d2 = c in
     simp (
-      up d2.before.before.before.before,
-      le-leb _ _ d2.before.before.if-words-gt3.false,
-      sym c.before.target_right.ensures ∙ not-true c.before.target_right.result c.if-not-target_right.true-raw,
+      up c.before.before.before.before,
+      le-leb _ _ c.if-words-gt3.false,
+      sym c.target_right.ensures ∙ not-true c.target_right.result c.if-not-target_right.true-raw,
     )
 
 returns_4 : tie.Need-returns-then-words-lt1
 unfolding entry_columns leading
 returns_4 c =
-    let d3 = c in
-    let d2 = d3 in
-    simp (up d2.before.before.before.before.before.before, le-leb _ _ d2.before.before.before.before.if-words-gt3.false, target d3.before.before, lt-leb _ _ c.if-words-lt1.true)
+    simp (up c.before.before.before.before.before.before, le-leb _ _ c.if-words-gt3.false, target c.before.before, lt-leb _ _ c.if-words-lt1.true)
 
 returns_5 : tie.Need-returns-then-words-le65535
 unfolding entry_columns leading
 returns_5 c =
-    let d3 = c in
-    let d2 = d3 in
-    simp (up d2.before.before.before.before.before.before.before.before, le-leb _ _ d2.before.before.before.before.before.before.if-words-gt3.false, target d3.before.before.before.before, le-leb _ _ c.before.before.if-words-lt1.false, le-leb _ _ c.if-words-le65535.true)
+    simp (up c.before.before.before.before.before.before.before.before, le-leb _ _ c.if-words-gt3.false, target c.before.before.before.before, le-leb _ _ c.if-words-lt1.false, le-leb _ _ c.if-words-le65535.true)
 
 returns_6 : tie.Need-returns-else-words-le65535
 unfolding entry_columns leading
 returns_6 c =
-    let d3 = c in
-    let d2 = d3 in
-    simp (up d2.before.before.before.before.before.before.before.before, le-leb _ _ d2.before.before.before.before.before.before.if-words-gt3.false, target d3.before.before.before.before, le-leb _ _ c.before.before.if-words-lt1.false, lt-leb _ _ c.if-words-le65535.false)
+    simp (up c.before.before.before.before.before.before.before.before, le-leb _ _ c.if-words-gt3.false, target c.before.before.before.before, le-leb _ _ c.if-words-lt1.false, lt-leb _ _ c.if-words-le65535.false)
 
 pub right_words_spec : {M : Type 1} → statement M
 right_words_spec =

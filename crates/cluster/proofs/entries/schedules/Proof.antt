@@ -9,11 +9,11 @@ use Rattle.cluster.proofs.entries.schedules.Tie as tie
 
 returns : tie.Need-returns-then-n-eq0
 unfolding schedule_count
-returns c = (sym (counted_none _ _ (sym c.before.count-n.ensures ∙ c.if-n-eq0.true)), omega arith)
+returns c = (sym (counted_none _ _ (sym c.count-n.ensures ∙ c.if-n-eq0.true)), omega arith)
 
 returns_2 : tie.Need-returns-else-n-eq0
 unfolding schedule_count
-returns_2 c = (rw (← c.before.before.count-n.ensures, counted_last _ _ c.before.if-n-eq0.false, c.schedule.ensures), omega arith)
+returns_2 c = (rw (← c.count-n.ensures, counted_last _ _ c.if-n-eq0.false, c.schedule.ensures), omega arith)
 
 pub schedules_spec : {M : Type 1} → statement M
 schedules_spec =

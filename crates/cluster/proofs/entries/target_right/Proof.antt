@@ -15,8 +15,8 @@ returns_2 c = rw c.if-kind-eq1.true
 
 returns_3 : tie.Need-returns
 returns_3 c =
-    let a = c.before.before.args in
-    sym (other_kind a.frames a.lists a.kind a.target c.before.if-kind-eq0.false c.if-kind-eq1.false)
+    let a = c.args in
+    sym (other_kind a.frames a.lists a.kind a.target c.if-kind-eq0.false c.if-kind-eq1.false)
 
 pub target_right_spec : {M : Type 1} → statement M
 target_right_spec = tie.close (tie.spec returns returns_2 returns_3)

@@ -24,7 +24,7 @@ abbrev Loop : Type 0
 Loop = tie.At-loop-f invariant_loop decreases_loop
 
 abbrev table : Loop → List ℕ
-table c = c.before.before.before.before.args.t.now
+table c = c.args.t.now
 
 abbrev frame : Loop → ℕ
 frame c = c.loop-f.f
@@ -43,10 +43,10 @@ loop c = c.before.before.before.before.before
 there : (c : Judged) → frame (loop c) < frame_count (table (loop c))
 there c =
     let l = loop c in
-    omega (arith, c.before.before.before.before.loop-f-test.true, l.before.before.count-n.ensures, l.before.whole_records-whole.ensures.within)
+    omega (arith, c.loop-f-test.true, l.count-n.ensures, l.whole_records-whole.ensures.within)
 
-read_at : (c : Judged) → FrameRead (table (loop c)) (frame_at (frame (loop c))) c.before.before.read-words.result
-read_at c = rw c.before.before.before.frame_at-at.ensures at c.before.before.read-words.ensures
+read_at : (c : Judged) → FrameRead (table (loop c)) (frame_at (frame (loop c))) c.read-words.result
+read_at c = rw c.frame_at-at.ensures at c.read-words.ensures
 
 seen : (c : Judged) → c.right_words-right.result ≡ leading (frame_read (table (loop c)) (frame (loop c)) (marks (loop c)))
 seen c = let l = loop c in c.right_words-right.ensures ∙ ap leading (seen_read (table l) (frame l) (marks l) _ (read_at c))
@@ -58,31 +58,30 @@ abbrev end : Cut → Loop
 end c = c.before.before.before.before.before.before
 
 there_cut : (c : Cut) → frame (end c) < frame_count (table (end c))
-there_cut c = omega (arith, c.before.before.before.before.if-f-n.true, (end c).before.before.count-n.ensures)
+there_cut c = omega (arith, c.if-f-n.true, (end c).count-n.ensures)
 
 seen_cut : (c : Cut) → c.right_words.result ≡ leading (frame_read (table (end c)) (frame (end c)) (marks (end c)))
 seen_cut c =
     let l = end c in
-    let read = rw c.before.before.before.frame_at-at-then-f-n.ensures at c.before.read_due.ensures in
+    let read = rw c.frame_at-at-then-f-n.ensures at c.read_due.ensures in
     c.right_words.ensures ∙ ap leading (seen_read (table l) (frame l) (marks l) _ read)
 
 cut_right : (c : Cut) → leading (frame_read (table (end c)) (frame (end c)) (marks (end c))) < frame_words
 cut_right c =
     let l = end c in
-    let more = c.before.before.before.before.if-f-n.true in
-    let reached = c.before.before.before.before.before.loop-f-test.false in
-    cut_off (table l) (frame l) (marks l) l.loop-f.invariant (there_cut c) (omega (arith, l.before.whole_records-whole.ensures.cut (omega arith)))
+    let more = c.if-f-n.true in
+    let reached = c.loop-f-test.false in
+    cut_off (table l) (frame l) (marks l) l.loop-f.invariant (there_cut c) (omega (arith, l.whole_records-whole.ensures.cut (omega arith)))
 
 loop_holds : tie.Need-loop-f-init invariant_loop decreases_loop
-loop_holds c = none_passed c.before.before.before.args.t.now
+loop_holds c = none_passed c.args.t.now
 
 read_requires : tie.Need-read-words-requires invariant_loop decreases_loop
 read_requires c κs =
-    let l = c in
-    omega (arith, c.frame_at-at.ensures, l.before.before.before.whole_records-whole.ensures.there (frame l.before.before) c.before.loop-f-test.true)
+    omega (arith, c.frame_at-at.ensures, c.whole_records-whole.ensures.there (frame c.before.before) c.loop-f-test.true)
 
 right_words_requires : tie.Need-right_words-right-requires invariant_loop decreases_loop
-right_words_requires c κs = c.before.before.before.before.loop-f.invariant.1.0
+right_words_requires c κs = c.loop-f.invariant.1.0
 
 returns : tie.Need-returns-then-right-lt-FRAME invariant_loop decreases_loop
 unfolding frame_columns
@@ -91,7 +90,7 @@ returns c =
     let l = loop d in
     let right = seen d in
     c.fault.ensures
-    ∙ stops (table l) (frame l) (marks l) l.loop-f.invariant (there d) (omega arith) _ (omega (arith, d.before.before.before.frame_at-at.ensures))
+    ∙ stops (table l) (frame l) (marks l) l.loop-f.invariant (there d) (omega arith) _ (omega (arith, d.frame_at-at.ensures))
 
 array_write_used : tie.Need-bounds-used-id invariant_loop decreases_loop
 array_write_used c =
@@ -110,7 +109,7 @@ loop_again c =
     rw (read_at d).identifier_is (passes (table l) (frame l) (marks l) l.loop-f.invariant (there d) (omega arith))
 
 right_words_requires_2 : tie.Need-right_words-requires invariant_loop decreases_loop
-right_words_requires_2 c κs = c.before.before.before.before.before.loop-f.invariant.1.0
+right_words_requires_2 c κs = c.loop-f.invariant.1.0
 
 add_fault_2 : tie.Need-overflow_add-at-then-f-n invariant_loop decreases_loop
 add_fault_2 c = omega (arith, seen_cut c, cut_right c)
@@ -120,12 +119,11 @@ returns_2 c =
     let d : Cut = c.before in
     let l = end d in
     c.fault-then-f-n.ensures
-    ∙ stops (table l) (frame l) (marks l) l.loop-f.invariant (there_cut d) (cut_right d) _ (omega (arith, d.before.before.before.frame_at-at-then-f-n.ensures, seen_cut d))
+    ∙ stops (table l) (frame l) (marks l) l.loop-f.invariant (there_cut d) (cut_right d) _ (omega (arith, d.frame_at-at-then-f-n.ensures, seen_cut d))
 
 returns_3 : tie.Need-returns invariant_loop decreases_loop
 returns_3 c =
-    let l = c in
-    all_passed _ _ l.before.before.loop-f.used l.before.before.loop-f.invariant (omega (arith, l.before.before.before.before.count-n.ensures))
+    all_passed _ _ c.loop-f.used c.loop-f.invariant (omega (arith, c.count-n.ensures))
 
 pub judge_spec : {M : Type 1} → statement M
 judge_spec =

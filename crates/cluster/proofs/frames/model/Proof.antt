@@ -4,10 +4,10 @@ use Rattle.cluster.proofs.frames.model.Statement.{statement}
 use Rattle.cluster.proofs.frames.model.Tie as tie
 
 returns : tie.Need-returns-then-classic
-returns c = rw (← c.before.classic.ensures, c.if-classic.true)
+returns c = rw (← c.classic.ensures, c.if-classic.true)
 
 returns_2 : tie.Need-returns-else-classic
-returns_2 c = rw (← c.before.classic.ensures, c.if-classic.false)
+returns_2 c = rw (← c.classic.ensures, c.if-classic.false)
 
 pub model_spec : {M : Type 1} → statement M
 model_spec = tie.close (tie.spec (λ c κs. search rules) returns returns_2)

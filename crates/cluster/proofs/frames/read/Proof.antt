@@ -9,18 +9,18 @@ use Rattle.cluster.proofs.frames.read.Statement.{statement}
 use Rattle.cluster.proofs.frames.read.Tie as tie
 
 cast_t6 : tie.Need-overflow_cast-result
-cast_t6 c = omega (arith, c.shared_slice_known-1.given c.before.args.at)
+cast_t6 c = omega (arith, c.shared_slice_known-1.given c.args.at)
 
 cast_t11 : tie.Need-overflow_cast-result-2
-cast_t11 c = omega (arith, c.shared_slice_known-2-1.given (c.before.before.args.at + 1))
+cast_t11 c = omega (arith, c.shared_slice_known-2-1.given (c.args.at + 1))
 
 cast_t16 : tie.Need-overflow_cast-result-3
-cast_t16 c = omega (arith, c.shared_slice_known-3-1.given (c.before.before.before.args.at + 2))
+cast_t16 c = omega (arith, c.shared_slice_known-3-1.given (c.args.at + 2))
 
 returns : tie.Need-returns
 unfolding word
 returns c =
-    let a = c.before.before.before.args in
+    let a = c.args in
     record {
       identifier_is = sym (due_there a.t.now a.at (omega arith));
       bytes_is = sym (due_there a.t.now (a.at + 1) (omega arith));

@@ -18,30 +18,22 @@ returns_2 c = simp (c.if-used-id.true, and-false)
 returns_3 : tie.Need-returns-then-words-lt1
 unfolding frame_columns leading
 returns_3 c =
-    let d2 = c in
-    simp (lt-ltb _ _ d2.before.before.before.before.if-id-ge-IDENTIFIERS.false, d2.before.before.if-used-id.false, lt-leb _ _ c.if-words-lt1.true)
+    simp (lt-ltb _ _ c.if-id-ge-IDENTIFIERS.false, c.if-used-id.false, lt-leb _ _ c.if-words-lt1.true)
 
 returns_4 : tie.Need-returns-then-words-gt8
 unfolding frame_columns leading
 returns_4 c =
-    let d2 = c in
-    simp (lt-ltb _ _ d2.before.before.before.before.before.before.if-id-ge-IDENTIFIERS.false, d2.before.before.before.before.if-used-id.false, lt-leb _ _ c.if-words-gt8.true, and-false)
+    simp (lt-ltb _ _ c.if-id-ge-IDENTIFIERS.false, c.if-used-id.false, lt-leb _ _ c.if-words-gt8.true, and-false)
 
 returns_5 : tie.Need-returns-then-words-le3
 unfolding frame_columns leading
 returns_5 c =
-    let d4 = c in
-    let d3 = d4 in
-    let d2 = d3 in
-    simp (lt-ltb _ _ d2.before.before.before.before.before.before.before.before.if-id-ge-IDENTIFIERS.false, d2.before.before.before.before.before.before.if-used-id.false, le-leb _ _ d3.before.before.before.before.if-words-lt1.false, le-leb _ _ d4.before.before.if-words-gt8.false, le-leb _ _ c.if-words-le3.true)
+    simp (lt-ltb _ _ c.if-id-ge-IDENTIFIERS.false, c.if-used-id.false, le-leb _ _ c.if-words-lt1.false, le-leb _ _ c.if-words-gt8.false, le-leb _ _ c.if-words-le3.true)
 
 returns_6 : tie.Need-returns-else-words-le3
 unfolding frame_columns leading
 returns_6 c =
-    let d4 = c in
-    let d3 = d4 in
-    let d2 = d3 in
-    simp (lt-ltb _ _ d2.before.before.before.before.before.before.before.before.if-id-ge-IDENTIFIERS.false, d2.before.before.before.before.before.before.if-used-id.false, le-leb _ _ d3.before.before.before.before.if-words-lt1.false, le-leb _ _ d4.before.before.if-words-gt8.false, lt-leb _ _ c.if-words-le3.false)
+    simp (lt-ltb _ _ c.if-id-ge-IDENTIFIERS.false, c.if-used-id.false, le-leb _ _ c.if-words-lt1.false, le-leb _ _ c.if-words-gt8.false, lt-leb _ _ c.if-words-le3.false)
 
 pub right_words_spec : {M : Type 1} → statement M
 right_words_spec = tie.close (tie.spec returns (λ c. search rules) returns_2 returns_3 returns_4 returns_5 returns_6)

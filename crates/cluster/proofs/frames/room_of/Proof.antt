@@ -10,14 +10,14 @@ use Rattle.cluster.proofs.frames.room_of.Statement.{statement}
 use Rattle.cluster.proofs.frames.room_of.Tie as tie
 
 cast_t8 : tie.Need-overflow_cast-result
-cast_t8 c = omega (arith, c.shared_slice_known-2-1.given (c.before.frame_at-at.result + 1))
+cast_t8 c = omega (arith, c.shared_slice_known-2-1.given (c.frame_at-at.result + 1))
 
 mul_t9 : tie.Need-overflow_mul-result
-mul_t9 c = omega (arith, c.shared_slice_known-2-1.given (c.before.frame_at-at.result + 1))
+mul_t9 c = omega (arith, c.shared_slice_known-2-1.given (c.frame_at-at.result + 1))
 
 returns : tie.Need-returns
 unfolding published flags frame_length word bit
-returns c = rw (pow-zero, div-one) (rw c.before.before.frame_at-at.ensures (refl, refl))
+returns c = rw (pow-zero, div-one) (rw c.frame_at-at.ensures (refl, refl))
 
 pub room_of_spec : {M : Type 1} → statement M
 room_of_spec =

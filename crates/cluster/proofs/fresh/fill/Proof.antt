@@ -18,20 +18,20 @@ decreases_loop t bytes₀ n k₀ bytes k = n - k
 
 loop_holds : tie.Need-loop-k-init invariant_loop decreases_loop
 loop_holds c =
-    let size = length c.before.before.before.before.before.before.before.args.bytes.now in
-    (omega arith, filled_none _ _ size c.before.before.before.set_bytes.ensures)
+    let size = length c.args.bytes.now in
+    (omega arith, filled_none _ _ size c.set_bytes.ensures)
 
 loop_again : tie.Need-loop-k-preserved invariant_loop decreases_loop
 loop_again c =
-    (omega arith, filled_turn _ _ _ _ _ c.before.before.before.before.before.loop-k.invariant.1 c.before.before.put_start.ensures)
+    (omega arith, filled_turn _ _ _ _ _ c.loop-k.invariant.1 c.put_start.ensures)
 
 same_length : tie.Need-shape_of-bytes invariant_loop decreases_loop
-same_length c = filled_same _ _ _ _ _ c.before.before.before.before.before.set_bytes.ensures c.before.loop-k.invariant.1
+same_length c = filled_same _ _ _ _ _ c.set_bytes.ensures c.loop-k.invariant.1
 
 returns : tie.Need-returns invariant_loop decreases_loop
 returns c =
-    let e : c.before.loop-k.k ≡ placement_count c.before.before.before.before.before.before.before.before.before.args.t.now = omega arith in
-    filled_all _ _ _ _ _ e c.before.before.before.before.before.set_bytes.ensures c.before.loop-k.invariant.1
+    let e : c.loop-k.k ≡ placement_count c.args.t.now = omega arith in
+    filled_all _ _ _ _ _ e c.set_bytes.ensures c.loop-k.invariant.1
 
 pub fill_spec : {M : Type 1} → statement M
 fill_spec =

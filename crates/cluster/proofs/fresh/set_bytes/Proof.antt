@@ -17,16 +17,16 @@ decreases_loop bytes₀ v i₀ bytes i = length bytes₀ - i
 
 loop_again : tie.Need-loop-i-preserved invariant_loop decreases_loop
 loop_again c =
-    let h : c.before.loop-i.i < length c.before.before.args.bytes.now = omega arith in
-    (omega arith, simp length-set c.before.loop-i.invariant.1, fill_turn _ _ _ _ h c.before.loop-i.invariant.2)
+    let h : c.loop-i.i < length c.args.bytes.now = omega arith in
+    (omega arith, simp length-set c.loop-i.invariant.1, fill_turn _ _ _ _ h c.loop-i.invariant.2)
 
 same_length : tie.Need-shape_of-bytes invariant_loop decreases_loop
-same_length c = c.before.loop-i.invariant.1
+same_length c = c.loop-i.invariant.1
 
 returns : tie.Need-returns invariant_loop decreases_loop
 returns c =
-    let e : c.before.loop-i.i ≡ length c.before.before.args.bytes.now = omega arith in
-    fill_all _ _ _ _ e c.before.loop-i.invariant.2
+    let e : c.loop-i.i ≡ length c.args.bytes.now = omega arith in
+    fill_all _ _ _ _ e c.loop-i.invariant.2
 
 pub set_bytes_spec : {M : Type 1} → statement M
 set_bytes_spec =

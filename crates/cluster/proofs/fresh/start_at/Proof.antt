@@ -7,28 +7,26 @@ use Rattle.cluster.proofs.fresh.start_at.Statement.{statement}
 use Rattle.cluster.proofs.fresh.start_at.Tie as tie
 
 slice_aggregate_put_array : tie.Need-slice_bounds-put_array-end
-slice_aggregate_put_array c = sym (length-take-le _ _ c.before.before.array_length-n.ensures.1)
+slice_aggregate_put_array c = sym (length-take-le _ _ c.array_length-n.ensures.1)
 
 returns : tie.Need-returns-then-is_array
 returns c =
-    let d = c in
     array_put _ _ _ _ _ _ _ _
-    d.before.before.before.before.before.before.before.before.is_array.ensures
-    d.before.before.before.before.before.before.before.if-is_array.true
-    d.before.before.before.before.before.before.start.ensures
-    d.before.before.before.before.before.array_length-n.ensures.0
-    d.before.before.before.before.before.array_length-n.ensures.1
-    c.before.before.put_array.ensures
+    c.is_array.ensures
+    c.if-is_array.true
+    c.start.ensures
+    c.array_length-n.ensures.0
+    c.array_length-n.ensures.1
+    c.put_array.ensures
 
 returns_2 : tie.Need-returns-else-is_array
 returns_2 c =
-    let d = c in
     scalar_put _ _ _ _ _ _ _ _
-    d.before.before.before.before.before.before.before.is_array.ensures
-    d.before.before.before.before.before.before.if-is_array.false
-    d.before.before.before.before.width.ensures
-    c.before.before.before.start-else-is_array.ensures
-    c.before.before.put.ensures
+    c.is_array.ensures
+    c.if-is_array.false
+    c.width.ensures
+    c.start-else-is_array.ensures
+    c.put.ensures
 
 pub start_at_spec : {M : Type 1} → statement M
 start_at_spec =

@@ -7,7 +7,7 @@ use Rattle.cluster.proofs.marks.are_free.Tie as tie
 
 returns : tie.Need-returns
 returns c =
-    let a = c.before.args in
+    let a = c.args in
     rw c.ones.ensures (field_free a.bits a.offset a.width (omega arith))
 
 pub are_free_spec : {M : Type 1} → statement M

@@ -10,12 +10,12 @@ use Rattle.cluster.proofs.FieldMask.{field_put}
 use Rattle.cluster.proofs.marks.with_bits.Statement.{statement}
 use Rattle.cluster.proofs.marks.with_bits.Tie as tie
 
-put : (c : tie.After-ones) → let a = c.before.args in
+put : (c : tie.After-ones) → let a = c.args in
     (a.bits + ((2 ^ a.width - 1) * 2 ^ a.offset) % 2 ^ 64 < 2 ^ 64)
     × ((j : ℕ) → bit (a.bits + ((2 ^ a.width - 1) * 2 ^ a.offset) % 2 ^ 64) j ≡ (bit a.bits j || inside a.offset a.width j))
 put c =
-    let a = c.before.args in
-    field_put a.bits a.offset a.width (omega arith) (omega arith) c.before.requires.1
+    let a = c.args in
+    field_put a.bits a.offset a.width (omega arith) (omega arith) c.requires.1
 
 add_result : tie.Need-overflow_add-result
 add_result c = rw c.ones.ensures (omega (arith, (put c).0))

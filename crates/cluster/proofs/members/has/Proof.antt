@@ -20,36 +20,36 @@ decreases_loop t l f n m₀ m = n - m
 
 loop_holds : tie.Need-loop-m-init invariant_loop decreases_loop
 loop_holds c =
-    let a = c.before.before.before.args in
-    (c.before.count-n.ensures, (0, c.next-m.ensures, ap (is_one_of a.f) (sym (left_all a.t.now a.l))))
+    let a = c.args in
+    (c.count-n.ensures, (0, c.next-m.ensures, ap (is_one_of a.f) (sym (left_all a.t.now a.l))))
 
 returns : tie.Need-returns-then-frame-f invariant_loop decreases_loop
 returns c =
-    let a = c.before.before.before.before.before.before.before.args in
-    let inv = c.before.before.before.loop-m.invariant in
+    let a = c.args in
+    let inv = c.loop-m.invariant in
     let k = inv.1.0 in
     let at = inv.1.1 in
-    sym (inv.1.2 ∙ one_of_here a.t.now a.l a.f k (omega (arith, at)) (ap (member_frame a.t.now) (sym at) ∙ sym c.before.frame.ensures ∙ c.if-frame-f.true))
+    sym (inv.1.2 ∙ one_of_here a.t.now a.l a.f k (omega (arith, at)) (ap (member_frame a.t.now) (sym at) ∙ sym c.frame.ensures ∙ c.if-frame-f.true))
 
 loop_less : tie.Need-loop-m-smaller invariant_loop decreases_loop
 loop_less c =
-    let a = c.before.before.before.before.before.before.before.before.args in
-    omega (arith, c.next-m-in-loop-m.ensures, next_member_from a.t.now a.l (c.before.before.before.before.loop-m.m + 1))
+    let a = c.args in
+    omega (arith, c.next-m-in-loop-m.ensures, next_member_from a.t.now a.l (c.loop-m.m + 1))
 
 loop_again : tie.Need-loop-m-preserved invariant_loop decreases_loop
 loop_again c =
-    let a = c.before.before.before.before.before.before.before.before.args in
-    let m = c.before.before.before.before.loop-m.m in
-    let inv = c.before.before.before.before.loop-m.invariant in
+    let a = c.args in
+    let m = c.loop-m.m in
+    let inv = c.loop-m.invariant in
     let k = inv.1.0 in
     let at = inv.1.1 in
-    let later = one_of_later a.t.now a.l a.f k (omega (arith, at)) (λ e. c.before.if-frame-f.false (c.before.before.frame.ensures ∙ ap (member_frame a.t.now) at ∙ e)) in
+    let later = one_of_later a.t.now a.l a.f k (omega (arith, at)) (λ e. c.if-frame-f.false (c.frame.ensures ∙ ap (member_frame a.t.now) at ∙ e)) in
     (inv.0, (m + 1, c.next-m-in-loop-m.ensures, inv.1.2 ∙ (rw (← at, ← (add-one m)) at later)))
 
 returns_2 : tie.Need-returns invariant_loop decreases_loop
 returns_2 c =
-    let a = c.before.before.before.before.before.args in
-    let inv = c.before.loop-m.invariant in
+    let a = c.args in
+    let inv = c.loop-m.invariant in
     sym (inv.1.2 ∙ one_of_none a.t.now a.l a.f inv.1.0 (omega (arith, inv.1.1)))
 
 pub has_spec : {M : Type 1} → statement M

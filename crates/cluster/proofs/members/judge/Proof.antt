@@ -25,7 +25,7 @@ abbrev Loop : Type 0
 Loop = tie.At-loop-m invariant_loop decreases_loop
 
 abbrev table : Loop → List ℕ
-table c = c.before.before.before.before.before.args.t.now
+table c = c.args.t.now
 
 abbrev member : Loop → ℕ
 member c = c.loop-m.m
@@ -36,13 +36,13 @@ lists c = c.loop-m.lists
 abbrev marks : Loop → List Bool
 marks c = c.loop-m.listed
 
-turn : (c : Loop) → member c < c.before.before.count-n.result → Turn (table c) (member c) (lists c) (marks c)
+turn : (c : Loop) → member c < c.count-n.result → Turn (table c) (member c) (lists c) (marks c)
 turn c below =
-    let known = c.before.before.before.before.before.requires in
-    (c.loop-m.invariant, omega (arith, c.before.before.count-n.ensures), known.0.frames, known.1)
+    let known = c.requires in
+    (c.loop-m.invariant, omega (arith, c.count-n.ensures), known.0.frames, known.1)
 
-here : (c : Loop) → c.before.before.before.member_at-first.result + member_words * member c ≡ member_at (table c) (member c)
-here c = omega (arith, c.before.before.before.member_at-first.ensures)
+here : (c : Loop) → c.member_at-first.result + member_words * member c ≡ member_at (table c) (member c)
+here c = omega (arith, c.member_at-first.ensures)
 
 -- what was found of a record that is whole, and of one that is cut off
 
@@ -53,10 +53,10 @@ abbrev loop : Judged → Loop
 loop c = c.before.before.before.before
 
 turn_whole : (c : Judged) → Turn (table (loop c)) (member (loop c)) (lists (loop c)) (marks (loop c))
-turn_whole c = turn (loop c) (omega (arith, c.before.before.before.loop-m-test.true, (loop c).before.whole_records-whole.ensures.within))
+turn_whole c = turn (loop c) (omega (arith, c.loop-m-test.true, (loop c).whole_records-whole.ensures.within))
 
-read_at : (c : Judged) → MemberRead (table (loop c)) (member_at (table (loop c)) (member (loop c))) c.before.before.read-words.result
-read_at c = rw (here (loop c)) at c.before.before.read-words.ensures
+read_at : (c : Judged) → MemberRead (table (loop c)) (member_at (table (loop c)) (member (loop c))) c.read-words.result
+read_at c = rw (here (loop c)) at c.read-words.ensures
 
 seen : (c : Judged) → c.right_words-right.result ≡ leading (member_read (table (loop c)) (member (loop c)) (lists (loop c)) (marks (loop c)))
 seen c = let l = loop c in c.right_words-right.ensures ∙ ap leading (seen_read (table l) (member l) (lists l) (marks l) _ (read_at c))
@@ -68,30 +68,29 @@ abbrev end : Cut → Loop
 end c = c.before.before.before.before.before
 
 turn_cut : (c : Cut) → Turn (table (end c)) (member (end c)) (lists (end c)) (marks (end c))
-turn_cut c = turn (end c) c.before.before.before.if-m-n.true
+turn_cut c = turn (end c) c.if-m-n.true
 
 seen_cut : (c : Cut) → c.right_words.result ≡ leading (member_read (table (end c)) (member (end c)) (lists (end c)) (marks (end c)))
 seen_cut c =
     let l = end c in
-    c.right_words.ensures ∙ ap leading (seen_read (table l) (member l) (lists l) (marks l) _ (rw (here l) at c.before.read_due.ensures))
+    c.right_words.ensures ∙ ap leading (seen_read (table l) (member l) (lists l) (marks l) _ (rw (here l) at c.read_due.ensures))
 
 cut_right : (c : Cut) → leading (member_read (table (end c)) (member (end c)) (lists (end c)) (marks (end c))) < member_words
 cut_right c =
     let l = end c in
-    let more = c.before.before.before.if-m-n.true in
-    let reached = c.before.before.before.before.loop-m-test.false in
-    cut_off (table l) (member l) (lists l) (marks l) (turn_cut c) (omega (arith, here l, l.before.whole_records-whole.ensures.cut (omega arith)))
+    let more = c.if-m-n.true in
+    let reached = c.loop-m-test.false in
+    cut_off (table l) (member l) (lists l) (marks l) (turn_cut c) (omega (arith, here l, l.whole_records-whole.ensures.cut (omega arith)))
 
 loop_holds : tie.Need-loop-m-init invariant_loop decreases_loop
-loop_holds c = none_passed c.before.before.before.before.args.t.now
+loop_holds c = none_passed c.args.t.now
 
 read_requires : tie.Need-read-words-requires invariant_loop decreases_loop
-read_requires c κs = let l = c in omega (arith, l.before.before.whole_records-whole.ensures.there (member l.before) c.loop-m-test.true)
+read_requires c κs = omega (arith, c.whole_records-whole.ensures.there (member c.before) c.loop-m-test.true)
 
 right_words_requires : tie.Need-right_words-right-requires invariant_loop decreases_loop
 right_words_requires c κs =
-    let l = c in
-    (l.before.before.before.before.before.before.before.before.requires.0, l.before.before.before.loop-m.invariant.1.0, c.before.read-words.ensures.list_high)
+    (c.requires.0, c.loop-m.invariant.1.0, c.read-words.ensures.list_high)
 
 returns : tie.Need-returns-then-right-lt-MEMBER invariant_loop decreases_loop
 unfolding member_columns
@@ -119,8 +118,7 @@ loop_again c =
 
 right_words_requires_2 : tie.Need-right_words-requires invariant_loop decreases_loop
 right_words_requires_2 c κs =
-    let l = c in
-    (l.before.before.before.before.before.before.before.before.before.requires.0, l.before.before.before.before.loop-m.invariant.1.0, c.read_due.ensures.list_high)
+    (c.requires.0, c.loop-m.invariant.1.0, c.read_due.ensures.list_high)
 
 add_fault_2 : tie.Need-overflow_add-at-then-m-n-2 invariant_loop decreases_loop
 add_fault_2 c = omega (arith, seen_cut c, cut_right c)
@@ -133,8 +131,7 @@ returns_2 c =
 
 returns_3 : tie.Need-returns invariant_loop decreases_loop
 returns_3 c =
-    let l = c in
-    all_passed _ _ _ l.before.before.loop-m.listed l.before.before.loop-m.invariant (omega (arith, l.before.before.before.before.count-n.ensures))
+    all_passed _ _ _ c.loop-m.listed c.loop-m.invariant (omega (arith, c.count-n.ensures))
 
 pub judge_spec : {M : Type 1} → statement M
 judge_spec =

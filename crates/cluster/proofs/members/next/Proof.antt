@@ -25,18 +25,18 @@ loop_holds c = (c.count-n.ensures, rw c.count-n.ensures refl)
 returns : tie.Need-returns-then-list-l invariant_loop decreases_loop
 returns c =
     sym
-    (c.before.before.before.loop-k.invariant.1
-    ∙ right _ _ _ c.before.before.loop-k-test.true (eq-eqb _ _ (sym c.before.list.ensures ∙ c.if-list-l.true)))
+    (c.loop-k.invariant.1
+    ∙ right _ _ _ c.loop-k-test.true (eq-eqb _ _ (sym c.list.ensures ∙ c.if-list-l.true)))
 
 loop_again : tie.Need-loop-k-preserved invariant_loop decreases_loop
 loop_again c = (
-  c.before.before.before.loop-k.invariant.0,
-  c.before.before.before.loop-k.invariant.1
-      ∙ wrong _ _ _ c.before.before.loop-k-test.true (ne_eqb _ _ (λ e. c.if-list-l.false (c.before.list.ensures ∙ e))),
+  c.loop-k.invariant.0,
+  c.loop-k.invariant.1
+      ∙ wrong _ _ _ c.loop-k-test.true (ne_eqb _ _ (λ e. c.if-list-l.false (c.list.ensures ∙ e))),
 )
 
 returns_2 : tie.Need-returns invariant_loop decreases_loop
-returns_2 c = sym (c.before.loop-k.invariant.1 ∙ ended _ _ _ c.loop-k-test.false)
+returns_2 c = sym (c.loop-k.invariant.1 ∙ ended _ _ _ c.loop-k-test.false)
 
 pub next_spec : {M : Type 1} → statement M
 next_spec =

@@ -22,15 +22,15 @@ unfolding member_of
 loop_holds c = (c.count-n.ensures, rw (c.count-n.ensures, sub-zero) refl)
 
 returns : tie.Need-returns-then-frame-f invariant_loop decreases_loop
-returns c = sym (c.before.before.before.loop-m.invariant.1 ∙ right _ _ _ c.before.before.loop-m-test.true (eq-eqb _ _ (sym c.before.frame.ensures ∙ c.if-frame-f.true)))
+returns c = sym (c.loop-m.invariant.1 ∙ right _ _ _ c.loop-m-test.true (eq-eqb _ _ (sym c.frame.ensures ∙ c.if-frame-f.true)))
 
 loop_again : tie.Need-loop-m-preserved invariant_loop decreases_loop
 loop_again c =
-    let at = c.before.before.before.loop-m in
-    (at.invariant.0, at.invariant.1 ∙ wrong _ _ _ c.before.before.loop-m-test.true (ne_eqb _ _ (λ e. c.if-frame-f.false (c.before.frame.ensures ∙ e))))
+    let at = c.loop-m in
+    (at.invariant.0, at.invariant.1 ∙ wrong _ _ _ c.loop-m-test.true (ne_eqb _ _ (λ e. c.if-frame-f.false (c.frame.ensures ∙ e))))
 
 returns_2 : tie.Need-returns invariant_loop decreases_loop
-returns_2 c = sym (c.before.loop-m.invariant.1 ∙ ended _ _ _ c.loop-m-test.false)
+returns_2 c = sym (c.loop-m.invariant.1 ∙ ended _ _ _ c.loop-m-test.false)
 
 pub of_frame_spec : {M : Type 1} → statement M
 of_frame_spec =

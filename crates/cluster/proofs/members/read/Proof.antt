@@ -9,19 +9,19 @@ use Rattle.cluster.proofs.members.read.Statement.{statement}
 use Rattle.cluster.proofs.members.read.Tie as tie
 
 cast_t6 : tie.Need-overflow_cast-result
-cast_t6 c = omega (arith, c.shared_slice_known-1.given c.before.args.at)
+cast_t6 c = omega (arith, c.shared_slice_known-1.given c.args.at)
 
 cast_t11 : tie.Need-overflow_cast-result-2
-cast_t11 c = omega (arith, c.shared_slice_known-2-1.given (c.before.before.args.at + 1))
+cast_t11 c = omega (arith, c.shared_slice_known-2-1.given (c.args.at + 1))
 
 returns : tie.Need-returns
 unfolding word
 returns c =
-    let a = c.before.before.args in
+    let a = c.args in
     record {
       list_is = sym (due_there a.t.now a.at (omega arith));
       frame_is = sym (due_there a.t.now (a.at + 1) (omega arith));
-      list_high = omega (arith, c.before.shared_slice_known-1.given a.at);
+      list_high = omega (arith, c.shared_slice_known-1.given a.at);
     }
 
 pub read_spec : {M : Type 1} → statement M

@@ -14,22 +14,21 @@ use Rattle.cluster.proofs.members.right_words.Tie as tie
 abbrev start : tie.Else-count-f → tie.Start
 start c = c.before.before.before.before.before.before
 
-up : (c : tie.Else-not-follows) → let a = c.before.before.before.before.args in follows a.lists a.words.list ≡ true
-up c = sym c.before.follows.ensures ∙ not-false c.before.follows.result c.if-not-follows.false-raw
+up : (c : tie.Else-not-follows) → let a = c.args in follows a.lists a.words.list ≡ true
+up c = sym c.follows.ensures ∙ not-false c.follows.result c.if-not-follows.false-raw
 
 frame_there : (c : tie.Else-count-f) → (start c).args.words.frame < frame_count (start c).args.t.now
-frame_there c = omega (arith, c.before.count.ensures, c.if-count-f.false)
+frame_there c = omega (arith, c.count.ensures, c.if-count-f.false)
 
 returns : tie.Need-returns-then-not-follows
 unfolding member_columns leading
-returns c = simp (sym c.before.follows.ensures ∙ not-true c.before.follows.result c.if-not-follows.true-raw)
+returns c = simp (sym c.follows.ensures ∙ not-true c.follows.result c.if-not-follows.true-raw)
 
 returns_2 : tie.Need-returns-then-count-f
 unfolding member_columns leading
 returns_2 c =
-    let d = c in
-    let a = d.before.before.before.before.before.before.args in
-    simp (up d.before.before, le-ltb a.words.frame (frame_count a.t.now) (omega (arith, c.before.count.ensures, c.if-count-f.true)))
+    let a = c.args in
+    simp (up c.before.before, le-ltb a.words.frame (frame_count a.t.now) (omega (arith, c.count.ensures, c.if-count-f.true)))
 
 returns_3 : tie.Need-returns-then-listed-f
 unfolding member_columns leading
@@ -38,14 +37,12 @@ returns_3 c = simp (up c.before.before.before.before, c.if-listed-f.true, and-fa
 returns_4 : tie.Need-returns-then-room
 unfolding member_columns leading
 returns_4 c =
-    let e = c in
-    simp (up e.before.before.before.before.before.before, lt-ltb _ _ (frame_there e.before.before.before.before), c.before.before.if-listed-f.false, sym c.before.room_of-room.ensures.1 ∙ c.if-room.true)
+    simp (up c.before.before.before.before.before.before, lt-ltb _ _ (frame_there c.before.before.before.before), c.if-listed-f.false, sym c.room_of-room.ensures.1 ∙ c.if-room.true)
 
 returns_5 : tie.Need-returns-else-room
 unfolding member_columns leading
 returns_5 c =
-    let e = c in
-    simp (up e.before.before.before.before.before.before, sym c.before.room_of-room.ensures.1 ∙ c.if-room.false, and-false)
+    simp (up c.before.before.before.before.before.before, sym c.room_of-room.ensures.1 ∙ c.if-room.false, and-false)
 
 pub right_words_spec : {M : Type 1} → statement M
 right_words_spec =

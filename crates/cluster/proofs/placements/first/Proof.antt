@@ -25,18 +25,18 @@ loop_holds c = (c.count-n.ensures, rw (c.count-n.ensures, sub-zero))
 returns : tie.Need-returns-then-signal-s invariant_loop decreases_loop
 returns c =
     sym
-    (c.before.before.before.loop-k.invariant.1
-    ∙ right _ _ _ c.before.before.loop-k-test.true (eq-eqb _ _ (sym c.before.signal.ensures ∙ c.if-signal-s.true)))
+    (c.loop-k.invariant.1
+    ∙ right _ _ _ c.loop-k-test.true (eq-eqb _ _ (sym c.signal.ensures ∙ c.if-signal-s.true)))
 
 loop_again : tie.Need-loop-k-preserved invariant_loop decreases_loop
 loop_again c = (
-  c.before.before.before.loop-k.invariant.0,
-  c.before.before.before.loop-k.invariant.1
-      ∙ wrong _ _ _ c.before.before.loop-k-test.true (ne_eqb _ _ (λ e. c.if-signal-s.false (c.before.signal.ensures ∙ e))),
+  c.loop-k.invariant.0,
+  c.loop-k.invariant.1
+      ∙ wrong _ _ _ c.loop-k-test.true (ne_eqb _ _ (λ e. c.if-signal-s.false (c.signal.ensures ∙ e))),
 )
 
 returns_2 : tie.Need-returns invariant_loop decreases_loop
-returns_2 c = sym (c.before.loop-k.invariant.1 ∙ ended _ _ _ c.loop-k-test.false)
+returns_2 c = sym (c.loop-k.invariant.1 ∙ ended _ _ _ c.loop-k-test.false)
 
 pub first_spec : {M : Type 1} → statement M
 first_spec =

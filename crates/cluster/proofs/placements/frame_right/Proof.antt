@@ -16,7 +16,7 @@ abbrev start : tie.Else-count-f → tie.Start
 start c = c.before.before.before.before
 
 frame_there : (c : tie.Else-count-f) → (start c).args.f < frame_count (start c).args.t.now
-frame_there c = omega (arith, c.before.count.ensures, c.if-count-f.false)
+frame_there c = omega (arith, c.count.ensures, c.if-count-f.false)
 
 -- where the signal is not the next one, it is that of the placement before
 placed_before : (c : tie.Else-s-known) → let a = (start c.before.before).args in a.s + 1 ≡ a.known.placed
@@ -26,15 +26,14 @@ placed_before c =
 
 returns : tie.Need-returns-then-count-f
 returns c =
-    let a = c.before.before.before.before.args in
-    rw (le-ltb a.f (frame_count a.t.now) (omega (arith, c.before.count.ensures, c.if-count-f.true)))
+    let a = c.args in
+    rw (le-ltb a.f (frame_count a.t.now) (omega (arith, c.count.ensures, c.if-count-f.true)))
 
 returns_2 : tie.Need-returns-then-s-known
 returns_2 c =
-    let e = c in
-    let a = (start e.before.before).args in
-    let marks = (start e.before.before).requires.0.1.marks a.f in
-    rw (lt-ltb _ _ (frame_there e.before.before), ne_eqb (get_or a.last.now a.f 0) (a.s + 1) (λ q. omega arith), ne_eqb (a.s + 1) a.known.placed (λ q. omega arith))
+    let a = (start c.before.before).args in
+    let marks = (start c.before.before).requires.0.1.marks a.f in
+    rw (lt-ltb _ _ (frame_there c.before.before), ne_eqb (get_or a.last.now a.f 0) (a.s + 1) (λ q. omega arith), ne_eqb (a.s + 1) a.known.placed (λ q. omega arith))
 
 cast_if3 : tie.Need-overflow_cast-last
 cast_if3 c = omega (arith, c.shared_slice_known-3-1.given (start c.before.before.before).args.f)
@@ -44,27 +43,23 @@ returns_3 c = rw (lt-ltb _ _ (frame_there c.before.before.before.before), eq-eqb
 
 room_of_requires : tie.Need-room_of-before-requires
 room_of_requires c κs =
-    let e = c in
-    let pre = (start e.before.before.before.before).requires.0 in
-    let there = pre.1.frame (omega (arith, placed_before e.before.before)) in
+    let pre = (start c.before.before.before.before).requires.0 in
+    let there = pre.1.frame (omega (arith, placed_before c.before.before)) in
     (omega (arith, pre.0.frames), omega (arith, pre.0.all))
 
 room_of_requires_2 : tie.Need-room_of-room-requires
 room_of_requires_2 c κs =
-    let e = c in
-    (omega (arith, frame_there e.before.before.before.before.before, (start e.before.before.before.before.before).requires.0.0.frames), omega (arith, frame_there e.before.before.before.before.before, (start e.before.before.before.before.before).requires.0.0.all))
+    (omega (arith, frame_there c.before.before.before.before.before, (start c.before.before.before.before.before).requires.0.0.frames), omega (arith, frame_there c.before.before.before.before.before, (start c.before.before.before.before.before).requires.0.0.all))
 
 returns_4 : tie.Need-returns
 returns_4 c =
-    let rooms = c in
-    let e = rooms in
-    let a = (start e.before.before.before.before.before.before.before.before).args in
+    let a = (start c.before.before.before.before.before.before.before.before).args in
     rw (
-      rooms.before.before.before.room_of-before.ensures.1,
-      rooms.before.before.room_of-room.ensures.1,
-      lt-ltb _ _ (frame_there e.before.before.before.before.before.before.before.before),
-      ne_eqb _ _ rooms.before.before.before.before.if-last-f.false,
-      eq-eqb _ _ (placed_before e.before.before.before.before.before.before),
+      c.room_of-before.ensures.1,
+      c.room_of-room.ensures.1,
+      lt-ltb _ _ (frame_there c.before.before.before.before.before.before.before.before),
+      ne_eqb _ _ c.if-last-f.false,
+      eq-eqb _ _ (placed_before c.before.before.before.before.before.before),
     )
     (whether (beq (published a.t.now a.known.frame) (published a.t.now a.f)) (λ y. rw y) (λ z. rw z))
 

@@ -24,33 +24,32 @@ abbrev Seen : Type 0
 Seen = tie.After-read-words invariant_loop decreases_loop
 
 abbrev table : Seen → List ℕ
-table c = c.before.before.before.before.before.before.args.t.now
+table c = c.args.t.now
 
 abbrev placement : Seen → ℕ
-placement c = c.before.before.loop-at.invariant.0
+placement c = c.loop-at.invariant.0
 
 abbrev placed : Seen → ℕ
-placed c = c.before.before.loop-at.placed
+placed c = c.loop-at.placed
 
 abbrev frame : Seen → ℕ
-frame c = c.before.before.loop-at.frame
+frame c = c.loop-at.frame
 
 abbrev lasts : Seen → List ℕ
-lasts c = c.before.before.loop-at.last
+lasts c = c.loop-at.last
 
 abbrev bits : Seen → List ℕ
-bits c = c.before.before.loop-at.occupied
+bits c = c.loop-at.occupied
 
-here : (c : Seen) → c.before.before.loop-at.at ≡ placement_at (table c) (placement c)
-here c = c.before.before.loop-at.invariant.1
+here : (c : Seen) → c.loop-at.at ≡ placement_at (table c) (placement c)
+here c = c.loop-at.invariant.1
 
 turn : (c : Seen) → Turn (table c) (placement c) (placed c) (frame c) (lasts c) (bits c)
 turn c =
-    let start = c in
     record {
-      passed = c.before.before.loop-at.invariant.2;
-      more = omega (arith, here c, c.before.loop-at-test.true, start.before.before.before.count.ensures, start.before.before.before.before.placement_at-first.ensures);
-      records = start.before.before.before.before.before.before.requires.1;
+      passed = c.loop-at.invariant.2;
+      more = omega (arith, here c, c.loop-at-test.true, c.count.ensures, c.placement_at-first.ensures);
+      records = c.requires.1;
     }
 
 read_at : (c : Seen) → PlacementRead (table c) (placement_at (table c) (placement c)) c.read-words.result
@@ -77,12 +76,11 @@ place c right =
     (omega (arith, found c))
 
 loop_holds : tie.Need-loop-at-init invariant_loop decreases_loop
-loop_holds c = (0, omega (arith, c.before.placement_at-first.ensures), none_passed c.before.before.before.args.t.now)
+loop_holds c = (0, omega (arith, c.placement_at-first.ensures), none_passed c.args.t.now)
 
 read_requires : tie.Need-read-words-requires invariant_loop decreases_loop
 read_requires c κs =
-    let start = c in
-    omega (arith, c.loop-at-test.true, start.before.before.count.ensures, start.before.before.before.placement_at-first.ensures, start.before.before.before.before.before.requires)
+    omega (arith, c.loop-at-test.true, c.count.ensures, c.placement_at-first.ensures, c.requires)
 
 right_words_requires : tie.Need-right_words-right-requires invariant_loop decreases_loop
 right_words_requires c κs =
@@ -151,21 +149,19 @@ array_write_last c =
 loop_again : tie.Need-loop-at-preserved invariant_loop decreases_loop
 unfolding placement_columns
 loop_again c =
-    let w = c in
-    let d : Judged = w.before.before.before.before.before in
+    let d : Judged = c.before.before.before.before.before in
     let e = read d in
     let right = found d in (
       placement e + 1,
       omega (arith, here e),
       passes (table e) (placement e) (placed e) (frame e) (lasts e) (bits e) (turn e) (omega arith) _ (read_at e) _ _
-          w.before.before.before.shape_of-shape.ensures.1 refl _ w.before.before.with_bits.ensures,
+          c.shape_of-shape.ensures.1 refl _ c.with_bits.ensures,
     )
 
 returns_2 : tie.Need-returns invariant_loop decreases_loop
 returns_2 c =
-    let inv = c.before.loop-at.invariant in
-    let start = c in
-    all_passed _ inv.0 _ _ _ _ inv.2 (omega (arith, inv.1, start.before.before.count.ensures, start.before.before.before.placement_at-first.ensures))
+    let inv = c.loop-at.invariant in
+    all_passed _ inv.0 _ _ _ _ inv.2 (omega (arith, inv.1, c.count.ensures, c.placement_at-first.ensures))
 
 pub judge_spec : {M : Type 1} → statement M
 judge_spec =

@@ -13,15 +13,14 @@ returns c = simp (lt-ltb _ _ c.if-room-offset.true, and-false)
 
 returns_2 : tie.Need-returns-then-not-on_border
 unfolding offset_right
-returns_2 c = simp (sym c.before.on_border.ensures ∙ not-true c.before.on_border.result c.if-not-on_border.true-raw, and-false)
+returns_2 c = simp (sym c.on_border.ensures ∙ not-true c.on_border.result c.if-not-on_border.true-raw, and-false)
 
 returns_3 : tie.Need-returns
 unfolding offset_right
 returns_3 c =
-    let d = c in
-    let border = sym d.before.before.on_border.ensures ∙ not-false d.before.before.on_border.result d.before.if-not-on_border.false-raw in
-    let a = d.before.before.before.before.before.before.args in
-    simp (border, lt-ltb a.offset a.room.bits (omega arith), le-ltb _ _ d.before.before.before.if-room-offset.false, c.are_free.ensures)
+    let border = sym c.on_border.ensures ∙ not-false c.on_border.result c.if-not-on_border.false-raw in
+    let a = c.args in
+    simp (border, lt-ltb a.offset a.room.bits (omega arith), le-ltb _ _ c.if-room-offset.false, c.are_free.ensures)
 
 pub offset_free_spec : {M : Type 1} → statement M
 offset_free_spec = tie.close (tie.spec (λ c. search rules) returns (λ c κs. search rules) returns_2 (λ c κs. search rules) returns_3)

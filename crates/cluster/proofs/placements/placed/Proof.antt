@@ -8,11 +8,11 @@ use Rattle.cluster.proofs.placements.placed.Tie as tie
 
 returns : tie.Need-returns-then-n-eq0
 unfolding placed_signals
-returns c = sym (counted_none _ _ (sym c.before.count-n.ensures ∙ c.if-n-eq0.true))
+returns c = sym (counted_none _ _ (sym c.count-n.ensures ∙ c.if-n-eq0.true))
 
 returns_2 : tie.Need-returns-else-n-eq0
 unfolding placed_signals
-returns_2 c = rw (← c.before.before.count-n.ensures, counted_last _ _ c.before.if-n-eq0.false, c.signal.ensures)
+returns_2 c = rw (← c.count-n.ensures, counted_last _ _ c.if-n-eq0.false, c.signal.ensures)
 
 pub placed_spec : {M : Type 1} → statement M
 placed_spec =

@@ -31,7 +31,7 @@ mixed c = mixes c.args.t.now c.args.known c.args.words.signal c.args.words.frame
 signal_right_lem : (c : tie.Else-not-signal_right)
     → let a = (start c).args in
     placement_signal_right (signal_count a.t.now) (follows a.known.placed a.words.signal) a.words.signal ≡ true
-signal_right_lem c = sym c.before.signal_right.ensures ∙ not-false c.before.signal_right.result c.if-not-signal_right.false-raw
+signal_right_lem c = sym c.signal_right.ensures ∙ not-false c.signal_right.result c.if-not-signal_right.false-raw
 
 signal_there : (c : tie.Else-not-signal_right)
     → let a = (start c).args in (follows a.known.placed a.words.signal ≡ true) × (a.words.signal < signal_count a.t.now)
@@ -40,7 +40,7 @@ signal_there c = signal_says _ _ _ (signal_right_lem c)
 frame_right_lem : (c : tie.Else-not-frame_right)
     → let d = start c.before.before in
     placement_frame_right (frame_count d.args.t.now) (again d) (mixed d) d.args.words.frame ≡ true
-frame_right_lem c = sym c.before.frame_right.ensures ∙ not-false c.before.frame_right.result c.if-not-frame_right.false-raw
+frame_right_lem c = sym c.frame_right.ensures ∙ not-false c.frame_right.result c.if-not-frame_right.false-raw
 
 frame_there : (c : tie.Else-not-frame_right) → let a = (start c.before.before).args in a.words.frame < frame_count a.t.now
 frame_there c =
@@ -49,7 +49,7 @@ frame_there c =
 
 returns : tie.Need-returns-then-not-signal_right
 unfolding placement_columns leading
-returns c = simp (sym c.before.signal_right.ensures ∙ not-true c.before.signal_right.result c.if-not-signal_right.true-raw)
+returns c = simp (sym c.signal_right.ensures ∙ not-true c.signal_right.result c.if-not-signal_right.true-raw)
 
 frame_right_requires : tie.Need-frame_right-requires
 frame_right_requires c κs =
@@ -59,12 +59,11 @@ frame_right_requires c κs =
 returns_2 : tie.Need-returns-then-not-frame_right
 unfolding placement_columns leading
 returns_2 c =
-    simp (signal_right_lem c.before.before, sym c.before.frame_right.ensures ∙ not-true c.before.frame_right.result c.if-not-frame_right.true-raw)
+    simp (signal_right_lem c.before.before, sym c.frame_right.ensures ∙ not-true c.frame_right.result c.if-not-frame_right.true-raw)
 
 shape_of_requires : tie.Need-shape_of-shape-requires
 shape_of_requires c κs =
-    let d = c in
-    ((start d.before.before).requires.1.1.0, omega (arith, (signal_there d.before.before).1, (start d.before.before).requires.0.0.all))
+    ((start c.before.before).requires.1.1.0, omega (arith, (signal_there c.before.before).1, (start c.before.before).requires.0.0.all))
 
 room_of_requires : tie.Need-room_of-room-requires
 room_of_requires c κs =
@@ -73,27 +72,24 @@ room_of_requires c κs =
 
 mul_offset_free : tie.Need-offset_bounds-occupied-f
 mul_offset_free c =
-    let e = c in
-    omega (arith, frame_there e.before.before, (start e.before.before.before.before).requires.0.0.frames)
+    omega (arith, frame_there c.before.before, (start c.before.before.before.before).requires.0.0.frames)
 
 shared_slice_read_offset_free : tie.Need-bounds-occupied-f
 shared_slice_read_offset_free c =
-    let e = c in
-    let pre = (start e.before.before.before.before.before).requires in
-    omega (arith, frame_there e.before.before.before, pre.0.0.frames, pre.1.0.0)
+    let pre = (start c.before.before.before.before.before).requires in
+    omega (arith, frame_there c.before.before.before, pre.0.0.frames, pre.1.0.0)
 
 offset_free_requires : tie.Need-offset_free-requires
 offset_free_requires c κs =
-    let e = c in
-    let d = start e.before.before.before.before.before in
+    let d = start c.before.before.before.before.before in
     let known = d.requires.0.0 in
-    let shape = c.before.before.shape_of-shape.ensures in
-    let room = c.before.room_of-room.ensures in
-    let w = width_range _ _ (known.widths d.args.words.signal (signal_there e.before.before.before.before.before).1) in (
+    let shape = c.shape_of-shape.ensures in
+    let room = c.room_of-room.ensures in
+    let w = width_range _ _ (known.widths d.args.words.signal (signal_there c.before.before.before.before.before).1) in (
       d.requires.1.1.1,
       omega (arith, shape.1, w.0),
       omega (arith, shape.1, w.1),
-      omega (arith, room.0, known.short d.args.words.frame (frame_there e.before.before.before)),
+      omega (arith, room.0, known.short d.args.words.frame (frame_there c.before.before.before)),
     )
 
 -- the test of the offset in the words of the contract
@@ -105,20 +101,18 @@ offset_is : (c : tie.After-offset_free)
     ≡ placement_offset_right (is_array a.t.now a.words.signal) bits (ltb bits (a.words.offset + width))
     (hits (get_or a.occupied.now a.words.frame 0) a.words.offset width) a.words.offset
 offset_is c =
-    let shape = c.before.before.before.shape_of-shape.ensures in
-    rw (shape.0, shape.1, c.before.before.room_of-room.ensures.0) at c.offset_free.ensures
+    let shape = c.shape_of-shape.ensures in
+    rw (shape.0, shape.1, c.room_of-room.ensures.0) at c.offset_free.ensures
 
 returns_3 : tie.Need-returns-then-offset_free
 unfolding placement_columns leading
 returns_3 c =
-    let e = c in
-    simp (signal_right_lem e.before.before.before.before.before.before.before, frame_right_lem e.before.before.before.before.before, sym (offset_is c.before) ∙ c.if-offset_free.true)
+    simp (signal_right_lem c.before.before.before.before.before.before.before, frame_right_lem c.before.before.before.before.before, sym (offset_is c.before) ∙ c.if-offset_free.true)
 
 returns_4 : tie.Need-returns-else-offset_free
 unfolding placement_columns leading
 returns_4 c =
-    let e = c in
-    simp (signal_right_lem e.before.before.before.before.before.before.before, frame_right_lem e.before.before.before.before.before, sym (offset_is c.before) ∙ c.if-offset_free.false)
+    simp (signal_right_lem c.before.before.before.before.before.before.before, frame_right_lem c.before.before.before.before.before, sym (offset_is c.before) ∙ c.if-offset_free.false)
 
 pub right_words_spec : {M : Type 1} → statement M
 right_words_spec =

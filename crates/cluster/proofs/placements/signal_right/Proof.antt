@@ -12,11 +12,11 @@ use Rattle.cluster.proofs.placements.signal_right.Statement.{statement}
 use Rattle.cluster.proofs.placements.signal_right.Tie as tie
 
 returns : tie.Need-returns-then-s-placed
-returns c = rw (c.count.ensures, sym (follows_next _ _ c.before.if-s-placed.true))
+returns c = rw (c.count.ensures, sym (follows_next _ _ c.if-s-placed.true))
 
 returns_2 : tie.Need-returns
 returns_2 c =
-    let a = c.before.before.args in
+    let a = c.args in
     rw (sym (follows_same a.placed a.s c.if-s-placed.false))
     (whether (eqb (a.s + 1) a.placed)
     (λ y. rw (y, lt-ltb a.s (signal_count a.t.now) (omega (arith, eqb-true (a.s + 1) a.placed y))))

@@ -12,15 +12,14 @@ use Rattle.cluster.proofs.placements.unplaced.Tie as tie
 returns : tie.Need-returns-then-placed-count
 unfolding unplaced all_placed
 returns c =
-    let d = c in
-    let t = d.before.before.before.before.before.before.before.args.t.now in
-    let few = lt-leb (signal_count t) (placed_signals t) (omega (arith, d.before.before.before.if-placed-count.true)) in
-    c.fault.ensures ∙ rw (few, c.before.placement_at.ensures.0, c.before.before.count-then-placed-count.ensures)
+    let t = c.args.t.now in
+    let few = lt-leb (signal_count t) (placed_signals t) (omega (arith, c.if-placed-count.true)) in
+    c.fault.ensures ∙ rw (few, c.placement_at.ensures.0, c.count-then-placed-count.ensures)
 
 returns_2 : tie.Need-returns-else-placed-count
 unfolding unplaced all_placed
 returns_2 c =
-    let t = c.before.before.before.before.args.t.now in
+    let t = c.args.t.now in
     rw (le-leb (signal_count t) (placed_signals t) (omega (arith, c.if-placed-count.false)))
 
 pub unplaced_spec : {M : Type 1} → statement M

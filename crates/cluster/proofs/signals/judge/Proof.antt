@@ -23,13 +23,13 @@ abbrev Loop : Type 0
 Loop = tie.At-loop-s invariant_loop decreases_loop
 
 abbrev table : Loop → List ℕ
-table c = c.before.before.before.before.before.args.t.now
+table c = c.args.t.now
 
 abbrev signal : Loop → ℕ
 signal c = c.loop-s.s
 
-here : (c : Loop) → c.before.before.before.signal_at-first.result + signal_words * signal c ≡ signal_at (table c) (signal c)
-here c = omega (arith, c.before.before.before.signal_at-first.ensures)
+here : (c : Loop) → c.signal_at-first.result + signal_words * signal c ≡ signal_at (table c) (signal c)
+here c = omega (arith, c.signal_at-first.ensures)
 
 -- what was found of a record that is whole, and of one that is cut off
 
@@ -42,12 +42,12 @@ loop c = c.before.before.before
 there : (c : Judged) → signal (loop c) < signal_count (table (loop c))
 there c =
     let l = loop c in
-    omega (arith, c.before.before.loop-s-test.true, l.before.before.count-n.ensures, l.before.whole_records-whole.ensures.within)
+    omega (arith, c.loop-s-test.true, l.count-n.ensures, l.whole_records-whole.ensures.within)
 
 seen : (c : Judged) → c.right_words-right.result ≡ leading (signal_read (table (loop c)) (signal (loop c)))
 seen c =
     let l = loop c in
-    c.right_words-right.ensures ∙ ap leading (seen_read (table l) (signal l) _ (rw (here l) at c.before.read.ensures))
+    c.right_words-right.ensures ∙ ap leading (seen_read (table l) (signal l) _ (rw (here l) at c.read.ensures))
 
 abbrev Cut : Type 0
 Cut = tie.After-right_words invariant_loop decreases_loop
@@ -58,20 +58,20 @@ end c = c.before.before.before.before
 seen_cut : (c : Cut) → c.right_words.result ≡ leading (signal_read (table (end c)) (signal (end c)))
 seen_cut c =
     let l = end c in
-    c.right_words.ensures ∙ ap leading (seen_read (table l) (signal l) _ (rw (here l) at c.before.read_due.ensures))
+    c.right_words.ensures ∙ ap leading (seen_read (table l) (signal l) _ (rw (here l) at c.read_due.ensures))
 
 cut_right : (c : Cut) → leading (signal_read (table (end c)) (signal (end c))) < signal_words
 cut_right c =
     let l = end c in
-    let more = c.before.before.if-s-n.true in
-    let reached = c.before.before.before.loop-s-test.false in
-    cut_off (table l) (signal l) (omega (arith, here l, l.before.whole_records-whole.ensures.cut (omega arith)))
+    let more = c.if-s-n.true in
+    let reached = c.loop-s-test.false in
+    cut_off (table l) (signal l) (omega (arith, here l, l.whole_records-whole.ensures.cut (omega arith)))
 
 loop_holds : tie.Need-loop-s-init invariant_loop decreases_loop
-loop_holds c = none_passed c.before.before.before.before.args.t.now
+loop_holds c = none_passed c.args.t.now
 
 read_requires : tie.Need-read-requires invariant_loop decreases_loop
-read_requires c κs = let l = c in omega (arith, l.before.before.whole_records-whole.ensures.there (signal l.before) c.loop-s-test.true)
+read_requires c κs = omega (arith, c.whole_records-whole.ensures.there (signal c.before) c.loop-s-test.true)
 
 returns : tie.Need-returns-then-right-lt-SIGNAL invariant_loop decreases_loop
 unfolding signal_columns
@@ -96,14 +96,13 @@ returns_2 : tie.Need-returns-then-s-n invariant_loop decreases_loop
 returns_2 c =
     let d : Cut = c.before in
     let l = end d in
-    let there = d.before.before.if-s-n.true in
+    let there = d.if-s-n.true in
     c.fault-then-s-n.ensures
-    ∙ stops (table l) (signal l) l.loop-s.invariant (omega (arith, l.before.before.count-n.ensures)) (cut_right d) _ (omega (arith, here l, seen_cut d))
+    ∙ stops (table l) (signal l) l.loop-s.invariant (omega (arith, l.count-n.ensures)) (cut_right d) _ (omega (arith, here l, seen_cut d))
 
 returns_3 : tie.Need-returns invariant_loop decreases_loop
 returns_3 c =
-    let l = c in
-    all_passed _ _ l.before.before.loop-s.invariant (omega (arith, l.before.before.before.before.count-n.ensures))
+    all_passed _ _ c.loop-s.invariant (omega (arith, c.count-n.ensures))
 
 pub judge_spec : {M : Type 1} → statement M
 judge_spec =

@@ -10,11 +10,11 @@ returns c = simp (lt-leb _ _ c.if-width-lt8.true)
 
 returns_2 : tie.Need-returns-then-width-gt64
 unfolding width_right
-returns_2 c = simp (le-leb _ _ c.before.if-width-lt8.false, lt-leb _ _ c.if-width-gt64.true)
+returns_2 c = simp (le-leb _ _ c.if-width-lt8.false, lt-leb _ _ c.if-width-gt64.true)
 
 returns_3 : tie.Need-returns
 unfolding width_right
-returns_3 c = simp (le-leb _ _ c.before.if-width-lt8.false, le-leb _ _ c.if-width-gt64.false)
+returns_3 c = simp (le-leb _ _ c.if-width-lt8.false, le-leb _ _ c.if-width-gt64.false)
 
 pub whole_bytes_spec : {M : Type 1} → statement M
 whole_bytes_spec = tie.close (tie.spec returns returns_2 returns_3)

@@ -8,11 +8,11 @@ use Rattle.cluster.proofs.table.due.Statement.{statement}
 use Rattle.cluster.proofs.table.due.Tie as tie
 
 cast_result : tie.Need-overflow_cast-result
-cast_result c = omega (arith, c.shared_slice_known-1.given c.before.before.args.i)
+cast_result c = omega (arith, c.shared_slice_known-1.given c.args.i)
 
 returns : tie.Need-returns-then-i-t
 unfolding due word
-returns c = (simp (lt-ltb _ _ c.before.if-i-t.true), omega (arith, c.shared_slice_known-1.given c.before.before.args.i))
+returns c = (simp (lt-ltb _ _ c.if-i-t.true), omega (arith, c.shared_slice_known-1.given c.args.i))
 
 returns_2 : tie.Need-returns-else-i-t
 unfolding due

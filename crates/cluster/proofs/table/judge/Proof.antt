@@ -10,27 +10,25 @@ use borrow.Author.Rules.{rules}
 use Rattle.cluster.proofs.table.judge.Statement.{statement}
 use Rattle.cluster.proofs.table.judge.Tie as tie
 
-seen : (c : tie.After-right_words-right) → c.right_words-right.result ≡ leading (header_read c.before.before.before.before.before.before.before.args.t.now)
+seen : (c : tie.After-right_words-right) → c.right_words-right.result ≡ leading (header_read c.args.t.now)
 seen c =
-    let frames = c.before.before.before.before.before.due.ensures.0 in
-    let signals = c.before.before.before.before.due-2.ensures.0 in
-    let members = c.before.before.before.due-3.ensures.0 in
-    c.right_words-right.ensures ∙ ap leading (seen_read _ _ _ _ _ _ frames signals members c.before.before.due-4.ensures.0 c.before.due-5.ensures.0)
+    let frames = c.due.ensures.0 in
+    let signals = c.due-2.ensures.0 in
+    let members = c.due-3.ensures.0 in
+    c.right_words-right.ensures ∙ ap leading (seen_read _ _ _ _ _ _ frames signals members c.due-4.ensures.0 c.due-5.ensures.0)
 
 returns : tie.Need-returns-then-right-lt-HEADER
 unfolding header_columns
 returns c =
-    let d = c in
-    let t = d.before.before.before.before.before.before.before.before.before.args.t.now in
-    let right = seen d.before.before in
-    c.fault.ensures ∙ sym (halt_words t 0 (header_read t) (header_right t) d.before.before.right_words-right.result (header_agrees t) (omega arith) (omega arith))
+    let t = c.args.t.now in
+    let right = seen c.before.before in
+    c.fault.ensures ∙ sym (halt_words t 0 (header_read t) (header_right t) c.right_words-right.result (header_agrees t) (omega arith) (omega arith))
 
 returns_2 : tie.Need-returns-else-right-lt-HEADER
 unfolding header_columns
 returns_2 c =
-    let d = c in
-    let t = d.before.before.before.before.before.before.before.before.args.t.now in
-    let right = seen d.before in
+    let t = c.args.t.now in
+    let right = seen c.before in
     sym (pass_words t 0 (header_read t) (header_right t) (header_agrees t) (omega arith))
 
 pub judge_spec : {M : Type 1} → statement M

@@ -12,15 +12,15 @@ use Rattle.cluster.proofs.table.surplus.Tie as tie
 returns : tie.Need-returns-then-end-t
 unfolding surplus size entry_count
 returns c =
-    let t = c.before.before.before.before.before.args.t.now in
-    let end : c.before.before.entry_at-end.result ≡ size t = omega arith in
+    let t = c.args.t.now in
+    let end : c.entry_at-end.result ≡ size t = omega arith in
     c.fault.ensures ∙ rw end (rw (lt-ltb (size t) (length t) (omega arith)))
 
 returns_2 : tie.Need-returns-else-end-t
 unfolding surplus size entry_count
 returns_2 c =
-    let t = c.before.before.before.before.args.t.now in
-    let end : c.before.entry_at-end.result ≡ size t = omega arith in
+    let t = c.args.t.now in
+    let end : c.entry_at-end.result ≡ size t = omega arith in
     rw (le-ltb (size t) (length t) (omega arith))
 
 pub surplus_spec : {M : Type 1} → statement M

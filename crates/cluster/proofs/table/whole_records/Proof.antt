@@ -13,12 +13,11 @@ add_if1 : tie.Need-overflow_add-first
 add_if1 c = omega (arith, mul-le-mul_right c.args.n c.requires.1)
 
 returns : tie.Need-returns-then-first-words
-returns c = let d = c in all_whole _ d.before.args.first d.before.args.words d.before.args.n d.before.requires.0 (omega arith)
+returns c = all_whole _ c.args.first c.args.words c.args.n c.requires.0 (omega arith)
 
 returns_3 : tie.Need-returns
 returns_3 c =
-    let d = c in
-    some_whole _ d.before.before.args.first d.before.before.args.words d.before.before.args.n d.before.before.requires.0 (omega arith) (omega arith)
+    some_whole _ c.args.first c.args.words c.args.n c.requires.0 (omega arith) (omega arith)
 
 pub whole_records_spec : {M : Type 1} → statement M
 whole_records_spec = tie.close (tie.spec mul_if1 add_if1 returns (λ c. search rules) (λ c. search rules) (λ c. search rules) returns_3)

@@ -12,7 +12,7 @@ returns c = refl
 
 returns_2 : tie.Need-returns-else-i-t
 unfolding word
-returns_2 c = sym (get_or-eq_default c.before.args.t.now 0 c.if-i-t.false)
+returns_2 c = sym (get_or-eq_default c.args.t.now 0 c.if-i-t.false)
 
 pub word_spec : {M : Type 1} → statement M
 word_spec = tie.close (tie.spec (λ c. search rules) (λ c. search rules) returns returns_2)

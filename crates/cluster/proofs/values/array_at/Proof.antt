@@ -6,8 +6,7 @@ use Rattle.cluster.proofs.values.array_at.Tie as tie
 
 returns : tie.Need-returns
 returns c =
-    let d = c in
-    array_read_lem _ _ _ _ _ _ _ d.before.before.before.before.array_length-n.ensures.0 d.before.before.before.before.array_length-n.ensures.1 d.before.before.before.place-place.ensures c.before.get_array.ensures
+    array_read_lem _ _ _ _ _ _ _ c.array_length-n.ensures.0 c.array_length-n.ensures.1 c.place-place.ensures c.get_array.ensures
 
 pub array_at_spec : {M : Type 1} → statement M
 array_at_spec =

@@ -4,7 +4,7 @@ use Rattle.cluster.proofs.values.put_scalar_at.Statement.{statement}
 use Rattle.cluster.proofs.values.put_scalar_at.Tie as tie
 
 returns : tie.Need-returns
-returns c = rw (c.before.before.put.ensures, c.before.before.before.place.ensures, c.before.before.before.before.before.width-width.ensures)
+returns c = rw (c.put.ensures, c.place.ensures, c.width-width.ensures)
 
 pub put_scalar_at_spec : {M : Type 1} → statement M
 put_scalar_at_spec =

@@ -6,8 +6,7 @@ use Rattle.cluster.proofs.values.start_array.Tie as tie
 
 returns : tie.Need-returns
 returns c =
-    let d = c in
-    start_read_lem _ _ _ _ _ d.before.before.before.before.array_length-n.ensures.0 d.before.before.before.before.array_length-n.ensures.1 d.before.before.before.start.ensures c.before.set_bytes.ensures
+    start_read_lem _ _ _ _ _ c.array_length-n.ensures.0 c.array_length-n.ensures.1 c.start.ensures c.set_bytes.ensures
 
 pub start_array_spec : {M : Type 1} → statement M
 start_array_spec =

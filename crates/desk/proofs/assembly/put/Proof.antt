@@ -4,10 +4,10 @@ use Rattle.desk.proofs.assembly.put.Statement.{statement}
 use Rattle.desk.proofs.assembly.put.Tie as tie
 
 returns : tie.Need-returns-in-Nothing
-returns c = rw c.before.in-Nothing.is
+returns c = rw c.in-Nothing.is
 
 returns_2 : tie.Need-returns-in-Open
-returns_2 c = rw c.before.before.in-Open.is c.put_open.ensures
+returns_2 c = rw c.in-Open.is c.put_open.ensures
 
 pub put_spec : {M : Type 1} → statement M
 put_spec =

@@ -12,10 +12,7 @@ returns c = simp (eq-eqb _ _ c.if-desk-eq0.true)
 returns_2 : tie.Need-returns
 unfolding reassembly_on
 returns_2 c =
-    let c4 = c in
-    let c6 = c4 in
-    let c8 = c6 in
-    rw (c.byte-2.ensures, c.before.before.word-2.ensures, c4.before.before.before.before.word.ensures, c6.before.before.before.before.before.before.byte.ensures) (simp (ne_eqb _ _ c8.before.before.before.before.before.before.before.before.if-desk-eq0.false))
+    rw (c.byte-2.ensures, c.word-2.ensures, c.word.ensures, c.byte.ensures) (simp (ne_eqb _ _ c.if-desk-eq0.false))
 
 pub take_spec : {M : Type 1} → statement M
 take_spec =

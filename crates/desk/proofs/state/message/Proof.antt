@@ -8,21 +8,19 @@ use Rattle.desk.proofs.state.message.Tie as tie
 returns : tie.Need-returns-then-kind-eq-SENDING
 unfolding message_on
 returns c =
-    let c4 = c in
-    let c6 = c4 in
-    rw (c.word-then-kind-eq-SENDING.ensures, c.before.before.word.ensures, c4.before.before.before.before.byte.ensures) (simp (eq-eqb _ _ c6.before.before.before.before.before.before.if-kind-eq-SENDING.true))
+    rw (c.word-then-kind-eq-SENDING.ensures, c.word.ensures, c.byte.ensures) (simp (eq-eqb _ _ c.if-kind-eq-SENDING.true))
 
 returns_2 : tie.Need-returns-then-kind-eq-COMPLETED
 unfolding message_on
-returns_2 c = simp (ne_eqb _ _ c.before.if-kind-eq-SENDING.false, eq-eqb _ _ c.if-kind-eq-COMPLETED.true)
+returns_2 c = simp (ne_eqb _ _ c.if-kind-eq-SENDING.false, eq-eqb _ _ c.if-kind-eq-COMPLETED.true)
 
 returns_3 : tie.Need-returns-then-kind-eq-FAILED
 unfolding message_on
-returns_3 c = simp (ne_eqb _ _ c.before.before.if-kind-eq-SENDING.false, ne_eqb _ _ c.before.if-kind-eq-COMPLETED.false, eq-eqb _ _ c.if-kind-eq-FAILED.true)
+returns_3 c = simp (ne_eqb _ _ c.if-kind-eq-SENDING.false, ne_eqb _ _ c.if-kind-eq-COMPLETED.false, eq-eqb _ _ c.if-kind-eq-FAILED.true)
 
 returns_4 : tie.Need-returns
 unfolding message_on
-returns_4 c = simp (ne_eqb _ _ c.before.before.if-kind-eq-SENDING.false, ne_eqb _ _ c.before.if-kind-eq-COMPLETED.false, ne_eqb _ _ c.if-kind-eq-FAILED.false)
+returns_4 c = simp (ne_eqb _ _ c.if-kind-eq-SENDING.false, ne_eqb _ _ c.if-kind-eq-COMPLETED.false, ne_eqb _ _ c.if-kind-eq-FAILED.false)
 
 pub message_spec : {M : Type 1} → statement M
 message_spec =

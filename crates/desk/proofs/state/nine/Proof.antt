@@ -22,13 +22,11 @@ loop_holds c = (omega arith, refl, taken_none _)
 loop_again : tie.Need-loop-i-preserved invariant_loop decreases_loop
 unfolding nine_on
 loop_again c =
-    let c3 = c in
-    let c4 = c3 in
-    (omega arith, simp length-set c3.before.before.before.before.loop-i.invariant.1, taken_next (λ k. byte_at c4.before.before.before.before.before.args.desk.now (65 + k)) _ _ _ (omega arith) c3.before.before.before.before.loop-i.invariant.2 c.byte.ensures)
+    (omega arith, simp length-set c.loop-i.invariant.1, taken_next (λ k. byte_at c.args.desk.now (65 + k)) _ _ _ (omega arith) c.loop-i.invariant.2 c.byte.ensures)
 
 returns : tie.Need-returns invariant_loop decreases_loop
 unfolding nine_on
-returns c = taken_all (λ k. byte_at c.before.before.args.desk.now (65 + k)) _ _ _ (omega arith) (omega arith) c.before.loop-i.invariant.2
+returns c = taken_all (λ k. byte_at c.args.desk.now (65 + k)) _ _ _ (omega arith) (omega arith) c.loop-i.invariant.2
 
 pub nine_spec : {M : Type 1} → statement M
 nine_spec =

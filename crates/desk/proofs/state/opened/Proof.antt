@@ -11,15 +11,15 @@ returns c = simp (eq-eqb _ _ c.if-n-eq-NONE.true)
 
 returns_2 : tie.Need-returns-then-n-eq-OPEN_REQUEST
 unfolding opened_of
-returns_2 c = simp (ne_eqb _ _ c.before.if-n-eq-NONE.false, eq-eqb _ _ c.if-n-eq-OPEN_REQUEST.true)
+returns_2 c = simp (ne_eqb _ _ c.if-n-eq-NONE.false, eq-eqb _ _ c.if-n-eq-OPEN_REQUEST.true)
 
 returns_3 : tie.Need-returns-then-n-eq-OPEN_RESPONSE
 unfolding opened_of
-returns_3 c = simp (ne_eqb _ _ c.before.before.if-n-eq-NONE.false, ne_eqb _ _ c.before.if-n-eq-OPEN_REQUEST.false, eq-eqb _ _ c.if-n-eq-OPEN_RESPONSE.true)
+returns_3 c = simp (ne_eqb _ _ c.if-n-eq-NONE.false, ne_eqb _ _ c.if-n-eq-OPEN_REQUEST.false, eq-eqb _ _ c.if-n-eq-OPEN_RESPONSE.true)
 
 returns_4 : tie.Need-returns
 unfolding opened_of
-returns_4 c = rw c.word.ensures (simp (ne_eqb _ _ c.before.before.before.if-n-eq-NONE.false, ne_eqb _ _ c.before.before.if-n-eq-OPEN_REQUEST.false, ne_eqb _ _ c.before.if-n-eq-OPEN_RESPONSE.false))
+returns_4 c = rw c.word.ensures (simp (ne_eqb _ _ c.if-n-eq-NONE.false, ne_eqb _ _ c.if-n-eq-OPEN_REQUEST.false, ne_eqb _ _ c.if-n-eq-OPEN_RESPONSE.false))
 
 pub opened_spec : {M : Type 1} → statement M
 opened_spec =

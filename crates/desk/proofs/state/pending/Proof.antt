@@ -22,12 +22,11 @@ loop_holds c = (omega arith, refl, taken_none _)
 loop_again : tie.Need-loop-f-preserved invariant_loop decreases_loop
 unfolding pending_on
 loop_again c =
-    let c3 = c in
-    (omega arith, simp length-set c.before.before.before.loop-f.invariant.1, taken_next (is_set c3.before.before.before.before.args.desk.now) _ _ _ (omega arith) c.before.before.before.loop-f.invariant.2 refl)
+    (omega arith, simp length-set c.loop-f.invariant.1, taken_next (is_set c.args.desk.now) _ _ _ (omega arith) c.loop-f.invariant.2 refl)
 
 returns : tie.Need-returns invariant_loop decreases_loop
 unfolding pending_on
-returns c = taken_all (is_set c.before.before.args.desk.now) _ _ _ (omega arith) (omega arith) c.before.loop-f.invariant.2
+returns c = taken_all (is_set c.args.desk.now) _ _ _ (omega arith) (omega arith) c.loop-f.invariant.2
 
 pub pending_spec : {M : Type 1} → statement M
 pending_spec =

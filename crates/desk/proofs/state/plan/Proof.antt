@@ -4,7 +4,7 @@ use Rattle.desk.proofs.state.plan.Statement.{statement}
 use Rattle.desk.proofs.state.plan.Tie as tie
 
 returns : tie.Need-returns
-returns c = rw (c.before.before.before.before.word.ensures, c.before.before.current.ensures, c.requested.ensures)
+returns c = rw (c.word.ensures, c.current.ensures, c.requested.ensures)
 
 pub plan_spec : {M : Type 1} → statement M
 plan_spec =

@@ -22,13 +22,11 @@ loop_holds c = (omega arith, put_none _ _ _)
 loop_again : tie.Need-loop-i-preserved invariant_loop decreases_loop
 unfolding with_nine
 loop_again c =
-    let c3 = c in
-    let c4 = c3 in
-    (omega arith, put_next (λ k. get_or c4.before.before.before.before.before.before.args.bytes.now k 0) 65 c4.before.before.before.before.before.before.args.desk.now _ _ _ c3.before.before.before.before.before.loop-i.invariant.1 c.before.wide.ensures)
+    (omega arith, put_next (λ k. get_or c.args.bytes.now k 0) 65 c.args.desk.now _ _ _ c.loop-i.invariant.1 c.wide.ensures)
 
 returns : tie.Need-returns invariant_loop decreases_loop
 unfolding with_nine
-returns c = put_all (λ k. get_or c.before.before.args.bytes.now k 0) 65 c.before.before.args.desk.now (omega arith) c.before.loop-i.invariant.1
+returns c = put_all (λ k. get_or c.args.bytes.now k 0) 65 c.args.desk.now (omega arith) c.loop-i.invariant.1
 
 pub put_nine_spec : {M : Type 1} → statement M
 put_nine_spec =

@@ -23,13 +23,11 @@ loop_holds c = (omega arith, put_none _ _ _)
 loop_again : tie.Need-loop-f-preserved invariant_loop decreases_loop
 unfolding with_pending
 loop_again c =
-    let c3 = c in
-    let c4 = c3 in
-    (omega arith, put_next_first (λ k. bit (get_or c4.before.before.before.before.before.before.args.pending.now k false)) c4.before.before.before.before.before.before.args.desk.now _ _ _ c3.before.before.before.before.before.loop-f.invariant.1 c.before.bit.ensures)
+    (omega arith, put_next_first (λ k. bit (get_or c.args.pending.now k false)) c.args.desk.now _ _ _ c.loop-f.invariant.1 c.bit.ensures)
 
 returns : tie.Need-returns invariant_loop decreases_loop
 unfolding with_pending
-returns c = put_all (λ k. bit (get_or c.before.before.args.pending.now k false)) 0 c.before.before.args.desk.now (omega arith) c.before.loop-f.invariant.1
+returns c = put_all (λ k. bit (get_or c.args.pending.now k false)) 0 c.args.desk.now (omega arith) c.loop-f.invariant.1
 
 pub put_pending_spec : {M : Type 1} → statement M
 put_pending_spec =

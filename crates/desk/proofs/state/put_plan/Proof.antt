@@ -4,7 +4,7 @@ use Rattle.desk.proofs.state.put_plan.Statement.{statement}
 use Rattle.desk.proofs.state.put_plan.Tie as tie
 
 returns : tie.Need-returns
-returns c = rw (c.before.entry_number.ensures, c.schedule_number.ensures)
+returns c = rw (c.entry_number.ensures, c.schedule_number.ensures)
 
 pub put_plan_spec : {M : Type 1} → statement M
 put_plan_spec =

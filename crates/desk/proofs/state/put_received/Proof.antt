@@ -21,13 +21,12 @@ loop_holds c = (omega arith, put_none _ _ _)
 
 loop_again : tie.Need-loop-s-preserved invariant_loop decreases_loop
 loop_again c =
-    let d = c in
-    let loop = c.before.before.before.before.loop-s in
-    (omega arith, put_next (λ i. reception_number (get_or d.before.before.before.before.before.args.received i never_received).last) 128 d.before.before.before.before.before.args.desk.now _ loop.s _ loop.invariant.1 c.before.reception_number.ensures)
+    let loop = c.loop-s in
+    (omega arith, put_next (λ i. reception_number (get_or c.args.received i never_received).last) 128 c.args.desk.now _ loop.s _ loop.invariant.1 c.reception_number.ensures)
 
 returns : tie.Need-returns invariant_loop decreases_loop
 unfolding with_received
-returns c = put_all (λ i. reception_number (get_or c.before.before.args.received i never_received).last) 128 c.before.before.args.desk.now (omega arith) c.before.loop-s.invariant.1
+returns c = put_all (λ i. reception_number (get_or c.args.received i never_received).last) 128 c.args.desk.now (omega arith) c.loop-s.invariant.1
 
 pub put_received_spec : {M : Type 1} → statement M
 put_received_spec =

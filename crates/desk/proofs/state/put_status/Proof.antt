@@ -4,7 +4,7 @@ use Rattle.desk.proofs.state.put_status.Statement.{statement}
 use Rattle.desk.proofs.state.put_status.Tie as tie
 
 returns : tie.Need-returns
-returns c = rw (c.before.before.before.before.bit.ensures, c.before.before.bit-2.ensures, c.before.bit-3.ensures)
+returns c = rw (c.bit.ensures, c.bit-2.ensures, c.bit-3.ensures)
 
 pub put_status_spec : {M : Type 1} → statement M
 put_status_spec =

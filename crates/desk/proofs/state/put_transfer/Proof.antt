@@ -5,7 +5,7 @@ use Rattle.desk.proofs.state.put_transfer.Statement.{statement}
 use Rattle.desk.proofs.state.put_transfer.Tie as tie
 
 returns : tie.Need-returns
-returns c = c.put_nine.ensures ∙ rw (c.before.before.before.bit.ensures, c.before.before.before.before.before.before.open_number.ensures)
+returns c = c.put_nine.ensures ∙ rw (c.bit.ensures, c.open_number.ensures)
 
 pub put_transfer_spec : {M : Type 1} → statement M
 put_transfer_spec =

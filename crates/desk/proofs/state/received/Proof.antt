@@ -26,13 +26,12 @@ loop_holds c = (omega arith, search rules, taken_none _)
 
 loop_again : tie.Need-loop-s-preserved invariant_loop decreases_loop
 loop_again c =
-    let d = c in
-    let loop = c.before.before.before.before.loop-s in
-    (omega arith, simp length-set loop.invariant.1, taken_next (on d.before.before.before.before.before.before.args.desk.now) _ _ _ (omega arith) loop.invariant.2 c.reception.ensures)
+    let loop = c.loop-s in
+    (omega arith, simp length-set loop.invariant.1, taken_next (on c.args.desk.now) _ _ _ (omega arith) loop.invariant.2 c.reception.ensures)
 
 returns : tie.Need-returns invariant_loop decreases_loop
 unfolding received_on
-returns c = taken_all (on c.before.before.before.args.desk.now) _ _ _ (omega arith) (omega arith) c.before.loop-s.invariant.2
+returns c = taken_all (on c.args.desk.now) _ _ _ (omega arith) (omega arith) c.loop-s.invariant.2
 
 pub received_spec : {M : Type 1} → statement M
 received_spec =

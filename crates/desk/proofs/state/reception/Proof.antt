@@ -7,11 +7,11 @@ use Rattle.desk.proofs.state.reception.Tie as tie
 
 returns : tie.Need-returns-then-n-eq-NONE
 unfolding reception_of
-returns c = rw (c.never.ensures, eq-eqb _ _ c.before.if-n-eq-NONE.true)
+returns c = rw (c.never.ensures, eq-eqb _ _ c.if-n-eq-NONE.true)
 
 returns_2 : tie.Need-returns-else-n-eq-NONE
 unfolding reception_of
-returns_2 c = rw c.word.ensures (simp (ne_eqb _ _ c.before.if-n-eq-NONE.false))
+returns_2 c = rw c.word.ensures (simp (ne_eqb _ _ c.if-n-eq-NONE.false))
 
 pub reception_spec : {M : Type 1} → statement M
 reception_spec = tie.close (tie.spec (λ c κs. search rules) (λ c κs. search rules) returns returns_2)

@@ -11,7 +11,7 @@ returns c = simp (eq-eqb _ _ c.if-n-eq-NONE.true)
 
 returns_2 : tie.Need-returns-else-n-eq-NONE
 unfolding requested_of
-returns_2 c = rw c.word.ensures (simp (ne_eqb _ _ c.before.if-n-eq-NONE.false))
+returns_2 c = rw c.word.ensures (simp (ne_eqb _ _ c.if-n-eq-NONE.false))
 
 pub requested_spec : {M : Type 1} → statement M
 requested_spec =

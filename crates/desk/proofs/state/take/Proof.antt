@@ -5,14 +5,13 @@ use Rattle.desk.proofs.state.take.Tie as tie
 
 returns : tie.Need-returns
 returns c =
-    let d = c in
     rw (
       c.received.ensures,
-      d.before.status.ensures,
-      d.before.before.message.ensures,
-      d.before.before.before.transfer.ensures,
-      d.before.before.before.before.plan.ensures,
-      d.before.before.before.before.before.pending.ensures,
+      c.status.ensures,
+      c.message.ensures,
+      c.transfer.ensures,
+      c.plan.ensures,
+      c.pending.ensures,
     )
 
 pub take_spec : {M : Type 1} → statement M

@@ -4,7 +4,7 @@ use Rattle.desk.proofs.state.transfer.Statement.{statement}
 use Rattle.desk.proofs.state.transfer.Tie as tie
 
 returns : tie.Need-returns
-returns c = rw (c.before.nine.ensures, c.before.before.byte.ensures, c.before.before.before.before.opened.ensures)
+returns c = rw (c.nine.ensures, c.byte.ensures, c.opened.ensures)
 
 pub transfer_spec : {M : Type 1} → statement M
 transfer_spec =

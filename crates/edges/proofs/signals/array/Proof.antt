@@ -6,7 +6,7 @@ use Rattle.edges.proofs.signals.array.Statement.{statement}
 use Rattle.edges.proofs.signals.array.Tie as tie
 
 slice_aggregate_array_in_2 : tie.Need-slice_bounds-array_in-end-then-n-le4
-slice_aggregate_array_in_2 c = sym (length-take-le _ _ c.before.before.if-n-le4.true)
+slice_aggregate_array_in_2 c = sym (length-take-le _ _ c.if-n-le4.true)
 
 pub array_spec : {M : Type 1} → statement M
 array_spec =

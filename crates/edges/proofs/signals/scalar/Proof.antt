@@ -6,7 +6,7 @@ use Rattle.edges.proofs.signals.scalar.Statement.{statement}
 use Rattle.edges.proofs.signals.scalar.Tie as tie
 
 slice_aggregate_scalar_in : tie.Need-slice_bounds-scalar_in-end
-slice_aggregate_scalar_in c = sym (length-take-le _ _ c.before.if-n-le4.true)
+slice_aggregate_scalar_in c = sym (length-take-le _ _ c.if-n-le4.true)
 
 pub scalar_spec : {M : Type 1} → statement M
 scalar_spec =

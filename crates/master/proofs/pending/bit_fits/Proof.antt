@@ -7,17 +7,17 @@ use Rattle.master.proofs.pending.bit_fits.Tie as tie
 
 returns : tie.Need-returns-then-not-bit
 unfolding bit_fits
-returns c = rw (not-true c.before.before.args.bit c.if-not-bit.true-raw)
+returns c = rw (not-true c.args.bit c.if-not-bit.true-raw)
 
 returns_2 : tie.Need-returns-then-count-f
 unfolding bit_fits
-returns_2 c = rw (not-false c.before.before.before.before.args.bit c.before.before.if-not-bit.false-raw, ← c.before.count.ensures, le-ltb _ _ c.if-count-f.true)
+returns_2 c = rw (not-false c.args.bit c.if-not-bit.false-raw, ← c.count.ensures, le-ltb _ _ c.if-count-f.true)
 
 returns_3 : tie.Need-returns
 unfolding bit_fits
 returns_3 c =
-    let a = c.before.before.before.before.before.args in
-    rw (not-false a.bit c.before.before.before.if-not-bit.false-raw, ← c.before.before.count.ensures, lt-ltb _ _ c.before.if-count-f.false, c.published.ensures)
+    let a = c.args in
+    rw (not-false a.bit c.if-not-bit.false-raw, ← c.count.ensures, lt-ltb _ _ c.if-count-f.false, c.published.ensures)
 
 pub bit_fits_spec : {M : Type 1} → statement M
 bit_fits_spec = tie.close (tie.spec returns (λ c κs. search rules) returns_2 (λ c κs. search rules) returns_3)

@@ -18,31 +18,31 @@ abbrev decreases_loop : tie.decreases-loop-m
 decreases_loop t pending l end n₀ m₀ n m = end - m
 
 loop_holds : tie.Need-loop-m-init invariant_loop decreases_loop
-loop_holds c = (omega arith, rw zero-add (ap (pending_count c.before.args.pending) (members_start c.before.args.t.now c.before.args.l c.before.args.end)))
+loop_holds c = (omega arith, rw zero-add (ap (pending_count c.args.pending) (members_start c.args.t.now c.args.l c.args.end)))
 
 is_pending_member_requires : tie.Need-is_pending_member-requires invariant_loop decreases_loop
-is_pending_member_requires c κs = (c.before.before.before.requires.0, omega (arith, c.before.before.before.requires.1, c.loop-m-test.true))
+is_pending_member_requires c κs = (c.requires.0, omega (arith, c.requires.1, c.loop-m-test.true))
 
 add_n : tie.Need-overflow_add-n invariant_loop decreases_loop
 add_n c =
-    let asked = c.before.before.before.before.before.requires in
-    let a = c.before.before.before.before.before.args in
-    omega (arith, c.one_if-n.ensures.1, c.before.before.before.loop-m.invariant.0, c.before.before.loop-m-test.true, asked.1, member_count_lem a.t.now asked.0)
+    let asked = c.requires in
+    let a = c.args in
+    omega (arith, c.one_if-n.ensures.1, c.loop-m.invariant.0, c.loop-m-test.true, asked.1, member_count_lem a.t.now asked.0)
 
 loop_again : tie.Need-loop-m-preserved invariant_loop decreases_loop
 loop_again c =
-    let a = c.before.before.before.before.before.args in
-    let at = c.before.before.before.loop-m in
+    let a = c.args in
+    let at = c.loop-m in
     let i = at.invariant in (
       omega (arith, c.one_if-n.ensures.1, i.0),
       count_on a.t.now a.l at.m a.end
-          c.before.before.loop-m-test.true a.pending at.n _ (rw (c.one_if-n.ensures.0, c.before.is_pending_member.ensures)) i.1,
+          c.loop-m-test.true a.pending at.n _ (rw (c.one_if-n.ensures.0, c.is_pending_member.ensures)) i.1,
     )
 
 returns : tie.Need-returns invariant_loop decreases_loop
 returns c =
-    let a = c.before.before.before.args in
-    let at = c.before.loop-m in
+    let a = c.args in
+    let at = c.loop-m in
     let i = at.invariant in
     count_end a.t.now a.l at.m a.end a.pending at.n c.loop-m-test.false i.1
 

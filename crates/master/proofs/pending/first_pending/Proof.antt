@@ -24,46 +24,45 @@ decreases_loop t l pending n m₀ m = n - m
 
 loop_holds : tie.Need-loop-m-init invariant_loop decreases_loop
 loop_holds c =
-    let a = c.before.before.before.args in
-    (c.before.count-n.ensures, (0, c.next-m.ensures, ap (first_pending a.pending) (sym (left_all a.t.now a.l))))
+    let a = c.args in
+    (c.count-n.ensures, (0, c.next-m.ensures, ap (first_pending a.pending) (sym (left_all a.t.now a.l))))
 
 array_read_if1 : tie.Need-bounds-pending-f invariant_loop decreases_loop
 array_read_if1 c =
-    let start = c in
-    let at = c.before.before.loop-m in
-    let below = member_frame_below start.before.before.before.before.before.before.args.t.now start.before.before.before.before.before.before.requires at.m (omega (arith, at.invariant.0, c.before.loop-m-test.true)) in
-    omega (arith, c.frame-f.ensures, below, frame_count_lem start.before.before.before.before.before.before.args.t.now start.before.before.before.before.before.before.requires)
+    let at = c.loop-m in
+    let below = member_frame_below c.args.t.now c.requires at.m (omega (arith, at.invariant.0, c.loop-m-test.true)) in
+    omega (arith, c.frame-f.ensures, below, frame_count_lem c.args.t.now c.requires)
 
 returns : tie.Need-returns-then-pending-f invariant_loop decreases_loop
 returns c =
-    let a = c.before.before.before.before.before.before.before.args in
-    let inv = c.before.before.before.loop-m.invariant in
+    let a = c.args in
+    let inv = c.loop-m.invariant in
     let at = inv.1.1 in
-    let frame = c.before.frame-f.ensures ∙ ap (member_frame a.t.now) at in
-    let here = first_here a.t.now a.l a.pending inv.1.0 (omega (arith, inv.0, at, c.before.before.loop-m-test.true)) (rw frame at c.if-pending-f.true) in
+    let frame = c.frame-f.ensures ∙ ap (member_frame a.t.now) at in
+    let here = first_here a.t.now a.l a.pending inv.1.0 (omega (arith, inv.0, at, c.loop-m-test.true)) (rw frame at c.if-pending-f.true) in
     rw frame (sym (inv.1.2 ∙ here))
 
 loop_less : tie.Need-loop-m-smaller invariant_loop decreases_loop
 loop_less c =
-    let a = c.before.before.before.before.before.before.before.before.args in
-    let at = c.before.before.before.before.loop-m in
-    omega (arith, c.next-m-in-loop-m.ensures, c.before.before.before.loop-m-test.true, next_member_from a.t.now a.l (at.m + 1))
+    let a = c.args in
+    let at = c.loop-m in
+    omega (arith, c.next-m-in-loop-m.ensures, c.loop-m-test.true, next_member_from a.t.now a.l (at.m + 1))
 
 loop_again : tie.Need-loop-m-preserved invariant_loop decreases_loop
 loop_again c =
-    let a = c.before.before.before.before.before.before.before.before.args in
-    let m = c.before.before.before.before.loop-m.m in
-    let inv = c.before.before.before.before.loop-m.invariant in
+    let a = c.args in
+    let m = c.loop-m.m in
+    let inv = c.loop-m.invariant in
     let at = inv.1.1 in
-    let frame = c.before.before.frame-f.ensures ∙ ap (member_frame a.t.now) at in
-    let below : next_member a.t.now a.l inv.1.0 < member_count a.t.now = omega (arith, inv.0, at, c.before.before.before.loop-m-test.true) in
-    let later = first_later a.t.now a.l a.pending inv.1.0 below (rw frame at c.before.if-pending-f.false) in
+    let frame = c.frame-f.ensures ∙ ap (member_frame a.t.now) at in
+    let below : next_member a.t.now a.l inv.1.0 < member_count a.t.now = omega (arith, inv.0, at, c.loop-m-test.true) in
+    let later = first_later a.t.now a.l a.pending inv.1.0 below (rw frame at c.if-pending-f.false) in
     (inv.0, (m + 1, c.next-m-in-loop-m.ensures, inv.1.2 ∙ (rw (← at, ← (add-one m)) at later)))
 
 returns_2 : tie.Need-returns invariant_loop decreases_loop
 returns_2 c =
-    let a = c.before.before.before.before.before.args in
-    let inv = c.before.loop-m.invariant in
+    let a = c.args in
+    let inv = c.loop-m.invariant in
     sym (inv.1.2 ∙ first_none a.t.now a.l a.pending inv.1.0 (omega (arith, inv.0, inv.1.1, c.loop-m-test.false)))
 
 pub first_pending_spec : {M : Type 1} → statement M

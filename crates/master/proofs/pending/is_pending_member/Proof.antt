@@ -9,15 +9,15 @@ use Rattle.master.proofs.pending.is_pending_member.Tie as tie
 
 array_read_result : tie.Need-bounds-pending-frame
 array_read_result c =
-    let a = c.before.before.before.before.args in
-    let asked = c.before.before.before.before.requires in
+    let a = c.args in
+    let asked = c.requires in
     omega (arith, c.frame.ensures, member_frame_below a.t.now asked.0 a.m asked.1, frame_count_lem a.t.now asked.0)
 
 returns : tie.Need-returns-then-list-l
-returns c = rw (← c.before.before.list.ensures, eq-eqb _ _ c.before.if-list-l.true, c.frame.ensures)
+returns c = rw (← c.list.ensures, eq-eqb _ _ c.if-list-l.true, c.frame.ensures)
 
 returns_2 : tie.Need-returns
-returns_2 c = rw (← c.before.list.ensures, ne_eqb _ _ c.if-list-l.false)
+returns_2 c = rw (← c.list.ensures, ne_eqb _ _ c.if-list-l.false)
 
 pub is_pending_member_spec : {M : Type 1} → statement M
 is_pending_member_spec =

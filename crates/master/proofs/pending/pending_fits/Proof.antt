@@ -21,28 +21,28 @@ loop_holds c = (omega arith, refl)
 
 returns : tie.Need-returns-then-not-bit_fits invariant_loop decreases_loop
 returns c =
-    let a = c.before.before.before.before.before.args in
-    let at = c.before.before.before.loop-f in
+    let a = c.args in
+    let at = c.loop-f in
     let l : length a.pending ≡ 60 = search rules in
-    sym (at.invariant.1 ∙ bits_wrong a.t.now at.f a.pending (omega (arith, l, c.before.before.loop-f-test.true))
-    (sym c.before.bit_fits.ensures ∙ not-true c.before.bit_fits.result c.if-not-bit_fits.true-raw))
+    sym (at.invariant.1 ∙ bits_wrong a.t.now at.f a.pending (omega (arith, l, c.loop-f-test.true))
+    (sym c.bit_fits.ensures ∙ not-true c.bit_fits.result c.if-not-bit_fits.true-raw))
 
 loop_again : tie.Need-loop-f-preserved invariant_loop decreases_loop
 loop_again c =
-    let a = c.before.before.before.before.before.args in
-    let at = c.before.before.before.loop-f in
-    let test = c.before.before.loop-f-test in
+    let a = c.args in
+    let at = c.loop-f in
+    let test = c.loop-f-test in
     let l : length a.pending ≡ 60 = search rules in (
       omega (arith, test.true),
       at.invariant.1 ∙ bits_right a.t.now at.f a.pending (omega (arith, l, test.true))
-          (sym c.before.bit_fits.ensures ∙ not-false c.before.bit_fits.result c.if-not-bit_fits.false-raw),
+          (sym c.bit_fits.ensures ∙ not-false c.bit_fits.result c.if-not-bit_fits.false-raw),
     )
 
 returns_2 : tie.Need-returns invariant_loop decreases_loop
 returns_2 c =
-    let a = c.before.before.before.args in
+    let a = c.args in
     let l : length a.pending ≡ 60 = search rules in
-    sym (c.before.loop-f.invariant.1 ∙ bits_end a.t.now c.before.loop-f.f a.pending (omega (arith, l, c.loop-f-test.false)))
+    sym (c.loop-f.invariant.1 ∙ bits_end a.t.now c.loop-f.f a.pending (omega (arith, l, c.loop-f-test.false)))
 
 pub pending_fits_spec : {M : Type 1} → statement M
 pending_fits_spec =

@@ -16,23 +16,21 @@ abbrev decreases_loop : tie.decreases-loop-low
 decreases_loop t s low₀ high₀ low high = high - low
 
 loop_holds : tie.Need-loop-low-init invariant_loop decreases_loop
-loop_holds c = let a = c.before.before.args in (omega arith, omega (arith, first_high a.t.now a.s), omega arith)
+loop_holds c = let a = c.args in (omega arith, omega (arith, first_high a.t.now a.s), omega arith)
 
 add_middle : tie.Need-overflow_add-middle invariant_loop decreases_loop
-add_middle c = omega (arith, placement_count_lem _ c.before.before.before.before.requires)
+add_middle c = omega (arith, placement_count_lem _ c.requires)
 
 loop_again : tie.Need-loop-low-preserved-then-signal-s invariant_loop decreases_loop
 loop_again c =
-    let start = c in
-    let at = c.before.before.before.loop-low in
-    let before = lower_before _ start.before.before.before.before.before.before.requires start.before.before.before.before.before.before.args.s ((at.low + at.high) / 2) (omega arith) (omega arith) in
+    let at = c.loop-low in
+    let before = lower_before _ c.requires c.args.s ((at.low + at.high) / 2) (omega arith) (omega arith) in
     (omega arith, at.invariant.1, at.invariant.2)
 
 loop_again_2 : tie.Need-loop-low-preserved invariant_loop decreases_loop
 loop_again_2 c =
-    let start = c in
-    let at = c.before.before.before.loop-low in
-    let behind = higher_behind _ start.before.before.before.before.before.before.requires start.before.before.before.before.before.before.args.s ((at.low + at.high) / 2) (omega arith) (omega arith) in
+    let at = c.loop-low in
+    let behind = higher_behind _ c.requires c.args.s ((at.low + at.high) / 2) (omega arith) (omega arith) in
     (at.invariant.0, behind, omega arith)
 
 returns : tie.Need-returns invariant_loop decreases_loop

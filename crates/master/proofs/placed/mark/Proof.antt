@@ -18,35 +18,30 @@ abbrev decreases_loop : tie.decreases-loop-pending
 decreases_loop t s pending₀ k₀ pending k = placement_count t - k
 
 loop_holds : tie.Need-loop-pending-init invariant_loop decreases_loop
-loop_holds c = let start = c in rw c.first-k.ensures (marks_begin _ start.before.before.before.requires _ _)
+loop_holds c = rw c.first-k.ensures (marks_begin _ c.requires _ _)
 
 add_k : tie.Need-overflow_add-k invariant_loop decreases_loop
 add_k c =
-    let d = c in
-    let most = placement_count_lem _ d.before.before.before.before.before.before.before.before.before.before.before.requires in
-    omega (arith, (stands_yes _ _ _ d.before.before.before.before.before.before.stands.ensures d.before.before.before.before.before.loop-pending-test.true).there)
+    let most = placement_count_lem _ c.requires in
+    omega (arith, (stands_yes _ _ _ c.stands.ensures c.loop-pending-test.true).there)
 
 loop_less : tie.Need-loop-pending-smaller invariant_loop decreases_loop
 loop_less c =
-    let d = c in
-    omega (arith, (stands_yes _ _ _ d.before.before.before.before.before.before.stands.ensures d.before.before.before.before.before.loop-pending-test.true).there)
+    omega (arith, (stands_yes _ _ _ c.stands.ensures c.loop-pending-test.true).there)
 
 loop_again : tie.Need-loop-pending-preserved invariant_loop decreases_loop
 loop_again c =
-    let d = c in
-    let at = d.before.before.before.before.before.before.before.loop-pending in
-    let start = d in
-    marks_on _ start.before.before.before.before.before.before.before.before.before.before.before.requires _ _ at.k at.pending at.invariant (stands_yes _ _ _ d.before.before.before.before.before.before.stands.ensures d.before.before.before.before.before.loop-pending-test.true) _
-    (c.before.before.set.ensures ∙ rw c.before.before.before.frame.ensures)
+    let at = c.loop-pending in
+    marks_on _ c.requires _ _ at.k at.pending at.invariant (stands_yes _ _ _ c.stands.ensures c.loop-pending-test.true) _
+    (c.set.ensures ∙ rw c.frame.ensures)
 
 same_length : tie.Need-shape_of-pending invariant_loop decreases_loop
-same_length c = c.before.before.loop-pending.invariant.holds.same_length
+same_length c = c.loop-pending.invariant.holds.same_length
 
 returns : tie.Need-returns invariant_loop decreases_loop
 returns c =
-    let start = c in
-    let at = c.before.before.loop-pending in
-    marks_end _ start.before.before.before.before.before.before.requires _ _ at.k at.pending at.invariant (stands_no _ _ _ c.before.stands.ensures c.loop-pending-test.false)
+    let at = c.loop-pending in
+    marks_end _ c.requires _ _ at.k at.pending at.invariant (stands_no _ _ _ c.stands.ensures c.loop-pending-test.false)
 
 pub mark_spec : {M : Type 1} → statement M
 mark_spec =

@@ -21,37 +21,32 @@ decreases_loop t bytes₀ s v k₀ bytes k = placement_count t - k
 
 loop_holds : tie.Need-loop-bytes-init invariant_loop decreases_loop
 unfolding with_scalar
-loop_holds c = let start = c in (rw c.first-k.ensures (each_begins _ start.before.before.before.requires _ _ _ _ refl), refl)
+loop_holds c = (rw c.first-k.ensures (each_begins _ c.requires _ _ _ _ refl), refl)
 
 add_k : tie.Need-overflow_add-k invariant_loop decreases_loop
 add_k c =
-    let d = c in
-    let most = placement_count_lem _ d.before.before.before.before.before.before.before.before.before.before.requires in
-    omega (arith, (stands_yes _ _ _ d.before.before.before.before.before.stands.ensures d.before.before.before.before.loop-bytes-test.true).there)
+    let most = placement_count_lem _ c.requires in
+    omega (arith, (stands_yes _ _ _ c.stands.ensures c.loop-bytes-test.true).there)
 
 loop_less : tie.Need-loop-bytes-smaller invariant_loop decreases_loop
 loop_less c =
-    let d = c in
-    omega (arith, (stands_yes _ _ _ d.before.before.before.before.before.stands.ensures d.before.before.before.before.loop-bytes-test.true).there)
+    omega (arith, (stands_yes _ _ _ c.stands.ensures c.loop-bytes-test.true).there)
 
 loop_again : tie.Need-loop-bytes-preserved invariant_loop decreases_loop
 loop_again c =
-    let d = c in
-    let at = d.before.before.before.before.before.before.loop-bytes in
-    let start = d in
-    let put = c.before.before.put_scalar_at in (
-      each_on _ start.before.before.before.before.before.before.before.before.before.before.requires _ _ _ at.k at.bytes _ at.invariant.0 (stands_yes _ _ _ d.before.before.before.before.before.stands.ensures d.before.before.before.before.loop-bytes-test.true) put.ensures,
+    let at = c.loop-bytes in
+    let put = c.put_scalar_at in (
+      each_on _ c.requires _ _ _ at.k at.bytes _ at.invariant.0 (stands_yes _ _ _ c.stands.ensures c.loop-bytes-test.true) put.ensures,
       put.auto.bytes ∙ at.invariant.1,
     )
 
 same_length : tie.Need-shape_of-bytes invariant_loop decreases_loop
-same_length c = c.before.before.loop-bytes.invariant.1
+same_length c = c.loop-bytes.invariant.1
 
 returns : tie.Need-returns invariant_loop decreases_loop
 returns c =
-    let start = c in
-    let at = c.before.before.loop-bytes in
-    each_ends _ start.before.before.before.before.before.before.requires _ _ _ at.k at.bytes at.invariant.0 (stands_no _ _ _ c.before.stands.ensures c.loop-bytes-test.false)
+    let at = c.loop-bytes in
+    each_ends _ c.requires _ _ _ at.k at.bytes at.invariant.0 (stands_no _ _ _ c.stands.ensures c.loop-bytes-test.false)
 
 pub put_scalar_spec : {M : Type 1} → statement M
 put_scalar_spec =

@@ -5,10 +5,10 @@ use Rattle.master.proofs.placed.stands.Statement.{statement}
 use Rattle.master.proofs.placed.stands.Tie as tie
 
 returns : tie.Need-returns-then-count-k
-returns c = rw (← c.before.count.ensures, le-ltb _ _ c.if-count-k.true)
+returns c = rw (← c.count.ensures, le-ltb _ _ c.if-count-k.true)
 
 returns_2 : tie.Need-returns
-returns_2 c = rw (← c.before.before.count.ensures, lt-ltb _ _ c.before.if-count-k.false, c.signal.ensures)
+returns_2 c = rw (← c.count.ensures, lt-ltb _ _ c.if-count-k.false, c.signal.ensures)
 
 pub stands_spec : {M : Type 1} → statement M
 stands_spec = tie.close (tie.spec (λ c κs. search rules) returns (λ c κs. search rules) returns_2)

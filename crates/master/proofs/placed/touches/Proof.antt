@@ -16,38 +16,31 @@ abbrev decreases_loop : tie.decreases-loop-s
 decreases_loop t s f k₀ k = placement_count t - k
 
 loop_holds : tie.Need-loop-s-init invariant_loop decreases_loop
-loop_holds c = let start = c in rw c.first-k.ensures (touch_begins _ start.before.before.requires _ _)
+loop_holds c = rw c.first-k.ensures (touch_begins _ c.requires _ _)
 
 returns : tie.Need-returns-then-frame-f invariant_loop decreases_loop
 returns c =
-    let d = c in
-    let start = d in
-    touch_found _ start.before.before.before.before.before.before.before.requires _ start.before.before.before.before.before.before.before.args.f _ (stands_yes _ _ _ d.before.before.before.stands.ensures d.before.before.loop-s-test.true) (omega arith)
+    touch_found _ c.requires _ c.args.f _ (stands_yes _ _ _ c.stands.ensures c.loop-s-test.true) (omega arith)
 
 add_k : tie.Need-overflow_add-k invariant_loop decreases_loop
 add_k c =
-    let d = c in
-    let most = placement_count_lem _ d.before.before.before.before.before.before.before.requires in
-    omega (arith, (stands_yes _ _ _ d.before.before.before.stands.ensures d.before.before.loop-s-test.true).there)
+    let most = placement_count_lem _ c.requires in
+    omega (arith, (stands_yes _ _ _ c.stands.ensures c.loop-s-test.true).there)
 
 loop_less : tie.Need-loop-s-smaller invariant_loop decreases_loop
 loop_less c =
-    let d = c in
-    omega (arith, (stands_yes _ _ _ d.before.before.before.stands.ensures d.before.before.loop-s-test.true).there)
+    omega (arith, (stands_yes _ _ _ c.stands.ensures c.loop-s-test.true).there)
 
 loop_again : tie.Need-loop-s-preserved invariant_loop decreases_loop
 loop_again c =
-    let d = c in
-    let at = d.before.before.before.before.loop-s in
-    let start = d in
-    touch_on _ start.before.before.before.before.before.before.before.requires _ start.before.before.before.before.before.before.before.args.f at.k at.invariant (stands_yes _ _ _ d.before.before.before.stands.ensures d.before.before.loop-s-test.true)
+    let at = c.loop-s in
+    touch_on _ c.requires _ c.args.f at.k at.invariant (stands_yes _ _ _ c.stands.ensures c.loop-s-test.true)
     (λ e. omega arith)
 
 returns_2 : tie.Need-returns invariant_loop decreases_loop
 returns_2 c =
-    let at = c.before.before.loop-s in
-    let start = c in
-    touch_ends _ start.before.before.before.before.before.requires _ _ at.k at.invariant (stands_no _ _ _ c.before.stands.ensures c.loop-s-test.false)
+    let at = c.loop-s in
+    touch_ends _ c.requires _ _ at.k at.invariant (stands_no _ _ _ c.stands.ensures c.loop-s-test.false)
 
 pub touches_spec : {M : Type 1} → statement M
 touches_spec =

@@ -16,7 +16,7 @@ returns c = refl
 returns_2 : tie.Need-returns-else-s-lt-SIGNALS
 unfolding last_of
 returns_2 c =
-    let a = c.before.args in
+    let a = c.args in
     let l : length a.received ≡ 256 = search rules in
     sym (ap (λ (r : Reception). r.last) (get_or-eq_default a.received never_received {n = a.s} (omega (arith, l, c.if-s-lt-SIGNALS.false))))
 

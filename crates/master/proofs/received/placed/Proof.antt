@@ -11,44 +11,38 @@ use Rattle.master.proofs.received.placed.Tie as tie
 returns : tie.Need-returns-then-count-s
 unfolding last_fits
 returns c =
-    let a = c.before.before.before.args in
-    rw (le-ltb a.s (signal_count a.t.now) (omega (arith, c.before.count.ensures, c.if-count-s.true)))
+    let a = c.args in
+    rw (le-ltb a.s (signal_count a.t.now) (omega (arith, c.count.ensures, c.if-count-s.true)))
 
 returns_2 : tie.Need-returns-then-count-k
 unfolding last_fits
 returns_2 c =
-    let d1 = c in
-    let a = d1.before.before.before.before.before.args in
+    let a = c.args in
     rw (
-      lt-ltb a.s (signal_count a.t.now) (omega (arith, d1.before.before.before.count.ensures, d1.before.before.if-count-s.false)),
-      le-ltb a.k (placement_count a.t.now) (omega (arith, c.before.count-2.ensures, c.if-count-k.true)),
+      lt-ltb a.s (signal_count a.t.now) (omega (arith, c.count.ensures, c.if-count-s.false)),
+      le-ltb a.k (placement_count a.t.now) (omega (arith, c.count-2.ensures, c.if-count-k.true)),
     )
 
 returns_3 : tie.Need-returns-then-signal-s
 unfolding last_fits
 returns_3 c =
-    let d2 = c in
-    let d1 = d2 in
-    let a = d1.before.before.before.before.before.before.before.args in
+    let a = c.args in
     rw (
-      lt-ltb a.s (signal_count a.t.now) (omega (arith, d1.before.before.before.before.before.count.ensures, d1.before.before.before.before.if-count-s.false)),
-      lt-ltb a.k (placement_count a.t.now) (omega (arith, d2.before.before.before.count-2.ensures, d2.before.before.if-count-k.false)),
-      ne_eqb _ _ (λ e. c.if-signal-s.true (c.before.signal.ensures ∙ e)),
+      lt-ltb a.s (signal_count a.t.now) (omega (arith, c.count.ensures, c.if-count-s.false)),
+      lt-ltb a.k (placement_count a.t.now) (omega (arith, c.count-2.ensures, c.if-count-k.false)),
+      ne_eqb _ _ (λ e. c.if-signal-s.true (c.signal.ensures ∙ e)),
     )
 
 returns_4 : tie.Need-returns
 unfolding last_fits
 returns_4 c =
-    let d3 = c in
-    let d2 = d3 in
-    let d1 = d2 in
-    let a = d1.before.before.before.before.before.before.before.before.before.args in
+    let a = c.args in
     rw (
-      lt-ltb a.s (signal_count a.t.now) (omega (arith, d1.before.before.before.before.before.before.before.count.ensures, d1.before.before.before.before.before.before.if-count-s.false)),
-      lt-ltb a.k (placement_count a.t.now) (omega (arith, d2.before.before.before.before.before.count-2.ensures, d2.before.before.before.before.if-count-k.false)),
-      eq-eqb _ _ (sym d3.before.before.before.signal.ensures ∙ d3.before.before.if-signal-s.false),
+      lt-ltb a.s (signal_count a.t.now) (omega (arith, c.count.ensures, c.if-count-s.false)),
+      lt-ltb a.k (placement_count a.t.now) (omega (arith, c.count-2.ensures, c.if-count-k.false)),
+      eq-eqb _ _ (sym c.signal.ensures ∙ c.if-signal-s.false),
       c.published.ensures,
-      c.before.frame.ensures,
+      c.frame.ensures,
     )
 
 pub placed_spec : {M : Type 1} → statement M

@@ -21,28 +21,28 @@ loop_holds c = (omega arith, refl)
 
 returns : tie.Need-returns-then-not-fits invariant_loop decreases_loop
 returns c =
-    let a = c.before.before.before.before.before.before.args in
-    let at = c.before.before.before.before.loop-s in
+    let a = c.args in
+    let at = c.loop-s in
     let l : length a.received ≡ 256 = search rules in
-    sym (at.invariant.1 ∙ receptions_wrong a.t.now at.s a.received (omega (arith, l, c.before.before.before.loop-s-test.true))
-    (sym c.before.fits.ensures ∙ not-true c.before.fits.result c.if-not-fits.true-raw))
+    sym (at.invariant.1 ∙ receptions_wrong a.t.now at.s a.received (omega (arith, l, c.loop-s-test.true))
+    (sym c.fits.ensures ∙ not-true c.fits.result c.if-not-fits.true-raw))
 
 loop_again : tie.Need-loop-s-preserved invariant_loop decreases_loop
 loop_again c =
-    let a = c.before.before.before.before.before.before.args in
-    let at = c.before.before.before.before.loop-s in
-    let test = c.before.before.before.loop-s-test in
+    let a = c.args in
+    let at = c.loop-s in
+    let test = c.loop-s-test in
     let l : length a.received ≡ 256 = search rules in (
       omega (arith, test.true),
       at.invariant.1 ∙ receptions_right a.t.now at.s a.received (omega (arith, l, test.true))
-          (sym c.before.fits.ensures ∙ not-false c.before.fits.result c.if-not-fits.false-raw),
+          (sym c.fits.ensures ∙ not-false c.fits.result c.if-not-fits.false-raw),
     )
 
 returns_2 : tie.Need-returns invariant_loop decreases_loop
 returns_2 c =
-    let a = c.before.before.before.args in
+    let a = c.args in
     let l : length a.received ≡ 256 = search rules in
-    sym (c.before.loop-s.invariant.1 ∙ receptions_end a.t.now c.before.loop-s.s a.received (omega (arith, l, c.loop-s-test.false)))
+    sym (c.loop-s.invariant.1 ∙ receptions_end a.t.now c.loop-s.s a.received (omega (arith, l, c.loop-s-test.false)))
 
 pub received_fits_spec : {M : Type 1} → statement M
 received_fits_spec =

@@ -23,9 +23,9 @@ loop_holds c = (c.count-n.ensures, omega arith, search rules, refl)
 
 loop_again : tie.Need-loop-k-preserved invariant_loop decreases_loop
 loop_again c =
-    let loop = c.before.before.before.loop-k in
-    let is = c.before.receiver-s.ensures in
-    let more = c.before.before.loop-k-test.true in
+    let loop = c.loop-k in
+    let is = c.receiver-s.ensures in
+    let more = c.loop-k-test.true in
     elim c.if-s-lt-SIGNALS.branch [
       | then-s-lt-SIGNALS w ↦ (
         loop.invariant.0,
@@ -43,8 +43,8 @@ loop_again c =
 
 returns : tie.Need-returns invariant_loop decreases_loop
 returns c =
-    let e : c.before.loop-k.k ≡ placement_count c.before.before.before.before.args.t.now = omega (arith, c.loop-k-test.false, c.before.loop-k.invariant) in
-    rw e at c.before.loop-k.invariant.3
+    let e : c.loop-k.k ≡ placement_count c.args.t.now = omega (arith, c.loop-k-test.false, c.loop-k.invariant) in
+    rw e at c.loop-k.invariant.3
 
 pub received_in_spec : {M : Type 1} → statement M
 received_in_spec =

@@ -6,10 +6,10 @@ use Rattle.master.proofs.received.receiver.Statement.{statement}
 use Rattle.master.proofs.received.receiver.Tie as tie
 
 returns : tie.Need-returns-then-frame-f
-returns c = rw (eq-eqb _ _ (sym c.before.before.frame.ensures ∙ c.before.if-frame-f.true)) c.signal.ensures
+returns c = rw (eq-eqb _ _ (sym c.frame.ensures ∙ c.if-frame-f.true)) c.signal.ensures
 
 returns_2 : tie.Need-returns-else-frame-f
-returns_2 c = rw (ne_eqb _ _ (λ e. c.if-frame-f.false (c.before.frame.ensures ∙ e)))
+returns_2 c = rw (ne_eqb _ _ (λ e. c.if-frame-f.false (c.frame.ensures ∙ e)))
 
 pub receiver_spec : {M : Type 1} → statement M
 receiver_spec = tie.close (tie.spec (λ c κs. search rules) (λ c κs. search rules) (λ c. search rules) returns returns_2)

@@ -20,35 +20,33 @@ loop_holds : tie.Need-loop-i-init invariant_loop decreases_loop
 loop_holds c = (omega arith, refl)
 
 shared_slice_read_scalar_fits : tie.Need-bounds-values-i invariant_loop decreases_loop
-shared_slice_read_scalar_fits c = omega (arith, c.before.before.before.before.before.before.before.requires.1, c.before.before.loop-i-test.true)
+shared_slice_read_scalar_fits c = omega (arith, c.requires.1, c.loop-i-test.true)
 
 returns : tie.Need-returns-in-Refused invariant_loop decreases_loop
 returns c =
-    let start = c in
-    let a = start.before.before.before.before.before.before.before.before.before.before.before.args in
-    let at = c.before.before.before.before.before.before.before.loop-i in
-    let below = c.before.before.before.before.before.before.loop-i-test.true in
+    let a = c.args in
+    let at = c.loop-i in
+    let below = c.loop-i-test.true in
     sym
     (at.invariant.1
-    ∙ first_turn a.t.now a.signals.now a.values.now start.before.before.before.before.before.before.before.before.before.before.before.requires.1 at.i below
-    ∙ rw (← c.before.before.before.scalar_fits-fits.ensures, ← c.before.before.writable.ensures, c.before.in-Refused.is, c.at.ensures))
+    ∙ first_turn a.t.now a.signals.now a.values.now c.requires.1 at.i below
+    ∙ rw (← c.scalar_fits-fits.ensures, ← c.writable.ensures, c.in-Refused.is, c.at.ensures))
 
 loop_again : tie.Need-loop-i-preserved invariant_loop decreases_loop
 loop_again c =
-    let start = c in
-    let a = start.before.before.before.before.before.before.before.before.before.before.args in
-    let at = c.before.before.before.before.before.before.loop-i in
-    let below = c.before.before.before.before.before.loop-i-test.true in (
+    let a = c.args in
+    let at = c.loop-i in
+    let below = c.loop-i-test.true in (
       omega (arith, below),
-      at.invariant.1 ∙ first_turn a.t.now a.signals.now a.values.now start.before.before.before.before.before.before.before.before.before.before.requires.1 at.i below
-          ∙ rw (← c.before.before.scalar_fits-fits.ensures, ← c.before.writable.ensures, c.in_default.is),
+      at.invariant.1 ∙ first_turn a.t.now a.signals.now a.values.now c.requires.1 at.i below
+          ∙ rw (← c.scalar_fits-fits.ensures, ← c.writable.ensures, c.in_default.is),
     )
 
 returns_2 : tie.Need-returns invariant_loop decreases_loop
 returns_2 c =
-    let a = c.before.before.before.before.before.args in
-    let at = c.before.loop-i in
-    sym (at.invariant.1 ∙ first_end a.t.now a.signals.now a.values.now c.before.before.before.before.before.requires.1 at.i c.loop-i-test.false at.invariant.0)
+    let a = c.args in
+    let at = c.loop-i in
+    sym (at.invariant.1 ∙ first_end a.t.now a.signals.now a.values.now c.requires.1 at.i c.loop-i-test.false at.invariant.0)
 
 pub first_bad_spec : {M : Type 1} → statement M
 first_bad_spec =

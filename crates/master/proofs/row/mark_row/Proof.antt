@@ -22,22 +22,22 @@ loop_holds c = (omega arith, refl, refl)
 
 loop_again : tie.Need-loop-i-preserved invariant_loop decreases_loop
 loop_again c =
-    let a = c.before.before.before.before.before.before.before.before.before.before.args in
-    let at = c.before.before.before.before.before.before.loop-i in
-    let below = c.before.before.before.before.before.loop-i-test.true in
-    let marked = c.before.before.mark.ensures in (
+    let a = c.args in
+    let at = c.loop-i in
+    let below = c.loop-i-test.true in
+    let marked = c.mark.ensures in (
       omega (arith, below),
       at.invariant.1 ∙ marks_turn a.t.now a.signals.now at.i below at.pending ∙ rw marked,
       rw marked (marked_length a.t.now _ 0 at.pending) ∙ at.invariant.2,
     )
 
 same_length : tie.Need-shape_of-pending invariant_loop decreases_loop
-same_length c = c.before.loop-i.invariant.2
+same_length c = c.loop-i.invariant.2
 
 returns : tie.Need-returns invariant_loop decreases_loop
 returns c =
-    let a = c.before.before.before.before.before.args in
-    let at = c.before.loop-i in
+    let a = c.args in
+    let at = c.loop-i in
     sym (at.invariant.1 ∙ marks_end a.t.now a.signals.now at.i c.loop-i-test.false at.invariant.0 at.pending)
 
 pub mark_row_spec : {M : Type 1} → statement M

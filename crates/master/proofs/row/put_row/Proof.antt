@@ -23,31 +23,30 @@ abbrev decreases_loop : tie.decreases-loop-i
 decreases_loop t bytes₀ signals values i₀ bytes i = length signals - i
 
 loop_holds : tie.Need-loop-i-init invariant_loop decreases_loop
-loop_holds c = (omega arith, refl, c.before.before.before.before.requires.2, refl)
+loop_holds c = (omega arith, refl, c.requires.2, refl)
 
 shared_slice_read_put_scalar_2 : tie.Need-bounds-values-i invariant_loop decreases_loop
-shared_slice_read_put_scalar_2 c = omega (arith, c.before.before.before.before.before.before.before.before.before.requires.1, c.before.before.before.loop-i-test.true)
+shared_slice_read_put_scalar_2 c = omega (arith, c.requires.1, c.loop-i-test.true)
 
 cast_put_scalar : tie.Need-overflow_cast-values invariant_loop decreases_loop
 cast_put_scalar c =
-    let start = c in
-    let a = start.before.before.before.before.before.before.before.before.before.args in
-    let at = c.before.before.before.before.loop-i in
-    let below = c.before.before.before.loop-i-test.true in
+    let a = c.args in
+    let at = c.loop-i in
+    let below = c.loop-i-test.true in
     record {
       fits = omega (
         arith,
-        good_value a.t.now a.signals.now a.values.now start.before.before.before.before.before.before.before.before.before.requires.1 at.i below at.invariant.2 start.before.before.before.before.before.before.before.before.before.requires.0,
+        good_value a.t.now a.signals.now a.values.now c.requires.1 at.i below at.invariant.2 c.requires.0,
       );
     }
 
 loop_again : tie.Need-loop-i-preserved invariant_loop decreases_loop
 loop_again c =
-    let a = c.before.before.before.before.before.before.before.before.before.before.before.before.args in
-    let pre = c.before.before.before.before.before.before.before.before.before.before.before.before.requires in
-    let at = c.before.before.before.before.before.before.before.loop-i in
-    let below = c.before.before.before.before.before.before.loop-i-test.true in
-    let put = c.before.before.put_scalar.ensures in (
+    let a = c.args in
+    let pre = c.requires in
+    let at = c.loop-i in
+    let below = c.loop-i-test.true in
+    let put = c.put_scalar.ensures in (
       omega (arith, below),
       rw put (value_length a.t.now at.bytes _ (scalar _)) ∙ at.invariant.1,
       good_turn a.t.now a.signals.now a.values.now pre.1 at.i below at.invariant.2,
@@ -55,14 +54,14 @@ loop_again c =
     )
 
 same_length : tie.Need-shape_of-bytes invariant_loop decreases_loop
-same_length c = c.before.loop-i.invariant.1
+same_length c = c.loop-i.invariant.1
 
 returns : tie.Need-returns invariant_loop decreases_loop
 returns c =
-    let a = c.before.before.before.before.before.before.args in
-    let at = c.before.loop-i in
+    let a = c.args in
+    let at = c.loop-i in
     sym
-    (at.invariant.3 ∙ put_end a.t.now a.signals.now a.values.now c.before.before.before.before.before.before.requires.1 at.i c.loop-i-test.false at.invariant.0 at.bytes)
+    (at.invariant.3 ∙ put_end a.t.now a.signals.now a.values.now c.requires.1 at.i c.loop-i-test.false at.invariant.0 at.bytes)
 
 pub put_row_spec : {M : Type 1} → statement M
 put_row_spec =

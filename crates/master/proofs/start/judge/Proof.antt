@@ -7,17 +7,17 @@ use Rattle.master.proofs.start.judge.Tie as tie
 
 returns : tie.Need-returns-in-Refused
 unfolding fresh_verdict
-returns c = rw (← c.before.taken.ensures.0, c.in-Refused.is)
+returns c = rw (← c.taken.ensures.0, c.in-Refused.is)
 
 returns_2 : tie.Need-returns-then-size-buffer_size
 unfolding fresh_verdict
 returns_2 c =
-    let taken = c.before.before.before.before.taken in
-    rw (← taken.ensures.0, c.before.before.before.in_default.is, ← c.before.before.buffer_size.ensures, ne_eqb _ _ c.before.if-size-buffer_size.true, c.refused.ensures)
+    let taken = c.taken in
+    rw (← taken.ensures.0, c.in_default.is, ← c.buffer_size.ensures, ne_eqb _ _ c.if-size-buffer_size.true, c.refused.ensures)
 
 returns_3 : tie.Need-returns
 unfolding fresh_verdict
-returns_3 c = rw (← c.before.before.before.taken.ensures.0, c.before.before.in_default.is, ← c.before.buffer_size.ensures, eq-eqb _ _ c.if-size-buffer_size.false)
+returns_3 c = rw (← c.taken.ensures.0, c.in_default.is, ← c.buffer_size.ensures, eq-eqb _ _ c.if-size-buffer_size.false)
 
 pub judge_spec : {M : Type 1} → statement M
 judge_spec =

@@ -4,10 +4,10 @@ use Rattle.master.proofs.tick.request_slot.Statement.{statement}
 use Rattle.master.proofs.tick.request_slot.Tie as tie
 
 returns : tie.Need-returns-then-is_sending
-returns c = rw (← c.before.is_sending.ensures, c.if-is_sending.true)
+returns c = rw (← c.is_sending.ensures, c.if-is_sending.true)
 
 returns_2 : tie.Need-returns-else-is_sending
-returns_2 c = rw (← c.before.is_sending.ensures, c.if-is_sending.false)
+returns_2 c = rw (← c.is_sending.ensures, c.if-is_sending.false)
 
 pub request_slot_spec : {M : Type 1} → statement M
 request_slot_spec = tie.close (tie.spec (λ c κs. search rules) returns returns_2)

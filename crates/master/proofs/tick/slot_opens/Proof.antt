@@ -7,34 +7,34 @@ use Rattle.master.proofs.tick.slot_opens.Tie as tie
 
 returns : tie.Need-returns-then-kind-eq0
 unfolding slot_opens
-returns c = rw (← c.before.before.kind-kind.ensures, ← c.before.target-target.ensures, eq-eqb _ _ c.if-kind-eq0.true)
+returns c = rw (← c.kind-kind.ensures, ← c.target-target.ensures, eq-eqb _ _ c.if-kind-eq0.true)
 
 returns_2 : tie.Need-returns-then-kind-eq1
 unfolding slot_opens
 returns_2 c = rw (
-  ← c.before.before.before.before.kind-kind.ensures,
-  ← c.before.before.before.target-target.ensures,
+  ← c.kind-kind.ensures,
+  ← c.target-target.ensures,
   ne_eqb _ _
-      c.before.before.if-kind-eq0.false,
-  eq-eqb _ _ c.before.if-kind-eq1.true,
+      c.if-kind-eq0.false,
+  eq-eqb _ _ c.if-kind-eq1.true,
   c.first_pending.ensures,
 )
 
 returns_3 : tie.Need-returns-then-kind-eq2
 unfolding slot_opens
 returns_3 c =
-    let kind = c.before.before.before.before.before.kind-kind in
-    let target = c.before.before.before.before.target-target in
-    rw (← kind.ensures, ← target.ensures, ne_eqb _ _ c.before.before.before.if-kind-eq0.false, ne_eqb _ _ c.before.before.if-kind-eq1.false, eq-eqb _ _ c.before.if-kind-eq2.true, c.request_slot.ensures)
+    let kind = c.kind-kind in
+    let target = c.target-target in
+    rw (← kind.ensures, ← target.ensures, ne_eqb _ _ c.if-kind-eq0.false, ne_eqb _ _ c.if-kind-eq1.false, eq-eqb _ _ c.if-kind-eq2.true, c.request_slot.ensures)
 
 returns_4 : tie.Need-returns
 unfolding slot_opens
 returns_4 c = rw (
-  ← c.before.before.before.before.kind-kind.ensures,
-  ← c.before.before.before.target-target.ensures,
+  ← c.kind-kind.ensures,
+  ← c.target-target.ensures,
   ne_eqb _ _
-      c.before.before.if-kind-eq0.false,
-  ne_eqb _ _ c.before.if-kind-eq1.false,
+      c.if-kind-eq0.false,
+  ne_eqb _ _ c.if-kind-eq1.false,
   ne_eqb _ _ c.if-kind-eq2.false,
 )
 

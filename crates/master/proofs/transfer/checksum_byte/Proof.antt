@@ -7,15 +7,15 @@ use Rattle.master.proofs.transfer.checksum_byte.Tie as tie
 
 returns : tie.Need-returns-in-Byte
 returns c =
-    let a = c.before.before.before.args in
-    let asked = c.before.before.before.requires in
-    summed a.id a.wish a.bytes.now c.in-Byte.byte asked (sym c.before.of.ensures.0 ∙ c.in-Byte.is)
+    let a = c.args in
+    let asked = c.requires in
+    summed a.id a.wish a.bytes.now c.in-Byte.byte asked (sym c.of.ensures.0 ∙ c.in-Byte.is)
 
 returns_2 : tie.Need-returns-in-Refused
 returns_2 c =
-    let a = c.before.before.before.args in
-    let asked = c.before.before.before.requires in
-    absurd (not_summed a.id a.wish a.bytes.now c.in-Refused.refusal asked (sym c.before.of.ensures.0 ∙ c.in-Refused.is))
+    let a = c.args in
+    let asked = c.requires in
+    absurd (not_summed a.id a.wish a.bytes.now c.in-Refused.refusal asked (sym c.of.ensures.0 ∙ c.in-Refused.is))
 
 pub checksum_byte_spec : {M : Type 1} → statement M
 checksum_byte_spec =

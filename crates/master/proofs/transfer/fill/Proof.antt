@@ -20,29 +20,29 @@ loop_holds : tie.Need-loop-i-init invariant_loop decreases_loop
 loop_holds c = (omega arith, refl, refl)
 
 array_read_part : tie.Need-bounds-nine-i invariant_loop decreases_loop
-array_read_part c = omega (arith, c.loop-i-test.true, c.before.loop-i.invariant.1, c.before.before.requires)
+array_read_part c = omega (arith, c.loop-i-test.true, c.loop-i.invariant.1, c.requires)
 
 loop_less : tie.Need-loop-i-smaller invariant_loop decreases_loop
-loop_less c = omega (arith, c.loop-i-test.true, c.before.loop-i.invariant.1)
+loop_less c = omega (arith, c.loop-i-test.true, c.loop-i.invariant.1)
 
 loop_again : tie.Need-loop-i-preserved invariant_loop decreases_loop
 loop_again c =
-    let a = c.before.before.args in
-    let at = c.before.loop-i in
+    let a = c.args in
+    let at = c.loop-i in
     let l : length a.nine ≡ 9 = search rules in (
       omega (arith, c.loop-i-test.true, at.invariant.1),
       simp length-set at.invariant.1,
       copy_turn a.part.now a.nine _ at.i
-          (omega (arith, c.loop-i-test.true, at.invariant.1, c.before.before.requires, l)) (omega (arith, c.loop-i-test.true, at.invariant.1)) at.invariant.2,
+          (omega (arith, c.loop-i-test.true, at.invariant.1, c.requires, l)) (omega (arith, c.loop-i-test.true, at.invariant.1)) at.invariant.2,
     )
 
 same_length : tie.Need-shape_of-part invariant_loop decreases_loop
-same_length c = c.before.loop-i.invariant.1
+same_length c = c.loop-i.invariant.1
 
 returns : tie.Need-returns invariant_loop decreases_loop
 returns c =
-    let a = c.before.before.args in
-    let at = c.before.loop-i in
+    let a = c.args in
+    let at = c.loop-i in
     filled_nine a.part.now a.nine _ at.i (omega (arith, c.loop-i-test.false, at.invariant.0, at.invariant.1)) at.invariant.2
 
 pub fill_spec : {M : Type 1} → statement M

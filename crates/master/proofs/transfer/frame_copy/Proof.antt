@@ -11,19 +11,19 @@ use Rattle.master.proofs.transfer.frame_copy.Statement.{statement}
 use Rattle.master.proofs.transfer.frame_copy.Tie as tie
 
 returns : tie.Need-returns-then-not-published
-returns c = rw (← c.before.published.ensures, not-true c.before.published.result c.if-not-published.true-raw)
+returns c = rw (← c.published.ensures, not-true c.published.result c.if-not-published.true-raw)
 
 part_copied_end : tie.Need-slice_bounds-copied-end
 part_copied_end c =
-    let a = c.before.before.before.before.before.args in
-    let asked = c.before.before.before.before.before.requires in
+    let a = c.args in
+    let asked = c.requires in
     part_end a.t.now asked.0 a.bytes.now asked.1 a.f asked.2 c.length.result c.length.ensures
 
 copied_requires : tie.Need-copied-requires
 copied_requires c κs =
-    let a = c.before.before.before.before.before.before.args in
-    let asked = c.before.before.before.before.before.before.requires in
-    let told = c.before.length in (
+    let a = c.args in
+    let asked = c.requires in
+    let told = c.length in (
       open_identifier_lem a.t.now asked.0 (Frame a.f) asked.2,
       part_low a.t.now asked.0 a.bytes.now asked.1
           a.f asked.2 told.result told.ensures,
@@ -33,11 +33,11 @@ copied_requires c κs =
 
 returns_2 : tie.Need-returns
 returns_2 c =
-    let a = c.before.before.before.before.before.before.before.args in
-    let asked = c.before.before.before.before.before.before.before.requires in
-    let published = c.before.before.before.before.published in
-    let told = c.before.before.length in
-    rw (← published.ensures, not-false published.result c.before.before.before.if-not-published.false-raw, c.copied.ensures)
+    let a = c.args in
+    let asked = c.requires in
+    let published = c.published in
+    let told = c.length in
+    rw (← published.ensures, not-false published.result c.if-not-published.false-raw, c.copied.ensures)
     (ap (copied a.t.now (Frame a.f)) (part_data a.t.now asked.0 a.bytes.now asked.1 a.f asked.2
     told.result told.ensures))
 

@@ -20,26 +20,26 @@ loop_holds : tie.Need-loop-i-init invariant_loop decreases_loop
 loop_holds c = (omega arith, refl, refl)
 
 array_write_all : tie.Need-bounds-all-i invariant_loop decreases_loop
-array_write_all c = omega (arith, c.before.loop-i-test.true, c.before.before.before.requires)
+array_write_all c = omega (arith, c.loop-i-test.true, c.requires)
 
 loop_again : tie.Need-loop-i-preserved invariant_loop decreases_loop
 loop_again c =
-    let at = c.before.before.loop-i in
-    let test = c.before.loop-i-test in (
+    let at = c.loop-i in
+    let test = c.loop-i-test in (
       omega (arith, test.true),
       refl,
-      copy_turn (replicate 9 255) c.before.before.before.args.bytes.now _ at.i
-          test.true (omega (arith, test.true, c.before.before.before.requires)) at.invariant.2,
+      copy_turn (replicate 9 255) c.args.bytes.now _ at.i
+          test.true (omega (arith, test.true, c.requires)) at.invariant.2,
     )
 
 array_write_all_2 : tie.Need-bounds-all-n invariant_loop decreases_loop
-array_write_all_2 c = omega (arith, c.before.before.requires)
+array_write_all_2 c = omega (arith, c.requires)
 
 returns : tie.Need-returns invariant_loop decreases_loop
 returns c =
-    let a = c.before.before.args in
-    let at = c.before.loop-i in
-    nine_bytes a.bytes.now a.checksum _ at.i (omega (arith, c.loop-i-test.false, at.invariant.0)) c.before.before.requires at.invariant.2
+    let a = c.args in
+    let at = c.loop-i in
+    nine_bytes a.bytes.now a.checksum _ at.i (omega (arith, c.loop-i-test.false, at.invariant.0)) c.requires at.invariant.2
 
 pub nine_spec : {M : Type 1} → statement M
 nine_spec =

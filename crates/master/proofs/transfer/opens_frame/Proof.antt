@@ -7,22 +7,22 @@ use Rattle.master.proofs.transfer.opens_frame.Tie as tie
 
 returns : tie.Need-returns-then-kind-eq0
 unfolding entry_opens
-returns c = rw (← c.before.before.kind-kind.ensures, ← c.before.target-target.ensures, eq-eqb _ _ c.if-kind-eq0.true)
+returns c = rw (← c.kind-kind.ensures, ← c.target-target.ensures, eq-eqb _ _ c.if-kind-eq0.true)
 
 returns_2 : tie.Need-returns-then-kind-eq1
 unfolding entry_opens
 returns_2 c = rw (
-  ← c.before.before.before.before.kind-kind.ensures,
-  ← c.before.before.before.target-target.ensures,
+  ← c.kind-kind.ensures,
+  ← c.target-target.ensures,
   ne_eqb _ _
-      c.before.before.if-kind-eq0.false,
-  eq-eqb _ _ c.before.if-kind-eq1.true,
+      c.if-kind-eq0.false,
+  eq-eqb _ _ c.if-kind-eq1.true,
   c.has.ensures,
 )
 
 returns_3 : tie.Need-returns
 unfolding entry_opens
-returns_3 c = rw (← c.before.before.before.kind-kind.ensures, ← c.before.before.target-target.ensures, ne_eqb _ _ c.before.if-kind-eq0.false, ne_eqb _ _ c.if-kind-eq1.false)
+returns_3 c = rw (← c.kind-kind.ensures, ← c.target-target.ensures, ne_eqb _ _ c.if-kind-eq0.false, ne_eqb _ _ c.if-kind-eq1.false)
 
 pub opens_frame_spec : {M : Type 1} → statement M
 opens_frame_spec =

@@ -7,11 +7,11 @@ use Rattle.master.proofs.transfer.opens_request.Tie as tie
 
 returns : tie.Need-returns-then-kind-eq2
 unfolding entry_opens
-returns c = rw (← c.before.before.kind.ensures, eq-eqb _ _ c.before.if-kind-eq2.true, c.is_sending.ensures)
+returns c = rw (← c.kind.ensures, eq-eqb _ _ c.if-kind-eq2.true, c.is_sending.ensures)
 
 returns_2 : tie.Need-returns
 unfolding entry_opens
-returns_2 c = rw (← c.before.kind.ensures, ne_eqb _ _ c.if-kind-eq2.false)
+returns_2 c = rw (← c.kind.ensures, ne_eqb _ _ c.if-kind-eq2.false)
 
 pub opens_request_spec : {M : Type 1} → statement M
 opens_request_spec = tie.close (tie.spec (λ c κs. search rules) (λ c κs. search rules) returns returns_2)

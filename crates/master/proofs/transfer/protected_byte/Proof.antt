@@ -6,12 +6,12 @@ use Rattle.master.proofs.transfer.protected_byte.Statement.{statement}
 use Rattle.master.proofs.transfer.protected_byte.Tie as tie
 
 returns : tie.Need-returns-in-Byte
-returns c = built c.before.before.args.id c.in-Byte.byte
-    c.before.before.requires (sym c.before.build.ensures.0 ∙ c.in-Byte.is)
+returns c = built c.args.id c.in-Byte.byte
+    c.requires (sym c.build.ensures.0 ∙ c.in-Byte.is)
 
 returns_2 : tie.Need-returns-in-Refused
-returns_2 c = absurd (not_refused c.before.before.args.id c.in-Refused.refusal
-    c.before.before.requires (sym c.before.build.ensures.0 ∙ c.in-Refused.is))
+returns_2 c = absurd (not_refused c.args.id c.in-Refused.refusal
+    c.requires (sym c.build.ensures.0 ∙ c.in-Refused.is))
 
 pub protected_byte_spec : {M : Type 1} → statement M
 protected_byte_spec =

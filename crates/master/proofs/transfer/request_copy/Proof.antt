@@ -13,14 +13,14 @@ use Rattle.master.proofs.transfer.request_copy.Tie as tie
 copied_requires : tie.Need-copied-requires
 unfolding format_of
 copied_requires c κs =
-    let l : length c.before.request_data-bytes.result ≡ 8 = search rules in
-    let k = first_length_lem c.before.request_data-bytes.result 8 (omega (arith, l)) in
+    let l : length c.request_data-bytes.result ≡ 8 = search rules in
+    let k = first_length_lem c.request_data-bytes.result 8 (omega (arith, l)) in
     (omega arith, omega (arith, k), omega (arith, k))
 
 returns : tie.Need-returns
 returns c =
-    let a = c.before.before.before.before.before.args in
-    let request-data = c.before.before.request_data-bytes in
+    let a = c.args in
+    let request-data = c.request_data-bytes in
     let l : length request-data.result ≡ 8 = search rules in
     c.copied.ensures ∙ ap (copied a.t.now Request) (first_all request-data.result 8 l ∙ request-data.ensures)
 

@@ -8,73 +8,73 @@ use Rattle.master.proofs.write.writable.Tie as tie
 
 returns : tie.Need-returns-then-count-s
 unfolding writable
-returns c = rw (← c.before.before.count.ensures, le-ltb _ _ c.before.if-count-s.true, c.refused.ensures)
+returns c = rw (← c.count.ensures, le-ltb _ _ c.if-count-s.true, c.refused.ensures)
 
 returns_2 : tie.Need-returns-then-not-published
 unfolding writable
 returns_2 c =
-    let count = c.before.before.before.before.count in
-    let published = c.before.before.published in
-    rw (← count.ensures, lt-ltb _ _ c.before.before.before.if-count-s.false, ← published.ensures, not-true published.result c.before.if-not-published.true-raw, c.refused-then-not-published.ensures)
+    let count = c.count in
+    let published = c.published in
+    rw (← count.ensures, lt-ltb _ _ c.if-count-s.false, ← published.ensures, not-true published.result c.if-not-published.true-raw, c.refused-then-not-published.ensures)
 
 returns_3 : tie.Need-returns-then-is_array-array
 unfolding writable
 returns_3 c =
-    let a = c.before.before.before.before.before.before.before.before.args in
-    let count = c.before.before.before.before.before.before.count in
-    let if1 = c.before.before.before.before.before.if-count-s in
-    let published = c.before.before.before.before.published in
-    let is-array = c.before.before.is_array in
+    let a = c.args in
+    let count = c.count in
+    let if1 = c.if-count-s in
+    let published = c.published in
+    let is-array = c.is_array in
     rw (
       ← count.ensures,
       lt-ltb _ _ if1.false,
       ← published.ensures,
       not-false published.result
-          c.before.before.before.if-not-published.false-raw,
+          c.if-not-published.false-raw,
       ← is-array.ensures,
       not-true (beq is-array.result a.array)
-          c.before.if-is_array-array.true,
+          c.if-is_array-array.true,
       c.refused-then-is_array-array.ensures,
     )
 
 returns_4 : tie.Need-returns-then-not-fits
 unfolding writable
 returns_4 c =
-    let a = c.before.before.before.before.before.before.before.before.before.args in
-    let count = c.before.before.before.before.before.before.before.count in
-    let if1 = c.before.before.before.before.before.before.if-count-s in
-    let published = c.before.before.before.before.before.published in
-    let is-array = c.before.before.before.is_array in
+    let a = c.args in
+    let count = c.count in
+    let if1 = c.if-count-s in
+    let published = c.published in
+    let is-array = c.is_array in
     rw (
       ← count.ensures,
       lt-ltb _ _ if1.false,
       ← published.ensures,
       not-false published.result
-          c.before.before.before.before.if-not-published.false-raw,
+          c.if-not-published.false-raw,
       ← is-array.ensures,
       not-false (beq is-array.result a.array)
-          c.before.before.if-is_array-array.false,
-      not-true a.fits c.before.if-not-fits.true-raw,
+          c.if-is_array-array.false,
+      not-true a.fits c.if-not-fits.true-raw,
       c.refused-then-not-fits.ensures,
     )
 
 returns_5 : tie.Need-returns
 unfolding writable
 returns_5 c =
-    let a = c.before.before.before.before.before.before.before.before.args in
-    let count = c.before.before.before.before.before.before.count in
-    let if1 = c.before.before.before.before.before.if-count-s in
-    let published = c.before.before.before.before.published in
-    let is-array = c.before.before.is_array in
+    let a = c.args in
+    let count = c.count in
+    let if1 = c.if-count-s in
+    let published = c.published in
+    let is-array = c.is_array in
     rw (
       ← count.ensures,
       lt-ltb _ _ if1.false,
       ← published.ensures,
       not-false published.result
-          c.before.before.before.if-not-published.false-raw,
+          c.if-not-published.false-raw,
       ← is-array.ensures,
       not-false (beq is-array.result a.array)
-          c.before.if-is_array-array.false,
+          c.if-is_array-array.false,
       not-false a.fits c.if-not-fits.false-raw,
     )
 

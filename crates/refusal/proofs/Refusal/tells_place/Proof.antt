@@ -21,22 +21,22 @@ high row n one l = rw (ne_eqb n 1 one, le-leb 4 n l)
 
 returns : tie.Need-returns-then-self-eq-TABLE
 unfolding tells_place
-returns c = rw (eq-eqb c.before.before.args.self.number 1 c.if-self-eq-TABLE.true)
+returns c = rw (eq-eqb c.args.self.number 1 c.if-self-eq-TABLE.true)
 
 returns_2 : tie.Need-returns-then-self-lt-UNKNOWN
 returns_2 c =
-    let a = c.before.before.before.before.args in
-    sym (low a.row a.self.number c.before.before.if-self-eq-TABLE.false c.if-self-lt-UNKNOWN.true)
+    let a = c.args in
+    sym (low a.row a.self.number c.if-self-eq-TABLE.false c.if-self-lt-UNKNOWN.true)
 
 returns_3 : tie.Need-returns-then-row
 returns_3 c =
-    let a = c.before.before.before.before.before.before.args in
-    sym (high a.row a.self.number c.before.before.before.before.if-self-eq-TABLE.false c.before.before.if-self-lt-UNKNOWN.false ∙ rw c.before.if-row.true)
+    let a = c.args in
+    sym (high a.row a.self.number c.if-self-eq-TABLE.false c.if-self-lt-UNKNOWN.false ∙ rw c.if-row.true)
 
 returns_4 : tie.Need-returns-else-row
 returns_4 c =
-    let a = c.before.before.before.before.before.args in
-    sym (high a.row a.self.number c.before.before.before.if-self-eq-TABLE.false c.before.if-self-lt-UNKNOWN.false ∙ rw c.if-row.false)
+    let a = c.args in
+    sym (high a.row a.self.number c.if-self-eq-TABLE.false c.if-self-lt-UNKNOWN.false ∙ rw c.if-row.false)
 
 pub tells_place_spec : {M : Type 1} → statement M
 tells_place_spec = tie.close (tie.spec returns returns_2 returns_3 returns_4)

@@ -24,40 +24,30 @@ loop_holds c = (omega arith, omega arith, some_decimal _ _ c.if-field-eq0.false)
 
 returns_2 : tie.Need-returns-then-digit-gt9 invariant_loop decreases_loop
 returns_2 c =
-    let c3 = c in
-    let c4 = c3 in
-    let c7 = c4 in
-    sym (c4.before.before.before.before.loop-i.invariant.2
-    ∙ no_digit c7.before.before.before.before.before.before.before.args.limit c7.before.before.before.before.before.before.before.args.field.now c4.before.before.before.before.loop-i.value c4.before.before.before.before.loop-i.i c3.before.before.before.loop-i-test.true
-    (omega (arith, c.before.digit-digit.ensures)))
+    sym (c.loop-i.invariant.2
+    ∙ no_digit c.args.limit c.args.field.now c.loop-i.value c.loop-i.i c.loop-i-test.true
+    (omega (arith, c.digit-digit.ensures)))
 
 returns_3 : tie.Need-returns-then-limit-value invariant_loop decreases_loop
 returns_3 c =
-    let c4 = c in
-    let c5 = c4 in
-    let c8 = c5 in
-    sym (c5.before.before.before.before.before.loop-i.invariant.2
-    ∙ too_large c8.before.before.before.before.before.before.before.before.args.limit c8.before.before.before.before.before.before.before.before.args.field.now c5.before.before.before.before.before.loop-i.value c5.before.before.before.before.before.loop-i.i c4.before.before.before.before.loop-i-test.true
-    (omega (arith, c.before.before.digit-digit.ensures)))
+    sym (c.loop-i.invariant.2
+    ∙ too_large c.args.limit c.args.field.now c.loop-i.value c.loop-i.i c.loop-i-test.true
+    (omega (arith, c.digit-digit.ensures)))
 
 loop_again : tie.Need-loop-i-preserved invariant_loop decreases_loop
 loop_again c =
-    let c4 = c in
-    let c5 = c4 in
-    let c8 = c5 in
-    let e = c.before.before.digit-digit.ensures in (
+    let e = c.digit-digit.ensures in (
       omega arith,
       omega arith,
-      c5.before.before.before.before.before.loop-i.invariant.2
-          ∙ next_digit c8.before.before.before.before.before.before.before.before.args.limit c8.before.before.before.before.before.before.before.before.args.field.now c5.before.before.before.before.before.loop-i.value c5.before.before.before.before.before.loop-i.i c4.before.before.before.before.loop-i-test.true
+      c.loop-i.invariant.2
+          ∙ next_digit c.args.limit c.args.field.now c.loop-i.value c.loop-i.i c.loop-i-test.true
           (omega (arith, e)) (omega (arith, e))
           ∙ rw (← e),
     )
 
 returns_4 : tie.Need-returns invariant_loop decreases_loop
 returns_4 c =
-    let c4 = c in
-    sym (c.before.loop-i.invariant.2 ∙ all_digits c4.before.before.before.before.args.limit c4.before.before.before.before.args.field.now c.before.loop-i.value c.before.loop-i.i c.loop-i-test.false)
+    sym (c.loop-i.invariant.2 ∙ all_digits c.args.limit c.args.field.now c.loop-i.value c.loop-i.i c.loop-i-test.false)
 
 pub decimal_spec : {M : Type 1} → statement M
 decimal_spec =

@@ -7,15 +7,15 @@ use Rattle.script.proofs.fields.number.Tie as tie
 
 returns : tie.Need-returns-in-Word
 unfolding number_field
-returns c = rw (sym c.before.decimal.ensures ∙ c.in-Word.is)
+returns c = rw (sym c.decimal.ensures ∙ c.in-Word.is)
 
 returns_2 : tie.Need-returns-in-Number
 unfolding number_field
-returns_2 c = rw (sym c.before.before.decimal.ensures ∙ c.before.in-Number.is) c.decimal-in-Number.ensures
+returns_2 c = rw (sym c.decimal.ensures ∙ c.in-Number.is) c.decimal-in-Number.ensures
 
 returns_3 : tie.Need-returns-in-Wrong
 unfolding number_field
-returns_3 c = rw (sym c.before.decimal.ensures ∙ c.in-Wrong.is)
+returns_3 c = rw (sym c.decimal.ensures ∙ c.in-Wrong.is)
 
 pub number_spec : {M : Type 1} → statement M
 number_spec =

@@ -8,16 +8,14 @@ returns : tie.Need-returns-then-field-ne2
 returns c = no_two _ c.if-field-ne2.true
 
 returns_2 : tie.Need-returns-then-high-gt15
-returns_2 c = no_high _ c.before.before.before.before.before.if-field-ne2.false c.before.before.before.digit-high.ensures c.before.digit-low.ensures c.if-high-gt15.true
+returns_2 c = no_high _ c.if-field-ne2.false c.digit-high.ensures c.digit-low.ensures c.if-high-gt15.true
 
 returns_3 : tie.Need-returns-then-low-gt15
-returns_3 c = no_low _ c.before.before.before.before.before.before.if-field-ne2.false c.before.before.before.before.digit-high.ensures c.before.before.digit-low.ensures c.if-low-gt15.true
+returns_3 c = no_low _ c.if-field-ne2.false c.digit-high.ensures c.digit-low.ensures c.if-low-gt15.true
 
 returns_4 : tie.Need-returns
 returns_4 c =
-    let c4 = c in
-    let c6 = c4 in
-    a_pair _ c6.before.before.before.before.before.before.if-field-ne2.false c4.before.before.before.before.digit-high.ensures c.before.before.digit-low.ensures c.before.if-high-gt15.false c.if-low-gt15.false
+    a_pair _ c.if-field-ne2.false c.digit-high.ensures c.digit-low.ensures c.if-high-gt15.false c.if-low-gt15.false
 
 pub pair_spec : {M : Type 1} → statement M
 pair_spec =

@@ -10,19 +10,15 @@ returns : tie.Need-returns-then-form-eq0
 returns c = no_form _ _ c.if-form-eq0.true
 
 returns_2 : tie.Need-returns-then-form-eq72
-returns_2 c = c.pair.ensures ∙ by_pair _ _ c.before.before.before.if-form-eq0.false c.before.if-form-eq72.true
+returns_2 c = c.pair.ensures ∙ by_pair _ _ c.if-form-eq0.false c.if-form-eq72.true
 
 returns_3 : tie.Need-returns-then-digit-gt9
 returns_3 c =
-    let c4 = c in
-    let c6 = c4 in
-    c.word.ensures ∙ by_word _ _ c6.before.before.before.before.before.before.if-form-eq0.false c4.before.before.before.before.if-form-eq72.false (omega (arith, c.before.before.digit.ensures))
+    c.word.ensures ∙ by_word _ _ c.if-form-eq0.false c.if-form-eq72.false (omega (arith, c.digit.ensures))
 
 returns_4 : tie.Need-returns
 returns_4 c =
-    let c4 = c in
-    let c6 = c4 in
-    c.number.ensures ∙ by_number_lem _ _ c6.before.before.before.before.before.before.if-form-eq0.false c4.before.before.before.before.if-form-eq72.false (omega (arith, c.before.before.digit.ensures))
+    c.number.ensures ∙ by_number_lem _ _ c.if-form-eq0.false c.if-form-eq72.false (omega (arith, c.digit.ensures))
 
 pub read_spec : {M : Type 1} → statement M
 read_spec =

@@ -23,26 +23,20 @@ loop_holds c = (omega arith, refl)
 
 returns_2 : tie.Need-returns-then-field-i invariant_loop decreases_loop
 returns_2 c =
-    let c3 = c in
-    let c4 = c3 in
-    let c6 = c4 in
     is_wrong _ _
-    (c4.before.before.before.before.loop-i.invariant.1
-    ∙ other_character c6.before.before.before.before.before.before.args.form.now c6.before.before.before.before.before.before.args.field.now c4.before.before.before.before.loop-i.i (omega arith) c3.before.before.before.loop-i-test.true c.if-field-i.true)
+    (c.loop-i.invariant.1
+    ∙ other_character c.args.form.now c.args.field.now c.loop-i.i (omega arith) c.loop-i-test.true c.if-field-i.true)
 
 loop_again : tie.Need-loop-i-preserved invariant_loop decreases_loop
-loop_again c =
-    let c3 = c in
-    let c4 = c3 in
-    let c6 = c4 in (
-      omega arith,
-      c4.before.before.before.before.loop-i.invariant.1
-          ∙ same_character c6.before.before.before.before.before.before.args.form.now c6.before.before.before.before.before.before.args.field.now c4.before.before.before.before.loop-i.i (omega arith) c3.before.before.before.loop-i-test.true c.if-field-i.false,
-    )
+loop_again c = (
+  omega arith,
+  c.loop-i.invariant.1
+      ∙ same_character c.args.form.now c.args.field.now c.loop-i.i (omega arith) c.loop-i-test.true c.if-field-i.false,
+)
 
 returns_3 : tie.Need-returns invariant_loop decreases_loop
 returns_3 c =
-    is_word _ _ (c.before.loop-i.invariant.1 ∙ same_end c.before.before.before.args.form.now c.before.before.before.args.field.now c.before.loop-i.i (omega arith) c.loop-i-test.false)
+    is_word _ _ (c.loop-i.invariant.1 ∙ same_end c.args.form.now c.args.field.now c.loop-i.i (omega arith) c.loop-i-test.false)
 
 pub word_spec : {M : Type 1} → statement M
 word_spec =

@@ -11,7 +11,7 @@ returns c = simp (eq-eqb _ _ c.if-form-eq0.true)
 
 returns_2 : tie.Need-returns
 unfolding is_list
-returns_2 c = simp (ne_eqb _ _ c.before.if-form-eq0.false)
+returns_2 c = simp (ne_eqb _ _ c.if-form-eq0.false)
 
 pub is_list_spec : {M : Type 1} → statement M
 is_list_spec = tie.close (tie.spec returns (λ c. search rules) returns_2)

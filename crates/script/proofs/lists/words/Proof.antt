@@ -29,53 +29,38 @@ loop_holds c = (omega arith, omega arith, λ r after l. l)
 
 returns : tie.Need-returns-then-words-n invariant_loop decreases_loop
 returns c =
-    let c3 = c in
-    let c4 = c3 in
-    let c5 = c4 in
-    let c8 = c5 in
-    c5.before.before.before.before.before.loop-place.invariant.2 _ _
-    (rw (list_next (decimal_field 65535) c8.before.before.before.before.before.before.before.before.args.line.now c5.before.before.before.before.before.loop-place.place c3.before.before.before.find-end.result c4.before.before.before.before.loop-place-test.true c3.before.before.before.find-end.ensures.0
-    c3.before.before.before.find-end.ensures.1) (listed_full _ _ _ _ c.if-words-n.true))
+    c.loop-place.invariant.2 _ _
+    (rw (list_next (decimal_field 65535) c.args.line.now c.loop-place.place c.find-end.result c.loop-place-test.true c.find-end.ensures.0
+    (c.find-end.ensures.1 (omega arith))) (listed_full _ _ _ _ c.if-words-n.true))
 
 returns_2 : tie.Need-returns-then-not-is_number invariant_loop decreases_loop
 returns_2 c =
-    let c3 = c in
-    let c5 = c3 in
-    let c6 = c5 in
-    let c7 = c6 in
-    let c10 = c7 in
-    c7.before.before.before.before.before.before.before.loop-place.invariant.2 _ _
-    (rw (list_next (decimal_field 65535) c10.before.before.before.before.before.before.before.before.before.before.args.line.now c7.before.before.before.before.before.before.before.loop-place.place c5.before.before.before.before.before.find-end.result c6.before.before.before.before.before.before.loop-place-test.true c5.before.before.before.before.before.find-end.ensures.0
-    c5.before.before.before.before.before.find-end.ensures.1)
-    (listed_wrong _ _ _ _ (ap is_number (sym c3.before.before.before.decimal-field.ensures) ∙ sym c.before.is_number.ensures ∙ not-true _ c.if-not-is_number.true-raw)))
+    c.loop-place.invariant.2 _ _
+    (rw (list_next (decimal_field 65535) c.args.line.now c.loop-place.place c.find-end.result c.loop-place-test.true c.find-end.ensures.0
+    (c.find-end.ensures.1 (omega arith)))
+    (listed_wrong _ _ _ _ (ap is_number (sym c.decimal-field.ensures) ∙ sym c.is_number.ensures ∙ not-true _ c.if-not-is_number.true-raw)))
 
 cast_words : tie.Need-overflow_cast-words invariant_loop decreases_loop
 cast_words c =
-    let number = a_number c.before.before.before.before.decimal-field.result (sym c.before.before.is_number.ensures ∙ not-false _ c.before.if-not-is_number.false-raw) in
-    omega (arith, decimal_within 65535 _ _ (sym c.before.before.before.before.decimal-field.ensures ∙ number), c.number.ensures)
+    let number = a_number c.decimal-field.result (sym c.is_number.ensures ∙ not-false _ c.if-not-is_number.false-raw) in
+    omega (arith, decimal_within 65535 _ _ (sym c.decimal-field.ensures ∙ number), c.number.ensures)
 
 loop_again : tie.Need-loop-place-preserved invariant_loop decreases_loop
-loop_again c =
-    let c3 = c in
-    let c4 = c3 in
-    let c6 = c4 in
-    let c7 = c6 in
-    let c8 = c7 in
-    let c11 = c8 in (
-      simp length-set (omega arith),
-      simp length-set c8.before.before.before.before.before.before.before.before.loop-place.invariant.1,
-      λ r after l.
-          c8.before.before.before.before.before.before.before.before.loop-place.invariant.2 r after
-          (rw (list_next (decimal_field 65535) c11.before.before.before.before.before.before.before.before.before.before.before.args.line.now c8.before.before.before.before.before.before.before.before.loop-place.place c6.before.before.before.before.before.before.find-end.result c7.before.before.before.before.before.before.before.loop-place-test.true c6.before.before.before.before.before.before.find-end.ensures.0
-          c6.before.before.before.before.before.before.find-end.ensures.1)
-          (listed_next _ _ _ _ (ap is_number (sym c4.before.before.before.before.decimal-field.ensures) ∙ sym c.before.before.is_number.ensures ∙ not-false _ c.before.if-not-is_number.false-raw)
-          c3.before.before.before.if-words-n.false (rw (← c4.before.before.before.before.decimal-field.ensures, ← c.number.ensures) l))),
-    )
+loop_again c = (
+  simp length-set (omega arith),
+  simp length-set c.loop-place.invariant.1,
+  λ r after l.
+      c.loop-place.invariant.2 r after
+      (rw (list_next (decimal_field 65535) c.args.line.now c.loop-place.place c.find-end.result c.loop-place-test.true c.find-end.ensures.0
+      (c.find-end.ensures.1 (omega arith)))
+      (listed_next _ _ _ _ (ap is_number (sym c.decimal-field.ensures) ∙ sym c.is_number.ensures ∙ not-false _ c.if-not-is_number.false-raw)
+      c.if-words-n.false (rw (← c.decimal-field.ensures, ← c.number.ensures) l))),
+)
 
 returns_3 : tie.Need-returns invariant_loop decreases_loop
 returns_3 c =
-    c.before.loop-place.invariant.2 _ _
-    (rw (list_over (decimal_field 65535) c.before.before.before.before.args.line.now c.before.loop-place.place c.loop-place-test.false) (listed_all _ _ c.before.loop-place.invariant.0))
+    c.loop-place.invariant.2 _ _
+    (rw (list_over (decimal_field 65535) c.args.line.now c.loop-place.place c.loop-place-test.false) (listed_all _ _ c.loop-place.invariant.0))
 
 pub words_spec : {M : Type 1} → statement M
 words_spec =

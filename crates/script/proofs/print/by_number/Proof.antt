@@ -28,40 +28,32 @@ loop_holds c = (refl, omega arith, omega arith, patterns_begin _ _, refl)
 
 returns : tie.Need-returns-then-passed-k invariant_loop decreases_loop
 returns c =
-    let c5 = c in
-    let c6 = c5 in
-    let c7 = c6 in
-    let c8 = c7 in
-    let c12 = c8 in
     rw (
-      ← c8.before.before.before.before.before.before.before.before.loop-start.invariant.0,
-      c8.before.before.before.before.before.before.before.before.loop-start.invariant.3
-          ∙ this_pattern c12.before.before.before.before.before.before.before.before.before.before.before.before.args.patterns.now c12.before.before.before.before.before.before.before.before.before.before.before.before.args.k c8.before.before.before.before.before.before.before.before.loop-start.start c6.before.before.before.before.before.before.find-end.result c8.before.before.before.before.before.before.before.before.loop-start.passed
-          c7.before.before.before.before.before.before.before.loop-start-test.true c6.before.before.before.before.before.before.find-end.ensures.0 c6.before.before.before.before.before.before.find-end.ensures.1 c5.before.before.before.before.before.if-passed-k.true,
-    ) c.before.before.by_pattern.ensures
+      ← c.loop-start.invariant.0,
+      c.loop-start.invariant.3
+          ∙ this_pattern c.args.patterns.now c.args.k c.loop-start.start c.find-end.result c.loop-start.passed
+          c.loop-start-test.true c.find-end.ensures.0 (c.find-end.ensures.1 (omega arith)) c.if-passed-k.true,
+    ) c.by_pattern.ensures
 
 loop_again : tie.Need-loop-start-preserved invariant_loop decreases_loop
 loop_again c =
-    let c3 = c in
-    let c7 = c3 in
-    let i = c3.before.before.before.loop-start.invariant in
+    let i = c.loop-start.invariant in
     let q = c.if-passed-k.false in (
       i.0,
       omega arith,
-      omega (arith, c.before.find-end.ensures.1),
+      omega (arith, (c.find-end.ensures.1 (omega arith))),
       i.3
-          ∙ other_pattern c7.before.before.before.before.before.before.before.args.patterns.now c7.before.before.before.before.before.before.before.args.k c3.before.before.before.loop-start.start c.before.find-end.result c3.before.before.before.loop-start.passed
-          c.before.before.loop-start-test.true c.before.find-end.ensures.0 c.before.find-end.ensures.1 (omega arith),
+          ∙ other_pattern c.args.patterns.now c.args.k c.loop-start.start c.find-end.result c.loop-start.passed
+          c.loop-start-test.true c.find-end.ensures.0 (c.find-end.ensures.1 (omega arith)) (omega arith),
       i.4,
     )
 
 returns_2 : tie.Need-returns invariant_loop decreases_loop
 unfolding text_by
 returns_2 c =
-    let c5 = c in
     rw (
-      c.before.loop-start.invariant.0,
-      c.before.loop-start.invariant.3 ∙ no_pattern c5.before.before.before.before.before.args.patterns.now c5.before.before.before.before.before.args.k c.before.loop-start.start c.before.loop-start.passed c.loop-start-test.false,
+      c.loop-start.invariant.0,
+      c.loop-start.invariant.3 ∙ no_pattern c.args.patterns.now c.args.k c.loop-start.start c.loop-start.passed c.loop-start-test.false,
     ) (puts_nothing _ _)
 
 pub by_number_spec : {M : Type 1} → statement M

@@ -25,28 +25,22 @@ loop_holds : tie.Need-loop-i-init invariant_loop decreases_loop
 loop_holds c = (omega arith, omega arith, λ r after p. p)
 
 loop_again : tie.Need-loop-i-preserved invariant_loop decreases_loop
-loop_again c =
-    let c3 = c in
-    let c4 = c3 in
-    let c7 = c4 in
-    let c8 = c7 in
-    let c12 = c8 in (
-      omega arith,
-      omega (arith, c3.before.before.before.shown-end.auto.out),
-      λ r after p.
-          c8.before.before.before.before.before.before.before.before.loop-i.invariant.2 r after
-          (rw (
-            pattern_next c12.before.before.before.before.before.before.before.before.before.before.before.before.args.pattern.now (drop c8.before.before.before.before.before.before.before.before.loop-i.place c12.before.before.before.before.before.before.before.before.before.before.before.before.args.numbers.now) c8.before.before.before.before.before.before.before.before.loop-i.i c7.before.before.before.before.before.before.before.loop-i-test.true,
-            ← c4.before.before.before.before.number.ensures,
-            ← c.next-place.ensures,
-          ) (puts_then _ _ _ _ c3.before.before.before.shown-end.ensures p)),
-    )
+loop_again c = (
+  omega arith,
+  omega (arith, c.shown-end.auto.out),
+  λ r after p.
+      c.loop-i.invariant.2 r after
+      (rw (
+        pattern_next c.args.pattern.now (drop c.loop-i.place c.args.numbers.now) c.loop-i.i c.loop-i-test.true,
+        ← c.number.ensures,
+        ← c.next-place.ensures,
+      ) (puts_then _ _ _ _ c.shown-end.ensures p)),
+)
 
 returns : tie.Need-returns invariant_loop decreases_loop
 returns c =
-    let c5 = c in
-    c.before.loop-i.invariant.2 _ _
-    (rw (pattern_over c5.before.before.before.before.before.args.pattern.now (drop c.before.loop-i.place c5.before.before.before.before.before.args.numbers.now) c.before.loop-i.i c.loop-i-test.false) (puts_nothing _ _))
+    c.loop-i.invariant.2 _ _
+    (rw (pattern_over c.args.pattern.now (drop c.loop-i.place c.args.numbers.now) c.loop-i.i c.loop-i-test.false) (puts_nothing _ _))
 
 pub by_pattern_spec : {M : Type 1} → statement M
 by_pattern_spec =

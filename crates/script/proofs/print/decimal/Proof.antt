@@ -18,27 +18,25 @@ abbrev decreases_loop : tie.decreases-loop-rest
 decreases_loop out at number digits₀ first₀ rest₀ digits first rest = rest
 
 loop_holds : tie.Need-loop-rest-init invariant_loop decreases_loop
-loop_holds c = (refl, omega arith, omega arith, decimal c.before.args.number (omega arith))
+loop_holds c = (refl, omega arith, omega arith, decimal c.args.number (omega arith))
 
 sub_first : tie.Need-overflow_sub-first invariant_loop decreases_loop
-sub_first c = fewer c.before.loop-rest.first c.before.loop-rest.rest c.loop-rest-test.true c.before.loop-rest.invariant.2
+sub_first c = fewer c.loop-rest.first c.loop-rest.rest c.loop-rest-test.true c.loop-rest.invariant.2
 
 loop_again : tie.Need-loop-rest-preserved invariant_loop decreases_loop
 loop_again c =
-    let i = c.before.loop-rest.invariant in
-    let f = fewer c.before.loop-rest.first c.before.loop-rest.rest c.loop-rest-test.true i.2 in (
+    let i = c.loop-rest.invariant in
+    let f = fewer c.loop-rest.first c.loop-rest.rest c.loop-rest-test.true i.2 in (
       simp length-set i.0,
       omega arith,
-      shorter c.before.loop-rest.first c.before.loop-rest.rest c.loop-rest-test.true i.2,
-      i.3 ∙ turn c.before.loop-rest.first c.before.loop-rest.rest c.before.loop-rest.digits c.loop-rest-test.true i.2 (omega arith),
+      shorter c.loop-rest.first c.loop-rest.rest c.loop-rest-test.true i.2,
+      i.3 ∙ turn c.loop-rest.first c.loop-rest.rest c.loop-rest.digits c.loop-rest-test.true i.2 (omega arith),
     )
 
 returns : tie.Need-returns invariant_loop decreases_loop
 returns c =
-    let c7 = c in
-    let c9 = c7 in
-    rw (← spelled c9.before.before.before.before.before.before.before.before.args.number c7.before.before.before.before.before.before.loop-rest.first c7.before.before.before.before.before.before.loop-rest.rest c7.before.before.before.before.before.before.loop-rest.digits c7.before.before.before.before.before.before.loop-rest.invariant.3 (omega arith) c7.before.before.before.before.before.before.loop-rest.invariant.0)
-    c.before.before.text.ensures
+    rw (← spelled c.args.number c.loop-rest.first c.loop-rest.rest c.loop-rest.digits c.loop-rest.invariant.3 (omega arith) c.loop-rest.invariant.0)
+    c.text.ensures
 
 pub decimal_spec : {M : Type 1} → statement M
 decimal_spec =

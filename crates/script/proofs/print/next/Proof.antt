@@ -10,19 +10,18 @@ use Rattle.script.proofs.print.next.Tie as tie
 
 returns : tie.Need-returns-then-not-stands_for
 unfolding left_behind
-returns c = rw (sym c.before.stands_for.ensures ∙ not-true _ c.if-not-stands_for.true-raw)
+returns c = rw (sym c.stands_for.ensures ∙ not-true _ c.if-not-stands_for.true-raw)
 
 returns_2 : tie.Need-returns-then-place-numbers
 unfolding left_behind
 returns_2 c =
-    let c4 = c in
-    rw (sym c.before.before.stands_for.ensures ∙ not-false _ c.before.if-not-stands_for.false-raw) (sym (drop-drop 1 c4.before.before.before.before.args.place c4.before.before.before.before.args.numbers.now))
+    rw (sym c.stands_for.ensures ∙ not-false _ c.if-not-stands_for.false-raw) (sym (drop-drop 1 c.args.place c.args.numbers.now))
 
 returns_3 : tie.Need-returns-else-place-numbers
 unfolding left_behind
 returns_3 c =
-    rw (sym c.before.before.stands_for.ensures ∙ not-false _ c.before.if-not-stands_for.false-raw)
-    (rw (drop_of_length-le c.before.before.before.before.args.numbers.now {i = c.before.before.before.before.args.place} c.if-place-numbers.false))
+    rw (sym c.stands_for.ensures ∙ not-false _ c.if-not-stands_for.false-raw)
+    (rw (drop_of_length-le c.args.numbers.now {i = c.args.place} c.if-place-numbers.false))
 
 pub next_spec : {M : Type 1} → statement M
 next_spec = tie.close (tie.spec (λ c κs. search rules) returns (λ c. search rules) returns_2 returns_3)

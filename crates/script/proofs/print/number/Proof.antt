@@ -9,10 +9,10 @@ use Rattle.script.proofs.print.number.Statement.{statement}
 use Rattle.script.proofs.print.number.Tie as tie
 
 returns : tie.Need-returns-then-place-numbers
-returns c = let z : c.before.before.args.place + 0 ≡ c.before.before.args.place = omega arith in rw (get_or-drop, z)
+returns c = let z : c.args.place + 0 ≡ c.args.place = omega arith in rw (get_or-drop, z)
 
 returns_2 : tie.Need-returns-else-place-numbers
-returns_2 c = rw (drop_of_length-le c.before.args.numbers.now {i = c.before.args.place} c.if-place-numbers.false)
+returns_2 c = rw (drop_of_length-le c.args.numbers.now {i = c.args.place} c.if-place-numbers.false)
 
 pub number_spec : {M : Type 1} → statement M
 number_spec = tie.close (tie.spec (λ c. search rules) (λ c. search rules) returns returns_2)

@@ -7,11 +7,11 @@ use Rattle.script.proofs.print.number_or_none.Tie as tie
 
 returns : tie.Need-returns-then-n-eq-NONE
 unfolding number_or_none
-returns c = rw (eq-eqb _ _ c.before.before.before.before.before.before.if-n-eq-NONE.true) c.before.before.text.ensures
+returns c = rw (eq-eqb _ _ c.if-n-eq-NONE.true) c.text.ensures
 
 returns_2 : tie.Need-returns
 unfolding number_or_none
-returns_2 c = rw (ne_eqb _ _ c.before.before.before.before.if-n-eq-NONE.false) c.before.before.decimal.ensures
+returns_2 c = rw (ne_eqb _ _ c.if-n-eq-NONE.false) c.decimal.ensures
 
 pub number_or_none_spec : {M : Type 1} → statement M
 number_or_none_spec =

@@ -6,7 +6,7 @@ use Rattle.script.proofs.print.pair.Tie as tie
 
 returns : tie.Need-returns
 unfolding pair_of
-returns c = rw (← c.before.before.before.before.before.before.digit.ensures, ← c.before.before.before.before.before.digit-2.ensures) c.before.before.text.ensures
+returns c = rw (← c.digit.ensures, ← c.digit-2.ensures) c.text.ensures
 
 pub pair_spec : {M : Type 1} → statement M
 pair_spec =

@@ -24,19 +24,16 @@ loop_holds : tie.Need-loop-i-init invariant_loop decreases_loop
 loop_holds c = (omega arith, omega arith, λ r after p. p)
 
 loop_again : tie.Need-loop-i-preserved invariant_loop decreases_loop
-loop_again c =
-    let c5 = c in
-    let c6 = c5 in
-    let c9 = c6 in (
-      omega arith,
-      omega (arith, c.before.before.spaced-end.auto.out),
-      λ r after p.
-          c6.before.before.before.before.before.before.loop-i.invariant.2 r after
-          (rw (pairs_next c9.before.before.before.before.before.before.before.before.before.args.bytes.now c6.before.before.before.before.before.before.loop-i.i c5.before.before.before.before.before.loop-i-test.true) (puts_then _ _ _ _ c.before.before.spaced-end.ensures p)),
-    )
+loop_again c = (
+  omega arith,
+  omega (arith, c.spaced-end.auto.out),
+  λ r after p.
+      c.loop-i.invariant.2 r after
+      (rw (pairs_next c.args.bytes.now c.loop-i.i c.loop-i-test.true) (puts_then _ _ _ _ c.spaced-end.ensures p)),
+)
 
 returns : tie.Need-returns invariant_loop decreases_loop
-returns c = c.before.loop-i.invariant.2 _ _ (rw (pairs_over c.before.before.before.before.args.bytes.now c.before.loop-i.i c.loop-i-test.false) (puts_nothing _ _))
+returns c = c.loop-i.invariant.2 _ _ (rw (pairs_over c.args.bytes.now c.loop-i.i c.loop-i-test.false) (puts_nothing _ _))
 
 pub pairs_spec : {M : Type 1} → statement M
 pairs_spec =

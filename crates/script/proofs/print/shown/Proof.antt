@@ -7,27 +7,21 @@ use Rattle.script.proofs.print.shown.Tie as tie
 
 returns : tie.Need-returns-then-c-eq78
 unfolding shown_by
-returns c = rw (eq-eqb _ _ c.before.before.before.before.if-c-eq78.true) c.before.before.decimal.ensures
+returns c = rw (eq-eqb _ _ c.if-c-eq78.true) c.decimal.ensures
 
 returns_2 : tie.Need-returns-then-c-eq69
 unfolding shown_by
-returns_2 c = rw (ne_eqb _ _ c.before.before.before.before.before.if-c-eq78.false, eq-eqb _ _ c.before.before.before.before.if-c-eq69.true) c.before.before.number_or_none.ensures
+returns_2 c = rw (ne_eqb _ _ c.if-c-eq78.false, eq-eqb _ _ c.if-c-eq69.true) c.number_or_none.ensures
 
 returns_3 : tie.Need-returns-then-c-eq72
 unfolding shown_by
 returns_3 c =
-    let c4 = c in
-    let c5 = c4 in
-    let c6 = c5 in
-    rw (ne_eqb _ _ c6.before.before.before.before.before.before.if-c-eq78.false, ne_eqb _ _ c5.before.before.before.before.before.if-c-eq69.false, eq-eqb _ _ c4.before.before.before.before.if-c-eq72.true) c.before.before.pair.ensures
+    rw (ne_eqb _ _ c.if-c-eq78.false, ne_eqb _ _ c.if-c-eq69.false, eq-eqb _ _ c.if-c-eq72.true) c.pair.ensures
 
 returns_4 : tie.Need-returns
 unfolding shown_by
 returns_4 c =
-    let c5 = c in
-    let c6 = c5 in
-    let c7 = c6 in
-    rw (ne_eqb _ _ c7.before.before.before.before.before.before.before.if-c-eq78.false, ne_eqb _ _ c6.before.before.before.before.before.before.if-c-eq69.false, ne_eqb _ _ c5.before.before.before.before.before.if-c-eq72.false) c.before.before.text.ensures
+    rw (ne_eqb _ _ c.if-c-eq78.false, ne_eqb _ _ c.if-c-eq69.false, ne_eqb _ _ c.if-c-eq72.false) c.text.ensures
 
 pub shown_spec : {M : Type 1} → statement M
 shown_spec =

@@ -30,73 +30,47 @@ loop_holds c = (omega arith, omega arith, λ r after l. l)
 
 returns : tie.Need-returns-then-is_colon invariant_loop decreases_loop
 returns c =
-    let c4 = c in
-    let c5 = c4 in
-    let c6 = c5 in
-    let c9 = c6 in
     rw c.ended.ensures
-    (c6.before.before.before.before.before.before.loop-place.invariant.2 _ _
-    (rw (field_at 32 c9.before.before.before.before.before.before.before.before.before.args.line.now c6.before.before.before.before.before.before.loop-place.place c4.before.before.before.before.find-end.result c5.before.before.before.before.before.loop-place-test.true c4.before.before.before.before.find-end.ensures.0 c4.before.before.before.before.find-end.ensures.1)
-    (first_colon _ _ _ _ _ (sym c.before.before.is_colon.ensures ∙ c.before.if-is_colon.true) c6.before.before.before.before.before.before.loop-place.invariant.0 _ refl)))
+    (c.loop-place.invariant.2 _ _
+    (rw (field_at 32 c.args.line.now c.loop-place.place c.find-end.result c.loop-place-test.true c.find-end.ensures.0 (c.find-end.ensures.1 (omega arith)))
+    (first_colon _ _ _ _ _ (sym c.is_colon.ensures ∙ c.if-is_colon.true) c.loop-place.invariant.0 _ refl)))
 
 returns_2 : tie.Need-returns-then-words-n invariant_loop decreases_loop
 returns_2 c =
-    let c4 = c in
-    let c5 = c4 in
-    let c7 = c5 in
-    let c8 = c7 in
-    let c9 = c8 in
-    let c12 = c9 in
     rw c.wrong.ensures
-    (c9.before.before.before.before.before.before.before.before.before.loop-place.invariant.2 _ _
-    (rw (field_at 32 c12.before.before.before.before.before.before.before.before.before.before.before.before.args.line.now c9.before.before.before.before.before.before.before.before.before.loop-place.place c7.before.before.before.before.before.before.before.find-end.result c8.before.before.before.before.before.before.before.before.loop-place-test.true c7.before.before.before.before.before.before.before.find-end.ensures.0 c7.before.before.before.before.before.before.before.find-end.ensures.1)
-    (first_full _ _ _ _ _ (sym c5.before.before.before.before.before.is_colon.ensures ∙ c4.before.before.before.before.if-is_colon.false) c.before.if-words-n.true)))
+    (c.loop-place.invariant.2 _ _
+    (rw (field_at 32 c.args.line.now c.loop-place.place c.find-end.result c.loop-place-test.true c.find-end.ensures.0 (c.find-end.ensures.1 (omega arith)))
+    (first_full _ _ _ _ _ (sym c.is_colon.ensures ∙ c.if-is_colon.false) c.if-words-n.true)))
 
 returns_3 : tie.Need-returns-then-not-is_number invariant_loop decreases_loop
 returns_3 c =
-    let c4 = c in
-    let c6 = c4 in
-    let c7 = c6 in
-    let c9 = c7 in
-    let c10 = c9 in
-    let c11 = c10 in
-    let c14 = c11 in
     rw c.wrong-then-not-is_number.ensures
-    (c11.before.before.before.before.before.before.before.before.before.before.before.loop-place.invariant.2 _ _
-    (rw (field_at 32 c14.before.before.before.before.before.before.before.before.before.before.before.before.before.before.args.line.now c11.before.before.before.before.before.before.before.before.before.before.before.loop-place.place c9.before.before.before.before.before.before.before.before.before.find-end.result c10.before.before.before.before.before.before.before.before.before.before.loop-place-test.true c9.before.before.before.before.before.before.before.before.before.find-end.ensures.0 c9.before.before.before.before.before.before.before.before.before.find-end.ensures.1)
-    (first_wrong _ _ _ _ _ (sym c7.before.before.before.before.before.before.before.is_colon.ensures ∙ c6.before.before.before.before.before.before.if-is_colon.false)
-    (ap is_number (sym c4.before.before.before.before.decimal-field.ensures) ∙ sym c.before.before.is_number.ensures ∙ not-true _ c.before.if-not-is_number.true-raw))))
+    (c.loop-place.invariant.2 _ _
+    (rw (field_at 32 c.args.line.now c.loop-place.place c.find-end.result c.loop-place-test.true c.find-end.ensures.0 (c.find-end.ensures.1 (omega arith)))
+    (first_wrong _ _ _ _ _ (sym c.is_colon.ensures ∙ c.if-is_colon.false)
+    (ap is_number (sym c.decimal-field.ensures) ∙ sym c.is_number.ensures ∙ not-true _ c.if-not-is_number.true-raw))))
 
 cast_words : tie.Need-overflow_cast-words invariant_loop decreases_loop
 cast_words c =
-    let number = a_number c.before.before.before.before.decimal-field.result (sym c.before.before.is_number.ensures ∙ not-false _ c.before.if-not-is_number.false-raw) in
-    omega (arith, decimal_within 65535 _ _ (sym c.before.before.before.before.decimal-field.ensures ∙ number), c.number.ensures)
+    let number = a_number c.decimal-field.result (sym c.is_number.ensures ∙ not-false _ c.if-not-is_number.false-raw) in
+    omega (arith, decimal_within 65535 _ _ (sym c.decimal-field.ensures ∙ number), c.number.ensures)
 
 loop_again : tie.Need-loop-place-preserved invariant_loop decreases_loop
-loop_again c =
-    let c3 = c in
-    let c4 = c3 in
-    let c6 = c4 in
-    let c7 = c6 in
-    let c9 = c7 in
-    let c10 = c9 in
-    let c11 = c10 in
-    let c14 = c11 in (
-      simp length-set (omega arith),
-      simp length-set c11.before.before.before.before.before.before.before.before.before.before.before.loop-place.invariant.1,
-      λ r after l.
-          c11.before.before.before.before.before.before.before.before.before.before.before.loop-place.invariant.2 r after
-          (rw (field_at 32 c14.before.before.before.before.before.before.before.before.before.before.before.before.before.before.args.line.now c11.before.before.before.before.before.before.before.before.before.before.before.loop-place.place c9.before.before.before.before.before.before.before.before.before.find-end.result c10.before.before.before.before.before.before.before.before.before.before.loop-place-test.true c9.before.before.before.before.before.before.before.before.before.find-end.ensures.0 c9.before.before.before.before.before.before.before.before.before.find-end.ensures.1)
-          (first_next _ _ _ _ _ (sym c7.before.before.before.before.before.before.before.is_colon.ensures ∙ c6.before.before.before.before.before.before.if-is_colon.false)
-          (ap is_number (sym c4.before.before.before.before.decimal-field.ensures) ∙ sym c.before.before.is_number.ensures ∙ not-false _ c.before.if-not-is_number.false-raw) c3.before.before.before.if-words-n.false
-          (rw (← c4.before.before.before.before.decimal-field.ensures, ← c.number.ensures) l))),
-    )
+loop_again c = (
+  simp length-set (omega arith),
+  simp length-set c.loop-place.invariant.1,
+  λ r after l.
+      c.loop-place.invariant.2 r after
+      (rw (field_at 32 c.args.line.now c.loop-place.place c.find-end.result c.loop-place-test.true c.find-end.ensures.0 (c.find-end.ensures.1 (omega arith)))
+      (first_next _ _ _ _ _ (sym c.is_colon.ensures ∙ c.if-is_colon.false)
+      (ap is_number (sym c.decimal-field.ensures) ∙ sym c.is_number.ensures ∙ not-false _ c.if-not-is_number.false-raw) c.if-words-n.false
+      (rw (← c.decimal-field.ensures, ← c.number.ensures) l))),
+)
 
 returns_4 : tie.Need-returns invariant_loop decreases_loop
 returns_4 c =
-    let c5 = c in
     rw c.wrong-2.ensures
-    (c.before.before.loop-place.invariant.2 _ _ (rw (from_behind 32 c5.before.before.before.before.before.args.line.now c.before.before.loop-place.place c.before.loop-place-test.false) (first_over _ _ _)))
+    (c.loop-place.invariant.2 _ _ (rw (from_behind 32 c.args.line.now c.loop-place.place c.loop-place-test.false) (first_over _ _ _)))
 
 pub first_row_spec : {M : Type 1} → statement M
 first_row_spec =

@@ -11,7 +11,7 @@ returns c = simp (ne_eqb _ _ c.if-field-ne1.true)
 
 returns_2 : tie.Need-returns
 unfolding is_colon
-returns_2 c = simp (eq-eqb _ _ c.before.if-field-ne1.false)
+returns_2 c = simp (eq-eqb _ _ c.if-field-ne1.false)
 
 pub is_colon_spec : {M : Type 1} → statement M
 is_colon_spec = tie.close (tie.spec returns (λ c. search rules) returns_2)

@@ -11,15 +11,15 @@ use Rattle.transport.proofs.cutting.count.Tie as tie
 returns : tie.Need-returns-then-length
 unfolding count_of
 returns c =
-    let n = c.before.before.before.args.length in
+    let n = c.args.length in
     count_told_lem n _ (simp (le-leb 1 n (omega (arith, leb-true)), le-leb n 4095 (omega (arith, leb-true)), c.frames.ensures))
 
 returns_2 : tie.Need-returns-else-length-ge1
 unfolding count_of
 returns_2 c =
-    let n = c.before.before.args.length in
+    let n = c.args.length in
     count_told_lem n _
-    (elim c.before.else-length-ge1.branch [
+    (elim c.else-length-ge1.branch [
       | else-length-ge1-via-then-length-ge1+else-length w ↦
           simp (le-leb 1 n (omega (arith, w.if-length-ge1.true)), lt-leb n 4095 (omega (arith, w.if-length.false)), c.of.ensures)
       | else-length-ge1-via-else-length-ge1 w ↦ simp (lt-leb 1 n (omega (arith, w.if-length-ge1.false)), c.of.ensures)

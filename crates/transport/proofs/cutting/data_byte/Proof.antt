@@ -7,10 +7,10 @@ use Rattle.transport.proofs.cutting.data_byte.Statement.{statement}
 use Rattle.transport.proofs.cutting.data_byte.Tie as tie
 
 returns : tie.Need-returns-then-i-message
-returns c = any_default c.before.before.args.message.now c.before.before.args.i 0 255 (search rules)
+returns c = any_default c.args.message.now c.args.i 0 255 (search rules)
 
 returns_2 : tie.Need-returns-else-i-message
-returns_2 c = sym (get_or-eq_default c.before.args.message.now 255 c.if-i-message.false)
+returns_2 c = sym (get_or-eq_default c.args.message.now 255 c.if-i-message.false)
 
 pub data_byte_spec : {M : Type 1} → statement M
 data_byte_spec = tie.close (tie.spec (λ c. search rules) returns returns_2)

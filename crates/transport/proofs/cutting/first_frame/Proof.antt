@@ -7,8 +7,7 @@ use Rattle.transport.proofs.cutting.first_frame.Tie as tie
 returns : tie.Need-returns
 unfolding first_frame data_bytes
 returns c =
-    let d = c in
-    simp (d.before.before.before.before.data_byte.ensures, d.before.before.before.data_byte-2.ensures, c.before.before.data_byte-3.ensures, c.before.data_byte-4.ensures, c.data_byte-5.ensures)
+    simp (c.data_byte.ensures, c.data_byte-2.ensures, c.data_byte-3.ensures, c.data_byte-4.ensures, c.data_byte-5.ensures)
 
 pub first_frame_spec : {M : Type 1} → statement M
 first_frame_spec =

@@ -8,22 +8,20 @@ use Rattle.transport.proofs.cutting.frame.Statement.{statement}
 use Rattle.transport.proofs.cutting.frame.Tie as tie
 
 frame_bytes_requires : tie.Need-frame_bytes-requires
-frame_bytes_requires c κs = counted_high _ _ (sym c.before.before.count.ensures.0 ∙ c.before.in-Frames.is)
+frame_bytes_requires c κs = counted_high _ _ (sym c.count.ensures.0 ∙ c.in-Frames.is)
 
 returns : tie.Need-returns-in-Refused
-returns c = cut_told_lem _ _ _ _ (c.without_frame.ensures ∙ sym (cut_refused_lem _ _ _ _ (sym c.before.before.count.ensures.0 ∙ c.before.in-Refused.is)))
+returns c = cut_told_lem _ _ _ _ (c.without_frame.ensures ∙ sym (cut_refused_lem _ _ _ _ (sym c.count.ensures.0 ∙ c.in-Refused.is)))
 
 returns_2 : tie.Need-returns-then-k-frames
 returns_2 c =
-    let d = c in
-    let counted = sym d.before.before.before.count.ensures.0 ∙ d.before.before.in-Frames.is in
-    cut_told_lem _ _ _ _ (rw c.frame_bytes.ensures (sym (cut_frame _ _ _ _ counted c.before.if-k-frames.true)))
+    let counted = sym c.count.ensures.0 ∙ c.in-Frames.is in
+    cut_told_lem _ _ _ _ (rw c.frame_bytes.ensures (sym (cut_frame _ _ _ _ counted c.if-k-frames.true)))
 
 returns_3 : tie.Need-returns-else-k-frames
 returns_3 c =
-    let d = c in
-    let counted = sym d.before.before.before.count.ensures.0 ∙ d.before.before.in-Frames.is in
-    cut_told_lem _ _ _ _ (c.without_frame-else-k-frames.ensures ∙ sym (cut_missing _ _ _ _ counted c.before.if-k-frames.false))
+    let counted = sym c.count.ensures.0 ∙ c.in-Frames.is in
+    cut_told_lem _ _ _ _ (c.without_frame-else-k-frames.ensures ∙ sym (cut_missing _ _ _ _ counted c.if-k-frames.false))
 
 pub frame_spec : {M : Type 1} → statement M
 frame_spec =

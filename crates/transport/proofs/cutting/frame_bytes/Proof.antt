@@ -8,17 +8,17 @@ use Rattle.transport.proofs.cutting.frame_bytes.Statement.{statement}
 use Rattle.transport.proofs.cutting.frame_bytes.Tie as tie
 
 returns : tie.Need-returns-then-k-gt0
-returns c = later_frame _ _ _ _ c.before.if-k-gt0.true c.next_frame.ensures
+returns c = later_frame _ _ _ _ c.if-k-gt0.true c.next_frame.ensures
 
 returns_2 : tie.Need-returns-then-message-le6
 returns_2 c =
-    let e : c.before.before.before.before.args.k ≡ 0 = omega arith in
-    rw e (c.single_frame.ensures ∙ sym (frame_single _ _ c.before.if-message-le6.true))
+    let e : c.args.k ≡ 0 = omega arith in
+    rw e (c.single_frame.ensures ∙ sym (frame_single _ _ c.if-message-le6.true))
 
 returns_3 : tie.Need-returns
 returns_3 c =
-    let e : c.before.before.before.before.args.k ≡ 0 = omega arith in
-    rw e (c.first_frame.ensures ∙ sym (frame_first _ _ c.before.if-message-le6.false))
+    let e : c.args.k ≡ 0 = omega arith in
+    rw e (c.first_frame.ensures ∙ sym (frame_first _ _ c.if-message-le6.false))
 
 pub frame_bytes_spec : {M : Type 1} → statement M
 frame_bytes_spec =

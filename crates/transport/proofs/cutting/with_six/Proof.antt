@@ -6,14 +6,13 @@ use Rattle.transport.proofs.cutting.with_six.Tie as tie
 
 returns : tie.Need-returns
 returns c =
-    let d = c in
     simp (
       six,
-      d.before.before.before.before.before.data_byte.ensures,
-      d.before.before.before.before.data_byte-2.ensures,
-      d.before.before.before.data_byte-3.ensures,
-      c.before.before.data_byte-4.ensures,
-      c.before.data_byte-5.ensures,
+      c.data_byte.ensures,
+      c.data_byte-2.ensures,
+      c.data_byte-3.ensures,
+      c.data_byte-4.ensures,
+      c.data_byte-5.ensures,
       c.data_byte-6.ensures,
     )
 

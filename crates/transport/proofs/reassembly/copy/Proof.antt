@@ -16,13 +16,13 @@ abbrev decreases_loop : tie.decreases-loop-i
 decreases_loop from to₀ i₀ to i = length from - i
 
 loop_again : tie.Need-loop-i-preserved invariant_loop decreases_loop
-loop_again c = (omega arith, simp length-set c.before.before.loop-i.invariant.1, copy_turn _ _ _ _ (omega arith) (omega arith) c.before.before.loop-i.invariant.2)
+loop_again c = (omega arith, simp length-set c.loop-i.invariant.1, copy_turn _ _ _ _ (omega arith) (omega arith) c.loop-i.invariant.2)
 
 same_length : tie.Need-shape_of-to invariant_loop decreases_loop
-same_length c = c.before.loop-i.invariant.1
+same_length c = c.loop-i.invariant.1
 
 returns : tie.Need-returns invariant_loop decreases_loop
-returns c = copy_all c.before.before.args.to.now _ _ c.before.loop-i.i (omega arith) (search rules) c.before.loop-i.invariant.2
+returns c = copy_all c.args.to.now _ _ c.loop-i.i (omega arith) (search rules) c.loop-i.invariant.2
 
 pub copy_spec : {M : Type 1} → statement M
 copy_spec =

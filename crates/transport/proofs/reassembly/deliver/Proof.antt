@@ -6,9 +6,8 @@ use Rattle.transport.proofs.reassembly.deliver.Tie as tie
 
 returns : tie.Need-returns
 returns c =
-    let d = c in
-    let a = d.before.before.before.before.before.before.before.args in
-    delivered a.buffer.now a.frame.now _ a.place a.from a.n d.before.before.before.before.before.before.before.requires.0 c.before.before.copy.ensures
+    let a = c.args in
+    delivered a.buffer.now a.frame.now _ a.place a.from a.n c.requires.0 c.copy.ensures
 
 pub deliver_spec : {M : Type 1} → statement M
 deliver_spec =

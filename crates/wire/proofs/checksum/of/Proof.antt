@@ -14,26 +14,26 @@ use Rattle.wire.proofs.checksum.of.Tie as tie
 returns : tie.Need-returns-then-data-le8
 unfolding checksum_of checksum_byte inverted
 returns c =
-    let a = c.before.before.before.before.before.before.args in
+    let a = c.args in
     sum_told a.id a.wish a.«data».now _ (simp (
       lt-ltb a.id 64 (omega arith),
       le-leb 1 (length a.«data».now) (omega (arith, leb-true)),
       le-leb (length a.«data».now) 8 (omega (arith, leb-true)),
       c.sum.ensures,
-      c.before.start.ensures,
+      c.start.ensures,
       ← (sum_covered (model_of a.id a.wish)),
     ))
 
 returns_2 : tie.Need-returns-else-id-lt64
 unfolding checksum_of
 returns_2 c =
-    let a = c.before.before.args in
+    let a = c.args in
     sum_told a.id a.wish a.«data».now _
     (⊎_elim
     (λ w. simp (lt-ltb a.id 64 w.0, le-leb 1 (length a.«data».now) w.1, lt-leb (length a.«data».now) 8 w.2, c.refused.ensures))
     (⊎_elim (λ w. simp (lt-ltb a.id 64 w.0, lt-leb 1 (length a.«data».now) w.1, c.refused.ensures))
     (λ w. simp (le-ltb a.id 64 w, c.refused.ensures)))
-    c.before.else-id-lt64.either)
+    c.else-id-lt64.either)
 
 pub of_spec : {M : Type 1} → statement M
 of_spec = tie.close (tie.spec (λ c κs. search rules) (λ c κs. search rules) (λ c. search rules) (λ c κs. search rules) returns

@@ -10,20 +10,20 @@ use Rattle.wire.proofs.checksum.start.Tie as tie
 
 returns : tie.Need-returns-then-id-ge60
 unfolding model_of covered sum
-returns c = simp (le-ltb c.before.args.id 60 (omega arith))
+returns c = simp (le-ltb c.args.id 60 (omega arith))
 
 returns_2 : tie.Need-returns-in-Classic
 unfolding model_of covered sum
-returns_2 c = simp (lt-ltb c.before.before.args.id 60 (omega arith), c.in-Classic.is)
+returns_2 c = simp (lt-ltb c.args.id 60 (omega arith), c.in-Classic.is)
 
 returns_3 : tie.Need-returns-in-Enhanced
 unfolding model_of covered sum
 returns_3 c =
     simp (
-      lt-ltb c.before.before.before.args.id 60 (omega arith),
-      c.before.in-Enhanced.is,
+      lt-ltb c.args.id 60 (omega arith),
+      c.in-Enhanced.is,
       c.protected_byte.ensures,
-      carry_first _ (protected_below _ c.before.before.before.requires),
+      carry_first _ (protected_below _ c.requires),
     )
 
 pub start_spec : {M : Type 1} → statement M

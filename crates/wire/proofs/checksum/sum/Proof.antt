@@ -16,10 +16,10 @@ abbrev decreases_loop : tie.decreases-loop-i
 decreases_loop from bytes total₀ i₀ total i = length bytes - i
 
 loop_again : tie.Need-loop-i-preserved invariant_loop decreases_loop
-loop_again c = (omega arith, c.before.before.before.loop-i.invariant.1 ∙ sum_step _ _ _ c.before.before.loop-i-test.true ∙ simp c.with_carry-total.ensures)
+loop_again c = (omega arith, c.loop-i.invariant.1 ∙ sum_step _ _ _ c.loop-i-test.true ∙ simp c.with_carry-total.ensures)
 
 returns : tie.Need-returns invariant_loop decreases_loop
-returns c = sym (c.before.loop-i.invariant.1 ∙ sum_end _ _ _ c.loop-i-test.false)
+returns c = sym (c.loop-i.invariant.1 ∙ sum_end _ _ _ c.loop-i-test.false)
 
 pub sum_spec : {M : Type 1} → statement M
 sum_spec =

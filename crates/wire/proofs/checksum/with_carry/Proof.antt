@@ -9,11 +9,11 @@ use Rattle.wire.proofs.checksum.with_carry.Tie as tie
 
 returns : tie.Need-returns-then-added-gt255
 unfolding with_carry
-returns c = simp (le-ltb (c.before.args.sum + c.before.args.byte) 256 (omega arith))
+returns c = simp (le-ltb (c.args.sum + c.args.byte) 256 (omega arith))
 
 returns_2 : tie.Need-returns-else-added-gt255
 unfolding with_carry
-returns_2 c = simp (lt-ltb (c.before.args.sum + c.before.args.byte) 256 (omega arith))
+returns_2 c = simp (lt-ltb (c.args.sum + c.args.byte) 256 (omega arith))
 
 pub with_carry_spec : {M : Type 1} → statement M
 with_carry_spec =

@@ -12,15 +12,15 @@ abbrev decreases_loop : tie.decreases-loop-i
 decreases_loop list id half i₀ i = half - i
 
 returns : tie.Need-returns-then-lower-id invariant_loop decreases_loop
-returns c = found _ c.before.before.before.before.requires.0 _ (omega arith) _ c.if-lower-id.true
+returns c = found _ c.requires.0 _ (omega arith) _ c.if-lower-id.true
 
 returns_2 : tie.Need-returns-then-upper-id invariant_loop decreases_loop
-returns_2 c = found _ c.before.before.before.before.before.before.requires.0 _ (omega arith) _ c.if-upper-id.true
+returns_2 c = found _ c.requires.0 _ (omega arith) _ c.if-upper-id.true
 
 loop_again : tie.Need-loop-i-preserved invariant_loop decreases_loop
 loop_again c =
-    let l = c.before.before.before.before.before.before.requires.0 in
-    omega (arith, passed _ l _ (omega arith) _ c.before.before.if-lower-id.false, passed _ l _ (omega arith) _ c.if-upper-id.false)
+    let l = c.requires.0 in
+    omega (arith, passed _ l _ (omega arith) _ c.if-lower-id.false, passed _ l _ (omega arith) _ c.if-upper-id.false)
 
 returns_3 : tie.Need-returns invariant_loop decreases_loop
 returns_3 c = absurd (omega arith)

@@ -20,16 +20,16 @@ protected_in_requires c κs = (listed _ refl refl, omega arith)
 returns : tie.Need-returns-then-protected_in-protected
 unfolding read_of
 returns c =
-    let b : c.before.before.before.before.args.protected < 256 = omega arith in
-    read_told_lem _ _ (simp (parity_built _ b, eq-eqb _ _ (sym c.before.protected_in.ensures ∙ c.if-protected_in-protected.true)))
+    let b : c.args.protected < 256 = omega arith in
+    read_told_lem _ _ (simp (parity_built _ b, eq-eqb _ _ (sym c.protected_in.ensures ∙ c.if-protected_in-protected.true)))
 
 returns_2 : tie.Need-returns-else-protected_in-protected
 unfolding read_of
 returns_2 c =
-    let b : c.before.before.before.before.before.args.protected < 256 = omega arith in
+    let b : c.args.protected < 256 = omega arith in
     read_told_lem _ _ (simp (
       parity_built _ b,
-      ne_eqb _ _ (λ e. c.before.if-protected_in-protected.false (c.before.before.protected_in.ensures ∙ e)),
+      ne_eqb _ _ (λ e. c.if-protected_in-protected.false (c.protected_in.ensures ∙ e)),
       c.refused.ensures,
     ))
 

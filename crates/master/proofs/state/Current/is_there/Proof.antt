@@ -7,7 +7,7 @@ returns : tie.Need-returns-in-None
 returns c = rw c.in-None.is
 
 returns_2 : tie.Need-returns-in-Entry
-returns_2 c = rw (c.before.in-Entry.is, c.count.ensures)
+returns_2 c = rw (c.in-Entry.is, c.count.ensures)
 
 pub is_there_spec : {M : Type 1} → statement M
 is_there_spec = tie.close (tie.spec (λ c. search rules) (λ c. search rules) (λ c κs. search rules) returns returns_2)

@@ -10,7 +10,7 @@ returns c = rw c.in-None.is
 
 returns_2 : tie.Need-returns-in-Sending
 unfolding message_fits
-returns_2 c = rw (c.before.in-Sending.is, c.fits.ensures)
+returns_2 c = rw (c.in-Sending.is, c.fits.ensures)
 
 returns_3 : tie.Need-returns-in-Completed
 unfolding message_fits

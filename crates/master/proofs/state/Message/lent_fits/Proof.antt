@@ -7,7 +7,7 @@ returns : tie.Need-returns-in-None
 returns c = rw c.in-None.is
 
 returns_2 : tie.Need-returns-in-Sending
-returns_2 c = rw c.before.in-Sending.is
+returns_2 c = rw c.in-Sending.is
 
 returns_3 : tie.Need-returns-in-Completed
 returns_3 c = rw c.in-Completed.is

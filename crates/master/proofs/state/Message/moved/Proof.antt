@@ -6,7 +6,7 @@ use Rattle.master.proofs.state.Message.moved.Statement.{statement}
 use Rattle.master.proofs.state.Message.moved.Tie as tie
 
 moved_requires : tie.Need-moved-requires
-moved_requires c κs = rw c.in-Sending.is at c.before.requires
+moved_requires c κs = rw c.in-Sending.is at c.requires
 
 returns : tie.Need-returns-in-None
 unfolding moved
@@ -14,7 +14,7 @@ returns c = rw c.in-None.is
 
 returns_2 : tie.Need-returns-in-Sending
 unfolding moved
-returns_2 c = rw (c.before.in-Sending.is, c.moved.ensures)
+returns_2 c = rw (c.in-Sending.is, c.moved.ensures)
 
 returns_3 : tie.Need-returns-in-Completed
 unfolding moved

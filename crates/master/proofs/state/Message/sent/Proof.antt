@@ -10,7 +10,7 @@ returns_2 : tie.Need-returns-in-Frame
 returns_2 c = rw c.in-Frame.is
 
 returns_3 : tie.Need-returns-in-Request
-returns_3 c = rw (c.before.in-Request.is, c.moved.ensures)
+returns_3 c = rw (c.in-Request.is, c.moved.ensures)
 
 returns_4 : tie.Need-returns-in-Response
 returns_4 c = rw c.in-Response.is

@@ -9,16 +9,16 @@ use Rattle.master.proofs.state.Opened.checksum.Tie as tie
 
 cast_checksum_byte : tie.Need-overflow_cast-format
 cast_checksum_byte c =
-    record { fits = omega (arith, ap (λ (x : Format). x.identifier) c.before.format-format.ensures, c.before.before.before.before.requires.0) }
+    record { fits = omega (arith, ap (λ (x : Format). x.identifier) c.format-format.ensures, c.requires.0) }
 
 checksum_byte_requires : tie.Need-checksum_byte-requires
 checksum_byte_requires c κs =
-    let asked = c.before.before.before.before.requires in
-    (omega (arith, ap (λ (x : Format). x.identifier) c.before.format-format.ensures, asked.0), asked.1, asked.2)
+    let asked = c.requires in
+    (omega (arith, ap (λ (x : Format). x.identifier) c.format-format.ensures, asked.0), asked.1, asked.2)
 
 returns : tie.Need-returns
 unfolding open_checksum
-returns c = rw (c.checksum_byte.ensures, c.before.before.format-format.ensures)
+returns c = rw (c.checksum_byte.ensures, c.format-format.ensures)
 
 pub checksum_spec : {M : Type 1} → statement M
 checksum_spec = tie.close (tie.spec (λ c κs. search rules) cast_checksum_byte checksum_byte_requires returns)

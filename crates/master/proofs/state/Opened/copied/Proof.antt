@@ -6,7 +6,7 @@ use Rattle.master.proofs.state.Opened.copied.Tie as tie
 
 returns : tie.Need-returns
 unfolding copied
-returns c = rw (c.nine.ensures, c.before.checksum.ensures)
+returns c = rw (c.nine.ensures, c.checksum.ensures)
 
 pub copied_spec : {M : Type 1} → statement M
 copied_spec = tie.close (tie.spec (λ c κs. search rules) (λ c κs. search rules) returns)

@@ -7,7 +7,7 @@ use Rattle.master.proofs.state.Opened.first_bytes.Tie as tie
 
 frame_copy_requires : tie.Need-frame_copy-requires
 frame_copy_requires c κs =
-    let asked = c.before.before.before.before.requires in
+    let asked = c.requires in
     (asked.0, asked.1, rw c.in-Frame.is at asked.2)
 
 returns : tie.Need-returns-in-Nothing
@@ -16,11 +16,11 @@ returns c = rw c.in-Nothing.is
 
 returns_2 : tie.Need-returns-in-Frame
 unfolding opening sent_data format_of
-returns_2 c = rw (c.before.in-Frame.is, c.frame_copy.ensures)
+returns_2 c = rw (c.in-Frame.is, c.frame_copy.ensures)
 
 returns_3 : tie.Need-returns-in-Request
 unfolding opening sent_data format_of
-returns_3 c = rw (c.before.in-Request.is, c.request_copy.ensures)
+returns_3 c = rw (c.in-Request.is, c.request_copy.ensures)
 
 returns_4 : tie.Need-returns-in-Response
 unfolding opening sent_data format_of

@@ -6,23 +6,23 @@ use Rattle.master.proofs.state.Opened.format.Tie as tie
 
 returns : tie.Need-returns-in-Nothing
 unfolding format_of
-returns c = rw (c.before.in-Nothing.is, c.of.ensures)
+returns c = rw (c.in-Nothing.is, c.of.ensures)
 
 returns_2 : tie.Need-returns-in-Frame
 unfolding format_of
 returns_2 c =
-    let length = c.before.before.before.length in
-    let identifier = c.before.before.before.before.identifier in
-    let opened = c.before.before.before.before.before.in-Frame in
-    rw (opened.is, c.of-in-Frame.ensures, c.before.published.ensures, c.before.before.model.ensures, length.ensures, identifier.ensures)
+    let length = c.length in
+    let identifier = c.identifier in
+    let opened = c.in-Frame in
+    rw (opened.is, c.of-in-Frame.ensures, c.published.ensures, c.model.ensures, length.ensures, identifier.ensures)
 
 returns_3 : tie.Need-returns-in-Request
 unfolding format_of
-returns_3 c = rw (c.before.in-Request.is, c.of-in-Request.ensures)
+returns_3 c = rw (c.in-Request.is, c.of-in-Request.ensures)
 
 returns_4 : tie.Need-returns-in-Response
 unfolding format_of
-returns_4 c = rw (c.before.in-Response.is, c.of-in-Response.ensures)
+returns_4 c = rw (c.in-Response.is, c.of-in-Response.ensures)
 
 pub format_spec : {M : Type 1} → statement M
 format_spec =

@@ -10,15 +10,15 @@ returns c = rw c.in-Nothing.is
 
 returns_2 : tie.Need-returns-in-Frame
 unfolding entry_opens
-returns_2 c = rw (c.before.in-Frame.is, c.opens_frame.ensures)
+returns_2 c = rw (c.in-Frame.is, c.opens_frame.ensures)
 
 returns_3 : tie.Need-returns-in-Request
 unfolding entry_opens
-returns_3 c = rw (c.before.in-Request.is, c.opens_request.ensures)
+returns_3 c = rw (c.in-Request.is, c.opens_request.ensures)
 
 returns_4 : tie.Need-returns-in-Response
 unfolding entry_opens
-returns_4 c = rw (c.before.in-Response.is, c.kind.ensures)
+returns_4 c = rw (c.in-Response.is, c.kind.ensures)
 
 pub of_entry_spec : {M : Type 1} → statement M
 of_entry_spec =

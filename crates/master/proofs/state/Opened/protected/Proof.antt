@@ -9,14 +9,14 @@ use Rattle.master.proofs.state.Opened.protected.Tie as tie
 
 cast_protected_byte : tie.Need-overflow_cast-format
 cast_protected_byte c =
-    record { fits = omega (arith, ap (λ (x : Format). x.identifier) c.before.format.ensures, c.before.before.before.requires) }
+    record { fits = omega (arith, ap (λ (x : Format). x.identifier) c.format.ensures, c.requires) }
 
 protected_byte_requires : tie.Need-protected_byte-requires
-protected_byte_requires c κs = omega (arith, ap (λ (x : Format). x.identifier) c.before.format.ensures, c.before.before.before.requires)
+protected_byte_requires c κs = omega (arith, ap (λ (x : Format). x.identifier) c.format.ensures, c.requires)
 
 returns : tie.Need-returns
 unfolding open_protected
-returns c = rw (c.protected_byte.ensures, c.before.before.format.ensures)
+returns c = rw (c.protected_byte.ensures, c.format.ensures)
 
 pub protected_spec : {M : Type 1} → statement M
 protected_spec = tie.close (tie.spec (λ c κs. search rules) cast_protected_byte protected_byte_requires returns)

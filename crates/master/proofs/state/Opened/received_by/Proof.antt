@@ -10,7 +10,7 @@ returns c = rw c.in-Nothing.is
 
 returns_2 : tie.Need-returns-in-Frame
 unfolding received_by
-returns_2 c = rw (c.before.in-Frame.is, c.received_in.ensures)
+returns_2 c = rw (c.in-Frame.is, c.received_in.ensures)
 
 returns_3 : tie.Need-returns-in-Request
 unfolding received_by

@@ -10,8 +10,8 @@ use Rattle.master.proofs.state.Opened.sent_pending.Tie as tie
 
 cleared_requires : tie.Need-cleared-requires
 cleared_requires c κs =
-    let a = c.before.before.args in
-    let asked = c.before.before.requires in
+    let a = c.args in
+    let asked = c.requires in
     omega (arith, frame_below a.t.now asked.0 c.in-Frame.f (rw c.in-Frame.is at asked.1), frame_count_lem a.t.now asked.0)
 
 returns : tie.Need-returns-in-Nothing
@@ -20,7 +20,7 @@ returns c = rw c.in-Nothing.is
 
 returns_2 : tie.Need-returns-in-Frame
 unfolding pending_sent
-returns_2 c = rw (c.before.in-Frame.is, c.cleared.ensures)
+returns_2 c = rw (c.in-Frame.is, c.cleared.ensures)
 
 returns_3 : tie.Need-returns-in-Request
 unfolding pending_sent

@@ -7,7 +7,7 @@ returns : tie.Need-returns-in-Nothing
 returns c = rw c.in-Nothing.is
 
 returns_2 : tie.Need-returns-in-Frame
-returns_2 c = rw (c.before.in-Frame.is, c.touches.ensures)
+returns_2 c = rw (c.in-Frame.is, c.touches.ensures)
 
 returns_3 : tie.Need-returns-in-Request
 returns_3 c = rw c.in-Request.is

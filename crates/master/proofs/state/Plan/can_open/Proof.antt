@@ -6,11 +6,11 @@ use Rattle.master.proofs.state.Plan.can_open.Tie as tie
 
 returns : tie.Need-returns-in-None
 unfolding can_open
-returns c = rw (c.before.in-None.is, c.is_open.ensures)
+returns c = rw (c.in-None.is, c.is_open.ensures)
 
 returns_2 : tie.Need-returns-in-Entry
 unfolding can_open
-returns_2 c = rw (c.before.in-Entry.is, c.of_entry.ensures)
+returns_2 c = rw (c.in-Entry.is, c.of_entry.ensures)
 
 pub can_open_spec : {M : Type 1} → statement M
 can_open_spec =

@@ -4,10 +4,10 @@ use Rattle.master.proofs.state.Plan.due.Statement.{statement}
 use Rattle.master.proofs.state.Plan.due.Tie as tie
 
 returns : tie.Need-returns-in-Schedule
-returns c = rw (c.before.in-Schedule.is, c.first.ensures)
+returns c = rw (c.in-Schedule.is, c.first.ensures)
 
 returns_2 : tie.Need-returns-in-None
-returns_2 c = rw (c.before.in-None.is, c.next.ensures)
+returns_2 c = rw (c.in-None.is, c.next.ensures)
 
 pub due_spec : {M : Type 1} → statement M
 due_spec =

@@ -6,7 +6,7 @@ use Rattle.master.proofs.state.Plan.wait_fits.Tie as tie
 
 returns : tie.Need-returns
 unfolding wait_fits
-returns c = rw c.before.delay.ensures
+returns c = rw c.delay.ensures
 
 pub wait_fits_spec : {M : Type 1} → statement M
 wait_fits_spec = tie.close (tie.spec (λ c κs. search rules) returns)

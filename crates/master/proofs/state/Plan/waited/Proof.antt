@@ -6,7 +6,7 @@ use Rattle.master.proofs.state.Plan.waited.Statement.{statement}
 use Rattle.master.proofs.state.Plan.waited.Tie as tie
 
 sub_next : tie.Need-overflow_sub-next
-sub_next c = omega (arith, ltb-true 1 c.before.args.self.wait c.before.requires)
+sub_next c = omega (arith, ltb-true 1 c.args.self.wait c.requires)
 
 returns : tie.Need-returns
 returns c = refl

@@ -7,7 +7,7 @@ returns : tie.Need-returns-in-None
 returns c = rw c.in-None.is
 
 returns_2 : tie.Need-returns-in-Schedule
-returns_2 c = rw (c.before.in-Schedule.is, c.schedules.ensures.0)
+returns_2 c = rw (c.in-Schedule.is, c.schedules.ensures.0)
 
 pub is_there_spec : {M : Type 1} → statement M
 is_there_spec =

@@ -7,15 +7,15 @@ use Rattle.master.proofs.state.Sending.fits.Tie as tie
 
 returns : tie.Need-returns-in-Frames
 returns c =
-    let a = c.before.before.before.before.args in
-    let count = c.before.before.count in
-    let frames = c.before.in-Frames in
+    let a = c.args in
+    let count = c.count in
+    let frames = c.in-Frames in
     counted_frames a.self.length a.self.next frames.frames (sym count.ensures.0 ∙ frames.is)
 
 returns_2 : tie.Need-returns-in-Refused
 returns_2 c =
-    let a = c.before.before.before.args in
-    counted_refused a.self.length a.self.next c.in-Refused.refusal (sym c.before.count.ensures.0 ∙ c.in-Refused.is)
+    let a = c.args in
+    counted_refused a.self.length a.self.next c.in-Refused.refusal (sym c.count.ensures.0 ∙ c.in-Refused.is)
 
 pub fits_spec : {M : Type 1} → statement M
 fits_spec =

@@ -8,22 +8,22 @@ use Rattle.master.proofs.state.Sending.moved.Statement.{statement}
 use Rattle.master.proofs.state.Sending.moved.Tie as tie
 
 add_next : tie.Need-overflow_add-next
-add_next c = omega (arith, next_high c.before.args.self c.before.requires)
+add_next c = omega (arith, next_high c.args.self c.requires)
 
 returns : tie.Need-returns-in-Frames
 unfolding moved
 returns c =
-    let a = c.before.before.before.before.before.args in
-    let count = c.before.before.count in
-    let frames = c.before.in-Frames in
+    let a = c.args in
+    let count = c.count in
+    let frames = c.in-Frames in
     rw (c.at.ensures, frames_counted a.self.length frames.frames (sym count.ensures.0 ∙ frames.is))
 
 returns_2 : tie.Need-returns-in-Refused
 unfolding moved
 returns_2 c =
-    let a = c.before.before.before.before.args in
-    let asked = c.before.before.before.before.requires in
-    absurd (never_refused a.self asked c.in-Refused.refusal (sym c.before.count.ensures.0 ∙ c.in-Refused.is))
+    let a = c.args in
+    let asked = c.requires in
+    absurd (never_refused a.self asked c.in-Refused.refusal (sym c.count.ensures.0 ∙ c.in-Refused.is))
 
 pub moved_spec : {M : Type 1} → statement M
 moved_spec =

@@ -8,45 +8,45 @@ use Rattle.master.proofs.state.State.admit.Tie as tie
 
 returns : tie.Need-returns-in-Refused
 unfolding admitted
-returns c = head_told _ _ _ _ (rw (← c.before.taken.ensures.0, c.in-Refused.is))
+returns c = head_told _ _ _ _ (rw (← c.taken.ensures.0, c.in-Refused.is))
 
 returns_2 : tie.Need-returns-then-size-buffer_size
 unfolding admitted
 returns_2 c =
-    let taken = c.before.before.before.before.taken in
-    head_told _ _ _ _ (rw (← taken.ensures.0, c.before.before.before.in_default.is, ← c.before.before.buffer_size.ensures, ne_eqb _ _ c.before.if-size-buffer_size.true, c.refused.ensures))
+    let taken = c.taken in
+    head_told _ _ _ _ (rw (← taken.ensures.0, c.in_default.is, ← c.buffer_size.ensures, ne_eqb _ _ c.if-size-buffer_size.true, c.refused.ensures))
 
 returns_3 : tie.Need-returns-then-not-fits
 unfolding admitted
 returns_3 c =
-    let taken = c.before.before.before.before.before.before.taken in
-    let enum_told = c.before.before.before.before.before.in_default in
-    let buffer-size = c.before.before.before.before.buffer_size in
-    let fits2 = c.before.before.fits in
+    let taken = c.taken in
+    let enum_told = c.in_default in
+    let buffer-size = c.buffer_size in
+    let fits2 = c.fits in
     head_told _ _ _ _ (rw (
       ← taken.ensures.0,
       enum_told.is,
       ← buffer-size.ensures,
-      eq-eqb _ _ c.before.before.before.if-size-buffer_size.false,
+      eq-eqb _ _ c.if-size-buffer_size.false,
       ←
           fits2.ensures,
-      not-true fits2.result c.before.if-not-fits.true-raw,
+      not-true fits2.result c.if-not-fits.true-raw,
       c.refused-then-not-fits.ensures,
     ))
 
 returns_4 : tie.Need-returns
 unfolding admitted
 returns_4 c =
-    let taken = c.before.before.before.before.before.taken in
-    let enum_told = c.before.before.before.before.in_default in
+    let taken = c.taken in
+    let enum_told = c.in_default in
     head_told _ _ _ _ (rw (
       ← taken.ensures.0,
       enum_told.is,
-      ← c.before.before.before.buffer_size.ensures,
+      ← c.buffer_size.ensures,
       eq-eqb _ _
-          c.before.before.if-size-buffer_size.false,
-      ← c.before.fits.ensures,
-      not-false c.before.fits.result c.if-not-fits.false-raw,
+          c.if-size-buffer_size.false,
+      ← c.fits.ensures,
+      not-false c.fits.result c.if-not-fits.false-raw,
     ))
 
 pub admit_spec : {M : Type 1} → statement M

@@ -12,40 +12,40 @@ use Rattle.master.proofs.state.State.byte_in.Tie as tie
 returns : tie.Need-returns-in-Refused
 unfolding byte_of byte_effect
 returns c =
-    let e = (sym c.before.before.judge_byte.ensures ∙ c.before.in-Refused.is) in
+    let e = (sym c.judge_byte.ensures ∙ c.in-Refused.is) in
     byte_told_lem _ _ _ _ _ _ (record { handed = rw (e, c.answering.ensures); kept = rw e })
 
 sent_byte_requires : tie.Need-sent_byte-requires
 sent_byte_requires c κs =
-    let a = c.before.before.before.before.before.before.before.args in
-    let judge-byte = c.before.before.before.before.judge_byte in
-    let e = (sym judge-byte.ensures ∙ c.before.before.before.in_default.is) in
+    let a = c.args in
+    let judge-byte = c.judge_byte in
+    let e = (sym judge-byte.ensures ∙ c.in_default.is) in
     rw (← byte_size a.t.now (length a.bytes.now) a.self e) e
 
 returns_2 : tie.Need-returns-then-sends
 unfolding byte_of byte_effect
 returns_2 c =
-    let judge-byte = c.before.before.before.before.before.judge_byte in
-    let enum_told = c.before.before.before.before.in_default in
-    let sends = c.before.before.sends in
+    let judge-byte = c.judge_byte in
+    let enum_told = c.in_default in
+    let sends = c.sends in
     let e = (sym judge-byte.ensures ∙ enum_told.is) in
-    byte_told_lem _ _ _ _ _ _ (record { handed = rw (e, ← sends.ensures, c.before.if-sends.true, c.sent_byte.ensures); kept = rw (e, ← sends.ensures, c.before.if-sends.true) })
+    byte_told_lem _ _ _ _ _ _ (record { handed = rw (e, ← sends.ensures, c.if-sends.true, c.sent_byte.ensures); kept = rw (e, ← sends.ensures, c.if-sends.true) })
 
 received_byte_requires : tie.Need-received_byte-requires
 received_byte_requires c κs =
-    let judge-byte = c.before.before.before.before.before.judge_byte in
-    let enum_told = c.before.before.before.before.in_default in
+    let judge-byte = c.judge_byte in
+    let enum_told = c.in_default in
     (sym judge-byte.ensures ∙ enum_told.is)
 
 returns_3 : tie.Need-returns
 unfolding byte_of byte_effect
 returns_3 c =
-    let judge-byte = c.before.before.before.before.before.before.before.before.judge_byte in
-    let enum_told = c.before.before.before.before.before.before.before.in_default in
-    let sends = c.before.before.before.before.before.sends in
-    let if1 = c.before.before.before.before.if-sends in
+    let judge-byte = c.judge_byte in
+    let enum_told = c.in_default in
+    let sends = c.sends in
+    let if1 = c.if-sends in
     let e = (sym judge-byte.ensures ∙ enum_told.is) in
-    let l = c.before.before.received_byte.ensures in
+    let l = c.received_byte.ensures in
     byte_told_lem _ _ _ _ _ _ (record { handed = rw (e, ← sends.ensures, if1.false) l.handed; kept = rw (e, ← sends.ensures, if1.false) l.kept })
 
 pub byte_in_spec : {M : Type 1} → statement M

@@ -5,8 +5,8 @@ use Rattle.master.proofs.state.State.closed.Tie as tie
 
 returns : tie.Need-returns
 returns c =
-    let none = c.before.before.before.before.none in
-    rw (c.with_status.ensures, c.before.after.ensures, c.before.before.protected.ensures, c.before.before.before.with_transfer.ensures, none.ensures)
+    let none = c.none in
+    rw (c.with_status.ensures, c.after.ensures, c.protected.ensures, c.with_transfer.ensures, none.ensures)
 
 pub closed_spec : {M : Type 1} → statement M
 closed_spec =

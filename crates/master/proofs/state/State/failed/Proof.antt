@@ -6,7 +6,7 @@ use Rattle.master.proofs.state.State.failed.Tie as tie
 
 returns : tie.Need-returns
 unfolding failed
-returns c = rw (c.with_message.ensures, c.before.failed.ensures, c.before.before.closed.ensures)
+returns c = rw (c.with_message.ensures, c.failed.ensures, c.closed.ensures)
 
 pub failed_spec : {M : Type 1} → statement M
 failed_spec = tie.close (tie.spec (λ c κs. search rules) (λ c κs. search rules) (λ c κs. search rules) returns)

@@ -8,13 +8,12 @@ use Rattle.master.proofs.state.State.fits.Tie as tie
 
 returns : tie.Need-returns-then-not-base_fits
 unfolding state_fits
-returns c = rw (sym c.before.base_fits.ensures ∙ not-true c.before.base_fits.result c.if-not-base_fits.true-raw)
+returns c = rw (sym c.base_fits.ensures ∙ not-true c.base_fits.result c.if-not-base_fits.true-raw)
 
 returns_2 : tie.Need-returns
 unfolding state_fits
 returns_2 c =
-    let d = c in
-    rw (sym d.before.before.before.base_fits.ensures ∙ not-false d.before.before.before.base_fits.result d.before.before.if-not-base_fits.false-raw, c.received_fits.ensures)
+    rw (sym c.base_fits.ensures ∙ not-false c.base_fits.result c.if-not-base_fits.false-raw, c.received_fits.ensures)
 
 pub fits_spec : {M : Type 1} → statement M
 fits_spec = tie.close (tie.spec (λ c κs. search rules) returns (λ c κs. search rules) returns_2)

@@ -6,7 +6,7 @@ use Rattle.master.proofs.state.State.fresh.Tie as tie
 
 returns : tie.Need-returns
 unfolding fresh
-returns c = rw (c.before.before.before.none.ensures, c.before.before.none-2.ensures, c.before.none-3.ensures, c.never.ensures)
+returns c = rw (c.none.ensures, c.none-2.ensures, c.none-3.ensures, c.never.ensures)
 
 pub fresh_spec : {M : Type 1} → statement M
 fresh_spec = tie.close (tie.spec (λ c κs. search rules) (λ c κs. search rules) (λ c κs. search rules) (λ c κs. search rules) returns)

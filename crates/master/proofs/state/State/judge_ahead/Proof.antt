@@ -8,32 +8,32 @@ use Rattle.master.proofs.state.State.judge_ahead.Tie as tie
 returns : tie.Need-returns-in-Refused
 unfolding ahead_verdict
 returns c =
-    let buffer-size = c.before.before.buffer_size in
-    rw (← buffer-size.ensures, ← c.before.admit.ensures.0, c.in-Refused.is)
+    let buffer-size = c.buffer_size in
+    rw (← buffer-size.ensures, ← c.admit.ensures.0, c.in-Refused.is)
 
 returns_2 : tie.Need-returns-then-count-of_frame
 unfolding ahead_verdict
 returns_2 c =
-    let buffer-size = c.before.before.before.before.before.before.buffer_size in
-    let admit = c.before.before.before.before.before.admit in
-    let enum_told = c.before.before.before.before.in_default in
+    let buffer-size = c.buffer_size in
+    let admit = c.admit in
+    let enum_told = c.in_default in
     rw (
       ← buffer-size.ensures,
       ← admit.ensures.0,
       enum_told.is,
-      ← c.before.before.before.count.ensures,
+      ← c.count.ensures,
       ←
-          c.before.before.of_frame.ensures,
-      le-ltb _ _ c.before.if-count-of_frame.true,
+          c.of_frame.ensures,
+      le-ltb _ _ c.if-count-of_frame.true,
       c.refused.ensures,
     )
 
 returns_3 : tie.Need-returns
 unfolding ahead_verdict
 returns_3 c =
-    let buffer-size = c.before.before.before.before.before.buffer_size in
-    let admit = c.before.before.before.before.admit in
-    rw (← buffer-size.ensures, ← admit.ensures.0, c.before.before.before.in_default.is, ← c.before.before.count.ensures, ← c.before.of_frame.ensures, lt-ltb _ _ c.if-count-of_frame.false)
+    let buffer-size = c.buffer_size in
+    let admit = c.admit in
+    rw (← buffer-size.ensures, ← admit.ensures.0, c.in_default.is, ← c.count.ensures, ← c.of_frame.ensures, lt-ltb _ _ c.if-count-of_frame.false)
 
 pub judge_ahead_spec : {M : Type 1} → statement M
 judge_ahead_spec =

@@ -6,13 +6,13 @@ use Rattle.master.proofs.state.State.judge_array.Statement.{statement}
 use Rattle.master.proofs.state.State.judge_array.Tie as tie
 
 returns : tie.Need-returns-in-Refused
-returns c = rw (← c.before.admit.ensures.0, c.in-Refused.is)
+returns c = rw (← c.admit.ensures.0, c.in-Refused.is)
 
 writable_requires : tie.Need-writable-requires
-writable_requires c κs = admitted_table _ _ _ (sym c.before.before.admit.ensures.0 ∙ c.before.in_default.is)
+writable_requires c κs = admitted_table _ _ _ (sym c.admit.ensures.0 ∙ c.in_default.is)
 
 returns_2 : tie.Need-returns
-returns_2 c = rw (← c.before.before.before.admit.ensures.0, c.before.before.in_default.is, c.writable.ensures, c.before.array_fits.ensures)
+returns_2 c = rw (← c.admit.ensures.0, c.in_default.is, c.writable.ensures, c.array_fits.ensures)
 
 pub judge_array_spec : {M : Type 1} → statement M
 judge_array_spec =

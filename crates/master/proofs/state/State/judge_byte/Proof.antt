@@ -7,21 +7,21 @@ use Rattle.master.proofs.state.State.judge_byte.Tie as tie
 
 returns : tie.Need-returns-in-Refused
 unfolding byte_verdict
-returns c = rw (← c.before.admit.ensures.0, c.in-Refused.is)
+returns c = rw (← c.admit.ensures.0, c.in-Refused.is)
 
 returns_2 : tie.Need-returns-then-not-is_open
 unfolding byte_verdict
 returns_2 c =
-    let admit = c.before.before.before.before.before.admit in
-    let enum_told = c.before.before.before.before.in_default in
-    let is_open = c.before.before.is_open in
-    rw (← admit.ensures.0, enum_told.is, ← is_open.ensures, not-true is_open.result c.before.if-not-is_open.true-raw, c.refused.ensures)
+    let admit = c.admit in
+    let enum_told = c.in_default in
+    let is_open = c.is_open in
+    rw (← admit.ensures.0, enum_told.is, ← is_open.ensures, not-true is_open.result c.if-not-is_open.true-raw, c.refused.ensures)
 
 returns_3 : tie.Need-returns
 unfolding byte_verdict
 returns_3 c =
-    let admit = c.before.before.before.before.admit in
-    rw (← admit.ensures.0, c.before.before.before.in_default.is, ← c.before.is_open.ensures, not-false c.before.is_open.result c.if-not-is_open.false-raw)
+    let admit = c.admit in
+    rw (← admit.ensures.0, c.in_default.is, ← c.is_open.ensures, not-false c.is_open.result c.if-not-is_open.false-raw)
 
 pub judge_byte_spec : {M : Type 1} → statement M
 judge_byte_spec =

@@ -8,47 +8,47 @@ use Rattle.master.proofs.state.State.judge_read.Tie as tie
 
 returns : tie.Need-returns-in-Refused
 unfolding read_verdict
-returns c = rw (← c.before.admit.ensures.0, c.in-Refused.is)
+returns c = rw (← c.admit.ensures.0, c.in-Refused.is)
 
 returns_2 : tie.Need-returns-then-count-s
 unfolding read_verdict
 returns_2 c =
-    let admit = c.before.before.before.before.admit in
-    rw (← admit.ensures.0, c.before.before.before.in_default.is, ← c.before.before.count.ensures, le-ltb _ _ c.before.if-count-s.true, c.refused.ensures)
+    let admit = c.admit in
+    rw (← admit.ensures.0, c.in_default.is, ← c.count.ensures, le-ltb _ _ c.if-count-s.true, c.refused.ensures)
 
 returns_3 : tie.Need-returns-then-is_array-array
 unfolding read_verdict
 returns_3 c =
-    let a = c.before.before.before.before.before.before.before.before.args in
-    let admit = c.before.before.before.before.before.before.admit in
-    let enum_told = c.before.before.before.before.before.in_default in
-    let count = c.before.before.before.before.count in
-    let is-array = c.before.before.is_array in
+    let a = c.args in
+    let admit = c.admit in
+    let enum_told = c.in_default in
+    let count = c.count in
+    let is-array = c.is_array in
     rw (
       ← admit.ensures.0,
       enum_told.is,
       ← count.ensures,
-      lt-ltb _ _ c.before.before.before.if-count-s.false,
+      lt-ltb _ _ c.if-count-s.false,
       ←
           is-array.ensures,
-      not-true (beq is-array.result a.array) c.before.if-is_array-array.true,
+      not-true (beq is-array.result a.array) c.if-is_array-array.true,
       c.refused-then-is_array-array.ensures,
     )
 
 returns_4 : tie.Need-returns
 unfolding read_verdict
 returns_4 c =
-    let a = c.before.before.before.before.before.before.before.args in
-    let admit = c.before.before.before.before.before.admit in
-    let enum_told = c.before.before.before.before.in_default in
+    let a = c.args in
+    let admit = c.admit in
+    let enum_told = c.in_default in
     rw (
       ← admit.ensures.0,
       enum_told.is,
-      ← c.before.before.before.count.ensures,
+      ← c.count.ensures,
       lt-ltb _ _
-          c.before.before.if-count-s.false,
-      ← c.before.is_array.ensures,
-      not-false (beq c.before.is_array.result a.array) c.if-is_array-array.false,
+          c.if-count-s.false,
+      ← c.is_array.ensures,
+      not-false (beq c.is_array.result a.array) c.if-is_array-array.false,
     )
 
 pub judge_read_spec : {M : Type 1} → statement M

@@ -9,18 +9,18 @@ use Rattle.master.proofs.state.State.judge_row.Tie as tie
 
 returns : tie.Need-returns-in-Refused
 unfolding row_verdict
-returns c = rw (← c.before.admit.ensures.0, c.in-Refused.is)
+returns c = rw (← c.admit.ensures.0, c.in-Refused.is)
 
 returns_2 : tie.Need-returns-then-signals-values
 unfolding row_verdict
-returns_2 c = rw (← c.before.before.before.admit.ensures.0, c.before.before.in_default.is, ne_eqb _ _ c.before.if-signals-values.true, c.refused.ensures)
+returns_2 c = rw (← c.admit.ensures.0, c.in_default.is, ne_eqb _ _ c.if-signals-values.true, c.refused.ensures)
 
 first_bad_requires : tie.Need-first_bad-requires
-first_bad_requires c κs = (admitted_table _ _ _ (sym c.before.before.admit.ensures.0 ∙ c.before.in_default.is), c.if-signals-values.false)
+first_bad_requires c κs = (admitted_table _ _ _ (sym c.admit.ensures.0 ∙ c.in_default.is), c.if-signals-values.false)
 
 returns_3 : tie.Need-returns
 unfolding row_verdict
-returns_3 c = rw (← c.before.before.before.admit.ensures.0, c.before.before.in_default.is, eq-eqb _ _ c.before.if-signals-values.false, c.first_bad.ensures)
+returns_3 c = rw (← c.admit.ensures.0, c.in_default.is, eq-eqb _ _ c.if-signals-values.false, c.first_bad.ensures)
 
 pub judge_row_spec : {M : Type 1} → statement M
 judge_row_spec =

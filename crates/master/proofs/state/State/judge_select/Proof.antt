@@ -8,23 +8,23 @@ use Rattle.master.proofs.state.State.judge_select.Tie as tie
 returns : tie.Need-returns-in-Refused
 unfolding select_verdict
 returns c =
-    let buffer-size = c.before.before.buffer_size in
-    rw (← buffer-size.ensures, ← c.before.admit.ensures.0, c.in-Refused.is)
+    let buffer-size = c.buffer_size in
+    rw (← buffer-size.ensures, ← c.admit.ensures.0, c.in-Refused.is)
 
 returns_2 : tie.Need-returns-then-schedules-n
 unfolding select_verdict
 returns_2 c =
-    let buffer-size = c.before.before.before.before.before.buffer_size in
-    let admit = c.before.before.before.before.admit in
-    let accepted = c.before.before.before.in_default.is in
-    rw (← buffer-size.ensures, ← admit.ensures.0, accepted, ← c.before.before.schedules.ensures.0, le-ltb _ _ c.before.if-schedules-n.true, c.refused.ensures)
+    let buffer-size = c.buffer_size in
+    let admit = c.admit in
+    let accepted = c.in_default.is in
+    rw (← buffer-size.ensures, ← admit.ensures.0, accepted, ← c.schedules.ensures.0, le-ltb _ _ c.if-schedules-n.true, c.refused.ensures)
 
 returns_3 : tie.Need-returns
 unfolding select_verdict
 returns_3 c =
-    let buffer-size = c.before.before.before.before.buffer_size in
-    let admit = c.before.before.before.admit in
-    rw (← buffer-size.ensures, ← admit.ensures.0, c.before.before.in_default.is, ← c.before.schedules.ensures.0, lt-ltb _ _ c.if-schedules-n.false)
+    let buffer-size = c.buffer_size in
+    let admit = c.admit in
+    rw (← buffer-size.ensures, ← admit.ensures.0, c.in_default.is, ← c.schedules.ensures.0, lt-ltb _ _ c.if-schedules-n.false)
 
 pub judge_select_spec : {M : Type 1} → statement M
 judge_select_spec =

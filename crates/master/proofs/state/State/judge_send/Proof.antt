@@ -8,55 +8,55 @@ use Rattle.master.proofs.state.State.judge_send.Tie as tie
 returns : tie.Need-returns-in-Refused
 unfolding send_verdict
 returns c =
-    let buffer-size = c.before.before.buffer_size in
-    rw (← buffer-size.ensures, ← c.before.admit.ensures.0, c.in-Refused.is)
+    let buffer-size = c.buffer_size in
+    rw (← buffer-size.ensures, ← c.admit.ensures.0, c.in-Refused.is)
 
 returns_2 : tie.Need-returns-then-size-lt1
 unfolding send_verdict
 returns_2 c =
-    let buffer-size = c.before.before.before.before.buffer_size in
-    let admit = c.before.before.before.admit in
-    rw (← buffer-size.ensures, ← admit.ensures.0, c.before.before.in_default.is, lt-leb _ _ c.before.if-size-lt1.true, c.refused.ensures)
+    let buffer-size = c.buffer_size in
+    let admit = c.admit in
+    rw (← buffer-size.ensures, ← admit.ensures.0, c.in_default.is, lt-leb _ _ c.if-size-lt1.true, c.refused.ensures)
 
 returns_3 : tie.Need-returns-then-size
 unfolding send_verdict
 returns_3 c =
-    let buffer-size = c.before.before.before.before.before.buffer_size in
-    let admit = c.before.before.before.before.admit in
-    let accepted = c.before.before.before.in_default.is in
-    rw (← buffer-size.ensures, ← admit.ensures.0, accepted, le-leb _ _ c.before.before.if-size-lt1.false, lt-leb _ _ c.before.if-size.true, c.refused-then-size.ensures)
+    let buffer-size = c.buffer_size in
+    let admit = c.admit in
+    let accepted = c.in_default.is in
+    rw (← buffer-size.ensures, ← admit.ensures.0, accepted, le-leb _ _ c.if-size-lt1.false, lt-leb _ _ c.if-size.true, c.refused-then-size.ensures)
 
 returns_4 : tie.Need-returns-then-is_sending
 unfolding send_verdict
 returns_4 c =
-    let buffer-size = c.before.before.before.before.before.before.before.buffer_size in
-    let admit = c.before.before.before.before.before.before.admit in
-    let enum_told = c.before.before.before.before.before.in_default in
+    let buffer-size = c.buffer_size in
+    let admit = c.admit in
+    let enum_told = c.in_default in
     rw (
       ← buffer-size.ensures,
       ← admit.ensures.0,
       enum_told.is,
-      le-leb _ _ c.before.before.before.before.if-size-lt1.false,
-      le-leb _ _ c.before.before.before.if-size.false,
-      ← c.before.before.is_sending.ensures,
-      c.before.if-is_sending.true,
+      le-leb _ _ c.if-size-lt1.false,
+      le-leb _ _ c.if-size.false,
+      ← c.is_sending.ensures,
+      c.if-is_sending.true,
       c.refused-then-is_sending.ensures,
     )
 
 returns_5 : tie.Need-returns
 unfolding send_verdict
 returns_5 c =
-    let buffer-size = c.before.before.before.before.before.before.buffer_size in
-    let admit = c.before.before.before.before.before.admit in
-    let enum_told = c.before.before.before.before.in_default in
+    let buffer-size = c.buffer_size in
+    let admit = c.admit in
+    let enum_told = c.in_default in
     rw (
       ← buffer-size.ensures,
       ← admit.ensures.0,
       enum_told.is,
-      le-leb _ _ c.before.before.before.if-size-lt1.false,
+      le-leb _ _ c.if-size-lt1.false,
       le-leb _
-          _ c.before.before.if-size.false,
-      ← c.before.is_sending.ensures,
+          _ c.if-size.false,
+      ← c.is_sending.ensures,
       c.if-is_sending.false,
     )
 

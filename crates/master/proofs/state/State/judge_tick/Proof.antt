@@ -7,21 +7,21 @@ use Rattle.master.proofs.state.State.judge_tick.Tie as tie
 
 returns : tie.Need-returns-in-Refused
 unfolding tick_verdict
-returns c = rw (← c.before.admit.ensures.0, c.in-Refused.is)
+returns c = rw (← c.admit.ensures.0, c.in-Refused.is)
 
 returns_2 : tie.Need-returns-then-not-lent_fits
 unfolding tick_verdict
 returns_2 c =
-    let admit = c.before.before.before.before.admit in
-    let lent-fits = c.before.before.lent_fits in
-    rw (← admit.ensures.0, c.before.before.before.in_default.is, ← lent-fits.ensures, not-true lent-fits.result c.before.if-not-lent_fits.true-raw, c.refused.ensures)
+    let admit = c.admit in
+    let lent-fits = c.lent_fits in
+    rw (← admit.ensures.0, c.in_default.is, ← lent-fits.ensures, not-true lent-fits.result c.if-not-lent_fits.true-raw, c.refused.ensures)
 
 returns_3 : tie.Need-returns
 unfolding tick_verdict
 returns_3 c =
-    let admit = c.before.before.before.admit in
-    let lent-fits = c.before.lent_fits in
-    rw (← admit.ensures.0, c.before.before.in_default.is, ← lent-fits.ensures, not-false lent-fits.result c.if-not-lent_fits.false-raw)
+    let admit = c.admit in
+    let lent-fits = c.lent_fits in
+    rw (← admit.ensures.0, c.in_default.is, ← lent-fits.ensures, not-false lent-fits.result c.if-not-lent_fits.false-raw)
 
 pub judge_tick_spec : {M : Type 1} → statement M
 judge_tick_spec =

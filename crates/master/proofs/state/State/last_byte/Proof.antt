@@ -14,8 +14,8 @@ use Rattle.master.proofs.state.State.last_byte.Tie as tie
 
 checksum_right_requires : tie.Need-checksum_right-requires
 checksum_right_requires c κs =
-    let a = c.before.before.before.args in
-    let asked = c.before.before.before.requires in (
+    let a = c.args in
+    let asked = c.requires in (
       byte_identifier a.t.now (length a.bytes.now) a.self asked,
       byte_length_low a.t.now (length a.bytes.now)
           a.self asked,
@@ -24,36 +24,36 @@ checksum_right_requires c κs =
 
 failed_requires : tie.Need-failed-requires
 failed_requires c κs =
-    let a = c.before.before.before.before.before.args in
-    let asked = c.before.before.before.before.before.requires in
+    let a = c.args in
+    let asked = c.requires in
     byte_identifier a.t.now (length a.bytes.now) a.self asked
 
 returns : tie.Need-returns-then-not-checksum_right
 unfolding last_byte
 returns c =
-    let checksum-right = c.before.before.before.checksum_right in
-    let if1 = c.before.before.if-not-checksum_right in
+    let checksum-right = c.checksum_right in
+    let if1 = c.if-not-checksum_right in
     record {
       handed = rw (
         ← checksum-right.ensures,
         not-true checksum-right.result if1.true-raw,
         c.answering.ensures,
-        c.before.failed.ensures,
+        c.failed.ensures,
       );
       kept = rw (← checksum-right.ensures, not-true checksum-right.result if1.true-raw);
     }
 
 received_requires : tie.Need-received-closed-requires
 received_requires c κs =
-    let a = c.before.before.before.before.before.args in
-    let asked = c.before.before.before.before.before.requires in
+    let a = c.args in
+    let asked = c.requires in
     byte_identifier a.t.now (length a.bytes.now) a.self asked
 
 store_requires : tie.Need-store-requires
 store_requires c κs =
-    let a = c.before.before.before.before.before.before.before.before.before.args in
-    let asked = c.before.before.before.before.before.before.before.before.before.requires in
-    let opened = c.before.before.in-Frame in (
+    let a = c.args in
+    let asked = c.requires in
+    let opened = c.in-Frame in (
       frame_end a.t.now (byte_table a.t.now (length a.bytes.now) a.self asked) a.bytes.now
           (byte_size a.t.now (length a.bytes.now) a.self asked) opened.f
           (rw opened.is at (byte_fits a.t.now (length a.bytes.now) a.self asked).frame_there_lem) _ refl,
@@ -64,42 +64,42 @@ store_requires c κs =
 returns_2 : tie.Need-returns-in-Nothing
 unfolding last_byte
 returns_2 c =
-    let a = c.before.before.before.before.before.before.before.before.args in
-    let checksum-right = c.before.before.before.before.checksum_right in
+    let a = c.args in
+    let checksum-right = c.checksum_right in
     last_nothing a.t.now a.self a.nine a.bytes.now
-    (sym checksum-right.ensures ∙ not-false checksum-right.result c.before.before.before.if-not-checksum_right.false-raw) _ _
-    c.before.in-Nothing.is (c.answering-in-Nothing.ensures ∙ rw c.before.before.received-closed.ensures) refl
+    (sym checksum-right.ensures ∙ not-false checksum-right.result c.if-not-checksum_right.false-raw) _ _
+    c.in-Nothing.is (c.answering-in-Nothing.ensures ∙ rw c.received-closed.ensures) refl
 
 returns_3 : tie.Need-returns-in-Frame
 unfolding last_byte
 returns_3 c =
-    let a = c.before.before.before.before.before.before.before.before.before.before.before.before.before.args in
-    let checksum-right = c.before.before.before.before.before.before.before.before.before.checksum_right in
-    let if1 = c.before.before.before.before.before.before.before.before.if-not-checksum_right in
-    let received = c.before.before.before.before.before.before.before.received-closed in
-    let opened = c.before.before.before.before.before.before.in-Frame in
-    let told = c.before.before.before.before.length in
+    let a = c.args in
+    let checksum-right = c.checksum_right in
+    let if1 = c.if-not-checksum_right in
+    let received = c.received-closed in
+    let opened = c.in-Frame in
+    let told = c.length in
     last_frame a.t.now a.self a.nine a.bytes.now
     (sym checksum-right.ensures ∙ not-false checksum-right.result if1.false-raw) _ _ opened.f told.result
-    opened.is (c.answering-in-Frame.ensures ∙ rw received.ensures) told.ensures c.before.before.before.store.ensures
+    opened.is (c.answering-in-Frame.ensures ∙ rw received.ensures) told.ensures c.store.ensures
 
 returns_4 : tie.Need-returns-in-Request
 unfolding last_byte
 returns_4 c =
-    let a = c.before.before.before.before.before.before.before.before.args in
-    let checksum-right = c.before.before.before.before.checksum_right in
+    let a = c.args in
+    let checksum-right = c.checksum_right in
     last_request a.t.now a.self a.nine a.bytes.now
-    (sym checksum-right.ensures ∙ not-false checksum-right.result c.before.before.before.if-not-checksum_right.false-raw) _ _
-    c.before.in-Request.is (c.answering-in-Request.ensures ∙ rw c.before.before.received-closed.ensures) refl
+    (sym checksum-right.ensures ∙ not-false checksum-right.result c.if-not-checksum_right.false-raw) _ _
+    c.in-Request.is (c.answering-in-Request.ensures ∙ rw c.received-closed.ensures) refl
 
 returns_5 : tie.Need-returns-in-Response
 unfolding last_byte
 returns_5 c =
-    let a = c.before.before.before.before.before.before.before.before.args in
-    let checksum-right = c.before.before.before.before.checksum_right in
+    let a = c.args in
+    let checksum-right = c.checksum_right in
     last_response a.t.now a.self a.nine a.bytes.now
-    (sym checksum-right.ensures ∙ not-false checksum-right.result c.before.before.before.if-not-checksum_right.false-raw) _ _
-    c.before.in-Response.is (c.responding.ensures ∙ rw c.before.before.received-closed.ensures) refl
+    (sym checksum-right.ensures ∙ not-false checksum-right.result c.if-not-checksum_right.false-raw) _ _
+    c.in-Response.is (c.responding.ensures ∙ rw c.received-closed.ensures) refl
 
 pub last_byte_spec : {M : Type 1} → statement M
 last_byte_spec =

@@ -7,7 +7,7 @@ use Rattle.master.proofs.state.State.marked.Tie as tie
 returns : tie.Need-returns
 unfolding marked
 returns c =
-    rw (c.with_transfer.ensures, c.before.rewritten.ensures, c.before.before.with_pending.ensures, c.before.before.before.before.mark.ensures)
+    rw (c.with_transfer.ensures, c.rewritten.ensures, c.with_pending.ensures, c.mark.ensures)
 
 pub marked_spec : {M : Type 1} → statement M
 marked_spec =

@@ -6,7 +6,7 @@ use Rattle.master.proofs.state.State.marked_row.Tie as tie
 
 returns : tie.Need-returns
 unfolding marked_row
-returns c = rw (c.with_transfer.ensures, c.before.rewritten_by.ensures, c.before.before.with_pending.ensures, c.before.before.before.before.mark_row.ensures)
+returns c = rw (c.with_transfer.ensures, c.rewritten_by.ensures, c.with_pending.ensures, c.mark_row.ensures)
 
 pub marked_row_spec : {M : Type 1} → statement M
 marked_row_spec =

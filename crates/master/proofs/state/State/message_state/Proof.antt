@@ -8,14 +8,14 @@ use Rattle.master.proofs.state.State.message_state.Tie as tie
 returns : tie.Need-returns-in-Refused
 unfolding message_of
 returns c =
-    let buffer-size = c.before.before.buffer_size in
-    message_told_lem _ _ _ (rw (← buffer-size.ensures, ← c.before.admit.ensures.0, c.in-Refused.is))
+    let buffer-size = c.buffer_size in
+    message_told_lem _ _ _ (rw (← buffer-size.ensures, ← c.admit.ensures.0, c.in-Refused.is))
 
 returns_2 : tie.Need-returns
 unfolding message_of
 returns_2 c =
-    let buffer-size = c.before.before.before.buffer_size in
-    message_told_lem _ _ _ (rw (← buffer-size.ensures, ← c.before.before.admit.ensures.0, c.before.in_default.is, c.told.ensures))
+    let buffer-size = c.buffer_size in
+    message_told_lem _ _ _ (rw (← buffer-size.ensures, ← c.admit.ensures.0, c.in_default.is, c.told.ensures))
 
 pub message_state_spec : {M : Type 1} → statement M
 message_state_spec =

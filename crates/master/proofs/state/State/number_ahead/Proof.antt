@@ -12,21 +12,21 @@ use Rattle.master.proofs.state.State.number_ahead.Tie as tie
 
 returns : tie.Need-returns-in-Refused
 unfolding ahead_of frames_ahead
-returns c = ahead_told_lem _ _ _ _ (rw (← c.before.judge_ahead.ensures, c.in-Refused.is))
+returns c = ahead_told_lem _ _ _ _ (rw (← c.judge_ahead.ensures, c.in-Refused.is))
 
 count_pending_requires : tie.Need-count_pending-requires
 count_pending_requires c κs =
-    let a = c.before.before.before.before.before.before.args in
-    let judge-ahead = c.before.before.before.before.judge_ahead in
-    let e = sym judge-ahead.ensures ∙ c.before.before.before.in_default.is in
-    (ahead_table a.t.now a.self a.f e, omega (arith, c.before.of_frame-m.ensures, ahead_member a.t.now a.self a.f e))
+    let a = c.args in
+    let judge-ahead = c.judge_ahead in
+    let e = sym judge-ahead.ensures ∙ c.in_default.is in
+    (ahead_table a.t.now a.self a.f e, omega (arith, c.of_frame-m.ensures, ahead_member a.t.now a.self a.f e))
 
 returns_2 : tie.Need-returns
 unfolding ahead_of frames_ahead
 returns_2 c =
-    let judge-ahead = c.before.before.before.before.before.judge_ahead in
-    let enum_told = c.before.before.before.before.in_default in
-    ahead_told_lem _ _ _ _ (rw (← judge-ahead.ensures, enum_told.is, c.count_pending.ensures, c.before.list-l.ensures, c.before.before.of_frame-m.ensures))
+    let judge-ahead = c.judge_ahead in
+    let enum_told = c.in_default in
+    ahead_told_lem _ _ _ _ (rw (← judge-ahead.ensures, enum_told.is, c.count_pending.ensures, c.list-l.ensures, c.of_frame-m.ensures))
 
 pub number_ahead_spec : {M : Type 1} → statement M
 number_ahead_spec =

@@ -9,20 +9,20 @@ use Rattle.master.proofs.state.State.open.Tie as tie
 
 returns : tie.Need-returns-then-not-is_open
 unfolding opens_or_silent
-returns c = rw (← c.before.is_open.ensures, not-true c.before.is_open.result c.if-not-is_open.true-raw)
+returns c = rw (← c.is_open.ensures, not-true c.is_open.result c.if-not-is_open.true-raw)
 
 protected_requires : tie.Need-protected-requires
 protected_requires c κs =
-    let a = c.before.before.before.before.before.before.before.args in
-    let asked = c.before.before.before.before.before.before.before.requires in
+    let a = c.args in
+    let asked = c.requires in
     open_identifier_lem a.t.now asked.0 a.opened asked.2
 
 returns_2 : tie.Need-returns
 unfolding opens_or_silent
 returns_2 c =
-    let is_open = c.before.before.before.before.is_open in
-    let left = not-false is_open.result c.before.before.before.if-not-is_open.false-raw in
-    rw (← is_open.ensures, left, c.protected.ensures, c.before.with_transfer.ensures, c.before.before.opening.ensures)
+    let is_open = c.is_open in
+    let left = not-false is_open.result c.if-not-is_open.false-raw in
+    rw (← is_open.ensures, left, c.protected.ensures, c.with_transfer.ensures, c.opening.ensures)
 
 pub open_spec : {M : Type 1} → statement M
 open_spec =

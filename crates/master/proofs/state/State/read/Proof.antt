@@ -10,22 +10,20 @@ use Rattle.master.proofs.state.State.read.Tie as tie
 
 returns : tie.Need-returns-in-Refused
 unfolding read_scalar_of
-returns c = read_told_lem _ _ _ _ _ (rw (← c.before.judge_read.ensures, c.in-Refused.is))
+returns c = read_told_lem _ _ _ _ _ (rw (← c.judge_read.ensures, c.in-Refused.is))
 
 source_requires : tie.Need-source-requires
-source_requires c κs = read_table _ _ _ _ _ (sym c.before.judge_read.ensures ∙ c.in_default.is)
+source_requires c κs = read_table _ _ _ _ _ (sym c.judge_read.ensures ∙ c.in_default.is)
 
 returns_2 : tie.Need-returns-in-Never
 unfolding read_scalar_of scalar_from
 returns_2 c =
-    let d = c in
-    read_told_lem _ _ _ _ _ (rw (← d.before.before.before.before.judge_read.ensures, d.before.before.before.in_default.is, ← d.before.before.source.ensures, c.before.in-Never.is, c.start.ensures))
+    read_told_lem _ _ _ _ _ (rw (← c.judge_read.ensures, c.in_default.is, ← c.source.ensures, c.in-Never.is, c.start.ensures))
 
 returns_3 : tie.Need-returns-in-Placement
 unfolding read_scalar_of scalar_from
 returns_3 c =
-    let d = c in
-    read_told_lem _ _ _ _ _ (rw (← d.before.before.before.before.judge_read.ensures, d.before.before.before.in_default.is, ← d.before.before.source.ensures, c.before.in-Placement.is, c.scalar_at.ensures))
+    read_told_lem _ _ _ _ _ (rw (← c.judge_read.ensures, c.in_default.is, ← c.source.ensures, c.in-Placement.is, c.scalar_at.ensures))
 
 pub read_spec : {M : Type 1} → statement M
 read_spec =

@@ -10,37 +10,35 @@ use Rattle.master.proofs.state.State.read_array.Tie as tie
 
 returns : tie.Need-returns-in-Refused
 unfolding read_array_of
-returns c = read_array_told _ _ _ _ _ (rw (← c.before.judge_read.ensures, c.in-Refused.is))
+returns c = read_array_told _ _ _ _ _ (rw (← c.judge_read.ensures, c.in-Refused.is))
 
 source_requires : tie.Need-source-requires
-source_requires c κs = read_table _ _ _ _ _ (sym c.before.judge_read.ensures ∙ c.in_default.is)
+source_requires c κs = read_table _ _ _ _ _ (sym c.judge_read.ensures ∙ c.in_default.is)
 
 returns_2 : tie.Need-returns-in-Never
 unfolding read_array_of array_from
 returns_2 c =
-    let d = c in
     read_array_told _ _ _ _ _
     (rw (
-      ← d.before.before.before.before.before.judge_read.ensures,
-      d.before.before.before.before.in_default.is,
-      ← d.before.before.before.source.ensures,
-      c.before.before.in-Never.is,
+      ← c.judge_read.ensures,
+      c.in_default.is,
+      ← c.source.ensures,
+      c.in-Never.is,
       c.read_as.ensures,
-      c.before.start_array.ensures,
+      c.start_array.ensures,
     ))
 
 returns_3 : tie.Need-returns-in-Placement
 unfolding read_array_of array_from
 returns_3 c =
-    let d = c in
     read_array_told _ _ _ _ _
     (rw (
-      ← d.before.before.before.before.before.judge_read.ensures,
-      d.before.before.before.before.in_default.is,
-      ← d.before.before.before.source.ensures,
-      c.before.before.in-Placement.is,
+      ← c.judge_read.ensures,
+      c.in_default.is,
+      ← c.source.ensures,
+      c.in-Placement.is,
       c.read_as-in-Placement.ensures,
-      c.before.array_at.ensures,
+      c.array_at.ensures,
     ))
 
 pub read_array_spec : {M : Type 1} → statement M

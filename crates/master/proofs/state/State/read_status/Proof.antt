@@ -8,16 +8,16 @@ use Rattle.master.proofs.state.State.read_status.Tie as tie
 returns : tie.Need-returns-in-Refused
 unfolding status_of
 returns c =
-    let buffer-size = c.before.before.buffer_size in
-    status_told_lem _ _ _ (rw (← buffer-size.ensures, ← c.before.admit.ensures.0, c.in-Refused.is))
+    let buffer-size = c.buffer_size in
+    status_told_lem _ _ _ (rw (← buffer-size.ensures, ← c.admit.ensures.0, c.in-Refused.is))
 
 returns_2 : tie.Need-returns
 unfolding status_of
 returns_2 c =
-    let buffer-size = c.before.before.before.before.before.before.buffer_size in
-    let admit = c.before.before.before.before.before.admit in
-    let accepted = c.before.before.before.before.in_default in
-    status_told_lem _ _ _ (rw (← buffer-size.ensures, ← admit.ensures.0, accepted.is, c.word.ensures, c.before.with_status.ensures, c.before.before.none.ensures))
+    let buffer-size = c.buffer_size in
+    let admit = c.admit in
+    let accepted = c.in_default in
+    status_told_lem _ _ _ (rw (← buffer-size.ensures, ← admit.ensures.0, accepted.is, c.word.ensures, c.with_status.ensures, c.none.ensures))
 
 pub read_status_spec : {M : Type 1} → statement M
 read_status_spec =

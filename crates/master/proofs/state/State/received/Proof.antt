@@ -6,7 +6,7 @@ use Rattle.master.proofs.state.State.received.Tie as tie
 
 returns : tie.Need-returns
 unfolding received
-returns c = rw (c.with_received.ensures, c.before.received_by.ensures, c.before.before.closed.ensures)
+returns c = rw (c.with_received.ensures, c.received_by.ensures, c.closed.ensures)
 
 pub received_spec : {M : Type 1} → statement M
 received_spec = tie.close (tie.spec (λ c κs. search rules) (λ c κs. search rules) (λ c κs. search rules) returns)

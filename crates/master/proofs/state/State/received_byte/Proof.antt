@@ -9,30 +9,30 @@ use Rattle.master.proofs.state.State.received_byte.Tie as tie
 
 with_byte_requires : tie.Need-with_byte-nine-requires
 with_byte_requires c κs =
-    let a = c.before.before.before.args in
-    byte_count_high a.t.now (length a.bytes.now) a.self c.before.before.before.requires
+    let a = c.args in
+    byte_count_high a.t.now (length a.bytes.now) a.self c.requires
 
 passed_requires : tie.Need-passed-requires
 passed_requires c κs =
-    let a = c.before.before.before.before.before.before.args in
-    let asked = c.before.before.before.before.before.before.requires in
+    let a = c.args in
+    let asked = c.requires in
     byte_count_high a.t.now (length a.bytes.now) a.self asked
 
 returns : tie.Need-returns-then-early
 unfolding received_byte
 returns c =
-    let with_byte = c.before.before.before.before.with_byte-nine in
-    let early = c.before.before.before.early in
-    let if1 = c.before.before.if-early in
-    record { handed = rw (← early.ensures, if1.true, c.answering.ensures, c.before.passed.ensures, with_byte.ensures); kept = rw (← early.ensures, if1.true) }
+    let with_byte = c.with_byte-nine in
+    let early = c.early in
+    let if1 = c.if-early in
+    record { handed = rw (← early.ensures, if1.true, c.answering.ensures, c.passed.ensures, with_byte.ensures); kept = rw (← early.ensures, if1.true) }
 
 returns_2 : tie.Need-returns
 unfolding received_byte
 returns_2 c =
-    let with_byte = c.before.before.before.before.before.before.with_byte-nine in
-    let early = c.before.before.before.before.before.early in
-    let if1 = c.before.before.before.before.if-early in
-    let l = c.before.before.last_byte.ensures in
+    let with_byte = c.with_byte-nine in
+    let early = c.early in
+    let if1 = c.if-early in
+    let l = c.last_byte.ensures in
     record { handed = rw (← early.ensures, if1.false, ← with_byte.ensures) l.handed; kept = rw (← early.ensures, if1.false, ← with_byte.ensures) l.kept }
 
 pub received_byte_spec : {M : Type 1} → statement M

@@ -7,13 +7,13 @@ use Rattle.master.proofs.state.State.select.Tie as tie
 
 returns : tie.Need-returns-in-Refused
 unfolding select_of
-returns c = select_told_lem _ _ _ _ (rw (← c.before.judge_select.ensures, c.in-Refused.is))
+returns c = select_told_lem _ _ _ _ (rw (← c.judge_select.ensures, c.in-Refused.is))
 
 returns_2 : tie.Need-returns
 unfolding select_of
 returns_2 c =
-    let judge-select = c.before.before.before.before.judge_select in
-    select_told_lem _ _ _ _ (rw (← judge-select.ensures, c.before.before.before.in_default.is, c.with_plan.ensures, c.before.asking.ensures))
+    let judge-select = c.judge_select in
+    select_told_lem _ _ _ _ (rw (← judge-select.ensures, c.in_default.is, c.with_plan.ensures, c.asking.ensures))
 
 pub select_spec : {M : Type 1} → statement M
 select_spec =

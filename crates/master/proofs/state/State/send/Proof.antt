@@ -10,16 +10,16 @@ use Rattle.master.proofs.state.State.send.Tie as tie
 
 returns : tie.Need-returns-in-Refused
 unfolding send_of
-returns c = send_told_lem _ _ _ _ _ (rw (← c.before.judge_send.ensures, c.in-Refused.is))
+returns c = send_told_lem _ _ _ _ _ (rw (← c.judge_send.ensures, c.in-Refused.is))
 
 cast_t9 : tie.Need-overflow_cast-size
 cast_t9 c =
-    let a = c.before.before.before.args in
-    record { fits = omega (arith, send_length a.t.now a.self a.size (sym c.before.judge_send.ensures ∙ c.in_default.is)) }
+    let a = c.args in
+    record { fits = omega (arith, send_length a.t.now a.self a.size (sym c.judge_send.ensures ∙ c.in_default.is)) }
 
 returns_2 : tie.Need-returns
 unfolding send_of
-returns_2 c = send_told_lem _ _ _ _ _ (rw (← c.before.before.judge_send.ensures, c.before.in_default.is, c.with_message.ensures))
+returns_2 c = send_told_lem _ _ _ _ _ (rw (← c.judge_send.ensures, c.in_default.is, c.with_message.ensures))
 
 pub send_spec : {M : Type 1} → statement M
 send_spec =

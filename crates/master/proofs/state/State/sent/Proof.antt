@@ -8,16 +8,16 @@ use Rattle.master.proofs.state.State.sent.Tie as tie
 
 closed_requires : tie.Need-closed-requires
 closed_requires c κs =
-    let a = c.before.before.before.before.args in
-    let asked = c.before.before.before.before.requires in
+    let a = c.args in
+    let asked = c.requires in
     open_identifier_lem a.t.now asked.0 a.self.transfer.opened asked.1
 
 returns : tie.Need-returns
 unfolding sent
 returns c =
-    let closed = c.before.before.before.closed in
-    let pending = c.before.before.before.before.sent_pending-cleared in
-    rw (c.with_pending.ensures, c.before.with_message.ensures, c.before.before.sent.ensures, closed.ensures, pending.ensures)
+    let closed = c.closed in
+    let pending = c.sent_pending-cleared in
+    rw (c.with_pending.ensures, c.with_message.ensures, c.sent.ensures, closed.ensures, pending.ensures)
 
 pub sent_spec : {M : Type 1} → statement M
 sent_spec =

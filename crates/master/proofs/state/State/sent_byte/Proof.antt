@@ -11,39 +11,39 @@ use Rattle.master.proofs.state.State.sent_byte.Tie as tie
 
 array_read_if1 : tie.Need-bounds-bytes-transfer
 array_read_if1 c =
-    let a = c.before.before.before.before.args in
-    omega (arith, byte_count_high a.t.now (buffer_size a.t.now) a.self c.before.before.before.before.requires)
+    let a = c.args in
+    omega (arith, byte_count_high a.t.now (buffer_size a.t.now) a.self c.requires)
 
 failed_requires : tie.Need-failed-requires
 failed_requires c κs =
-    let a = c.before.before.before.before.before.args in
-    let asked = c.before.before.before.before.before.requires in
+    let a = c.args in
+    let asked = c.requires in
     byte_identifier a.t.now (buffer_size a.t.now) a.self asked
 
 returns : tie.Need-returns-then-bytes-transfer
 unfolding sent_byte
-returns c = rw (ne_eqb _ _ c.before.before.if-bytes-transfer.true, c.answering.ensures, c.before.failed.ensures)
+returns c = rw (ne_eqb _ _ c.if-bytes-transfer.true, c.answering.ensures, c.failed.ensures)
 
 passed_requires : tie.Need-passed-requires
 passed_requires c κs =
-    let a = c.before.before.before.before.before.before.before.args in
-    let asked = c.before.before.before.before.before.before.before.requires in
+    let a = c.args in
+    let asked = c.requires in
     byte_count_high a.t.now (buffer_size a.t.now) a.self asked
 
 returns_2 : tie.Need-returns-then-early
 unfolding sent_byte
 returns_2 c = rw (
-  eq-eqb _ _ c.before.before.before.before.if-bytes-transfer.false,
-  ← c.before.before.before.early.ensures,
-  c.before.before.if-early.true,
+  eq-eqb _ _ c.if-bytes-transfer.false,
+  ← c.early.ensures,
+  c.if-early.true,
   c.answering-then-early.ensures,
-  c.before.passed.ensures,
+  c.passed.ensures,
 )
 
 sent_requires : tie.Need-sent-requires
 sent_requires c κs =
-    let a = c.before.before.before.before.before.before.before.args in
-    let asked = c.before.before.before.before.before.before.before.requires in (
+    let a = c.args in
+    let asked = c.requires in (
       byte_table a.t.now (buffer_size a.t.now) a.self asked,
       (byte_fits a.t.now (buffer_size a.t.now) a.self
           asked).frame_there_lem,
@@ -53,11 +53,11 @@ sent_requires c κs =
 returns_3 : tie.Need-returns
 unfolding sent_byte
 returns_3 c = rw (
-  eq-eqb _ _ c.before.before.before.before.if-bytes-transfer.false,
-  ← c.before.before.before.early.ensures,
-  c.before.before.if-early.false,
+  eq-eqb _ _ c.if-bytes-transfer.false,
+  ← c.early.ensures,
+  c.if-early.false,
   c.answering-2.ensures,
-  c.before.sent.ensures,
+  c.sent.ensures,
 )
 
 pub sent_byte_spec : {M : Type 1} → statement M

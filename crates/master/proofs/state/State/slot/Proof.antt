@@ -10,43 +10,43 @@ use Rattle.master.proofs.state.State.slot.Tie as tie
 
 abandoned_requires : tie.Need-abandoned-closed-requires
 abandoned_requires c κs =
-    let a = c.before.before.before.args in
-    tick_identifier a.t.now (length a.bytes.now) (length a.lent.now) a.self c.before.before.before.requires
+    let a = c.args in
+    tick_identifier a.t.now (length a.bytes.now) (length a.lent.now) a.self c.requires
 
 slot_opens_requires : tie.Need-slot_opens-opened-requires
 slot_opens_requires c κs =
-    let a = c.before.before.before.before.before.before.before.before.args in
-    let asked = c.before.before.before.before.before.before.before.before.requires in
+    let a = c.args in
+    let asked = c.requires in
     tick_table a.t.now (length a.bytes.now) (length a.lent.now) a.self asked
 
 open_requires : tie.Need-open-requires
 open_requires c κs =
-    let a = c.before.before.before.before.before.before.before.before.before.before.before.args in
-    let asked = c.before.before.before.before.before.before.before.before.before.before.before.requires in
-    let due = c.before.before.before.before.due in
-    let e' = c.before.before.before.in-Entry in
-    let closed = c.before.before.before.before.before.before.before.abandoned-closed.result in
+    let a = c.args in
+    let asked = c.requires in
+    let due = c.due in
+    let e' = c.in-Entry in
+    let closed = c.abandoned-closed.result in
     let f = tick_fits a.t.now (length a.bytes.now) (length a.lent.now) a.self asked in
     let ok = tick_table a.t.now (length a.bytes.now) (length a.lent.now) a.self asked in
     let there = due_there a.t.now ok a.self.plan.requested a.self.plan.current f.schedule_there_lem f.entry_there_lem in (
       ok,
       tick_size a.t.now (length a.bytes.now) (length a.lent.now) a.self asked,
       rw
-          c.before.before.slot_opens-opened.ensures (slot_opens_lem a.t.now ok closed.pending closed.message e'.e
+          c.slot_opens-opened.ensures (slot_opens_lem a.t.now ok closed.pending closed.message e'.e
           (entry_below a.t.now e'.e (rw (← due.ensures, e'.is) at there))).frame_there_lem,
     )
 
 returns : tie.Need-returns-in-None
 unfolding slot slot_at
-returns c = rw (← c.before.due.ensures, c.in-None.is, c.before.before.before.before.abandoned-closed.ensures)
+returns c = rw (← c.due.ensures, c.in-None.is, c.abandoned-closed.ensures)
 
 returns_2 : tie.Need-returns-in-Entry
 unfolding slot slot_at
 returns_2 c =
-    let abandoned = c.before.before.before.before.before.before.before.before.abandoned-closed in
-    let due = c.before.before.before.before.before.due in
-    let e' = c.before.before.before.before.in-Entry in
-    rw (← due.ensures, e'.is, c.«open».ensures, c.before.with_plan.ensures, c.before.before.begun.ensures, c.before.before.before.slot_opens-opened.ensures, abandoned.ensures)
+    let abandoned = c.abandoned-closed in
+    let due = c.due in
+    let e' = c.in-Entry in
+    rw (← due.ensures, e'.is, c.«open».ensures, c.with_plan.ensures, c.begun.ensures, c.slot_opens-opened.ensures, abandoned.ensures)
 
 pub slot_spec : {M : Type 1} → statement M
 slot_spec =

@@ -6,13 +6,12 @@ use Rattle.master.proofs.state.State.source.Tie as tie
 
 returns : tie.Need-returns-then-published
 unfolding source_of
-returns c = rw (← c.before.before.published.ensures, c.before.if-published.true, c.first.ensures)
+returns c = rw (← c.published.ensures, c.if-published.true, c.first.ensures)
 
 returns_2 : tie.Need-returns
 unfolding source_of
 returns_2 c =
-    let d = c in
-    rw (← d.before.before.before.published.ensures, d.before.before.if-published.false, c.last_of.ensures)
+    rw (← c.published.ensures, c.if-published.false, c.last_of.ensures)
 
 pub source_spec : {M : Type 1} → statement M
 source_spec = tie.close (tie.spec (λ c κs. search rules) (λ c κs. search rules) returns (λ c κs. search rules) returns_2)

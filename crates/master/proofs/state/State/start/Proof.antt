@@ -10,18 +10,18 @@ use Rattle.master.proofs.state.State.start.Tie as tie
 returns : tie.Need-returns-in-Refused
 unfolding fresh_of
 returns c =
-    let a = c.before.before.before.before.before.args in
-    let e = sym c.before.before.judge.ensures ∙ c.before.in-Refused.is in
+    let a = c.args in
+    let e = sym c.judge.ensures ∙ c.in-Refused.is in
     start_told a.t.now a.bytes.now _ _ (record { handed = rw (e, c.fresh.ensures); kept = rw e })
 
 returns_2 : tie.Need-returns
 unfolding fresh_of
 returns_2 c =
-    let a = c.before.before.before.before.before.before.before.before.before.args in
-    let judge = c.before.before.before.before.before.before.judge in
-    let enum_told = c.before.before.before.before.before.in_default in
+    let a = c.args in
+    let judge = c.judge in
+    let enum_told = c.in_default in
     let e = sym judge.ensures ∙ enum_told.is in
-    start_told a.t.now a.bytes.now _ _ (record { handed = rw (e, c.fresh-2.ensures); kept = rw (e, c.before.before.before.fill.ensures) (filled_fresh a.t.now a.bytes.now e) })
+    start_told a.t.now a.bytes.now _ _ (record { handed = rw (e, c.fresh-2.ensures); kept = rw (e, c.fill.ensures) (filled_fresh a.t.now a.bytes.now e) })
 
 pub start_spec : {M : Type 1} → statement M
 start_spec =

@@ -9,29 +9,29 @@ use Rattle.master.proofs.state.State.tick.Tie as tie
 
 returns : tie.Need-returns-in-Refused
 unfolding tick_of tick_effect
-returns c = tick_told_lem _ _ _ _ _ (rw (← c.before.judge_tick.ensures, c.in-Refused.is))
+returns c = tick_told_lem _ _ _ _ _ (rw (← c.judge_tick.ensures, c.in-Refused.is))
 
 waited_requires : tie.Need-waited-requires
-waited_requires c κs = sym c.before.waits.ensures ∙ c.if-waits.true
+waited_requires c κs = sym c.waits.ensures ∙ c.if-waits.true
 
 returns_2 : tie.Need-returns-then-waits
 unfolding tick_of tick_effect
 returns_2 c =
-    let judge-tick = c.before.before.before.before.before.before.judge_tick in
-    let enum_told = c.before.before.before.before.before.in_default in
-    tick_told_lem _ _ _ _ _ (rw (← judge-tick.ensures, enum_told.is, ← c.before.before.before.waits.ensures, c.before.before.if-waits.true, c.with_plan.ensures, c.before.waited.ensures))
+    let judge-tick = c.judge_tick in
+    let enum_told = c.in_default in
+    tick_told_lem _ _ _ _ _ (rw (← judge-tick.ensures, enum_told.is, ← c.waits.ensures, c.if-waits.true, c.with_plan.ensures, c.waited.ensures))
 
 slot_requires : tie.Need-slot-requires
 slot_requires c κs =
-    let judge-tick = c.before.before.before.before.judge_tick in
-    (sym judge-tick.ensures ∙ c.before.before.before.in_default.is)
+    let judge-tick = c.judge_tick in
+    (sym judge-tick.ensures ∙ c.in_default.is)
 
 returns_3 : tie.Need-returns
 unfolding tick_of tick_effect
 returns_3 c =
-    let judge-tick = c.before.before.before.before.before.judge_tick in
-    let enum_told = c.before.before.before.before.in_default in
-    tick_told_lem _ _ _ _ _ (rw (← judge-tick.ensures, enum_told.is, ← c.before.before.waits.ensures, c.before.if-waits.false, c.slot.ensures))
+    let judge-tick = c.judge_tick in
+    let enum_told = c.in_default in
+    tick_told_lem _ _ _ _ _ (rw (← judge-tick.ensures, enum_told.is, ← c.waits.ensures, c.if-waits.false, c.slot.ensures))
 
 pub tick_spec : {M : Type 1} → statement M
 tick_spec =

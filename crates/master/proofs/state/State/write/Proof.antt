@@ -13,35 +13,34 @@ use Rattle.master.proofs.state.State.write.Tie as tie
 returns : tie.Need-returns-in-Refused
 unfolding write_of
 returns c =
-    let e = (sym c.before.before.judge_scalar.ensures ∙ c.before.in-Refused.is) in
+    let e = (sym c.judge_scalar.ensures ∙ c.in-Refused.is) in
     write_told_lem _ _ _ _ _ _ (record { handed = rw (e, c.not_written.ensures); kept = rw e })
 
 cast_put_scalar : tie.Need-overflow_cast-v
 cast_put_scalar c =
-    let a = c.before.before.before.before.before.args in
+    let a = c.args in
     record {
       fits = omega (
         arith,
         write_value_below a.t.now (length a.bytes.now) a.self a.s a.v
-            (sym c.before.before.judge_scalar.ensures ∙ c.before.in_default.is),
+            (sym c.judge_scalar.ensures ∙ c.in_default.is),
       );
     }
 
 put_scalar_requires : tie.Need-put_scalar-requires
-put_scalar_requires c κs = write_table _ _ _ _ _ _ (sym c.before.before.judge_scalar.ensures ∙ c.before.in_default.is)
+put_scalar_requires c κs = write_table _ _ _ _ _ _ (sym c.judge_scalar.ensures ∙ c.in_default.is)
 
 marked_requires : tie.Need-marked-requires
 marked_requires c κs =
-    let d = c in
-    write_table _ _ _ _ _ _ (sym d.before.before.before.before.before.judge_scalar.ensures ∙ d.before.before.before.before.in_default.is)
+    write_table _ _ _ _ _ _ (sym c.judge_scalar.ensures ∙ c.in_default.is)
 
 returns_2 : tie.Need-returns
 unfolding write_of
 returns_2 c =
-    let judge-scalar = c.before.before.before.before.before.before.judge_scalar in
-    let enum_told = c.before.before.before.before.before.in_default in
+    let judge-scalar = c.judge_scalar in
+    let enum_told = c.in_default in
     let e = (sym judge-scalar.ensures ∙ enum_told.is) in
-    write_told_lem _ _ _ _ _ _ (record { handed = rw (e, c.marked.ensures); kept = rw (e, c.before.before.before.put_scalar.ensures) })
+    write_told_lem _ _ _ _ _ _ (record { handed = rw (e, c.marked.ensures); kept = rw (e, c.put_scalar.ensures) })
 
 pub write_spec : {M : Type 1} → statement M
 write_spec =

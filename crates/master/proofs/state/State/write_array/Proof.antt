@@ -11,24 +11,23 @@ use Rattle.master.proofs.state.State.write_array.Tie as tie
 returns : tie.Need-returns-in-Refused
 unfolding write_of
 returns c =
-    let e = (sym c.before.before.judge_array.ensures ∙ c.before.in-Refused.is) in
+    let e = (sym c.judge_array.ensures ∙ c.in-Refused.is) in
     write_told_lem _ _ _ _ _ _ (record { handed = rw (e, c.not_written.ensures); kept = rw e })
 
 put_array_requires : tie.Need-put_array-requires
-put_array_requires c κs = write_table _ _ _ _ _ _ (sym c.before.before.judge_array.ensures ∙ c.before.in_default.is)
+put_array_requires c κs = write_table _ _ _ _ _ _ (sym c.judge_array.ensures ∙ c.in_default.is)
 
 marked_requires : tie.Need-marked-requires
 marked_requires c κs =
-    let d = c in
-    write_table _ _ _ _ _ _ (sym d.before.before.before.before.before.judge_array.ensures ∙ d.before.before.before.before.in_default.is)
+    write_table _ _ _ _ _ _ (sym c.judge_array.ensures ∙ c.in_default.is)
 
 returns_2 : tie.Need-returns
 unfolding write_of
 returns_2 c =
-    let judge-array = c.before.before.before.before.before.before.judge_array in
-    let enum_told = c.before.before.before.before.before.in_default in
+    let judge-array = c.judge_array in
+    let enum_told = c.in_default in
     let e = (sym judge-array.ensures ∙ enum_told.is) in
-    write_told_lem _ _ _ _ _ _ (record { handed = rw (e, c.marked.ensures); kept = rw (e, c.before.before.before.put_array.ensures) })
+    write_told_lem _ _ _ _ _ _ (record { handed = rw (e, c.marked.ensures); kept = rw (e, c.put_array.ensures) })
 
 pub write_array_spec : {M : Type 1} → statement M
 write_array_spec =

@@ -11,25 +11,24 @@ use Rattle.master.proofs.state.State.write_row.Tie as tie
 returns : tie.Need-returns-in-Refused
 unfolding row_of
 returns c =
-    let e = (sym c.before.before.judge_row.ensures ∙ c.before.in-Refused.is) in
+    let e = (sym c.judge_row.ensures ∙ c.in-Refused.is) in
     row_told_lem _ _ _ _ _ _ _ (record { handed = rw (e, c.not_written.ensures); kept = rw e })
 
 put_row_requires : tie.Need-put_row-requires
 put_row_requires c κs =
-    let a = c.before.before.before.before.before.before.before.args in
-    let knows = row_knows a.t.now (length a.bytes.now) a.self a.signals.now a.values.now (sym c.before.before.judge_row.ensures ∙ c.before.in_default.is) in
+    let a = c.args in
+    let knows = row_knows a.t.now (length a.bytes.now) a.self a.signals.now a.values.now (sym c.judge_row.ensures ∙ c.in_default.is) in
     (row_table _ _ _ _ _ knows, knows.equal, knows.good)
 
 marked_row_requires : tie.Need-marked_row-requires
 marked_row_requires c κs =
-    let d = c in
-    row_table _ _ _ _ _ (row_knows _ _ _ _ _ (sym d.before.before.before.before.before.judge_row.ensures ∙ d.before.before.before.before.in_default.is))
+    row_table _ _ _ _ _ (row_knows _ _ _ _ _ (sym c.judge_row.ensures ∙ c.in_default.is))
 
 returns_2 : tie.Need-returns
 unfolding row_of
 returns_2 c =
-    let e = (sym c.before.before.before.before.before.before.judge_row.ensures ∙ c.before.before.before.before.before.in_default.is) in
-    row_told_lem _ _ _ _ _ _ _ (record { handed = rw (e, c.marked_row.ensures); kept = rw (e, c.before.before.before.put_row.ensures) })
+    let e = (sym c.judge_row.ensures ∙ c.in_default.is) in
+    row_told_lem _ _ _ _ _ _ _ (record { handed = rw (e, c.marked_row.ensures); kept = rw (e, c.put_row.ensures) })
 
 pub write_row_spec : {M : Type 1} → statement M
 write_row_spec =

@@ -4,7 +4,7 @@ use Rattle.master.proofs.state.Status.after.Statement.{statement}
 use Rattle.master.proofs.state.Status.after.Tie as tie
 
 returns : tie.Need-returns-then-counts
-returns c = rw (c.before.if-counts.true, c.counted.ensures)
+returns c = rw (c.if-counts.true, c.counted.ensures)
 
 returns_2 : tie.Need-returns-else-counts
 returns_2 c = rw c.if-counts.false

@@ -7,11 +7,11 @@ use Rattle.master.proofs.state.Status.counted.Tie as tie
 
 returns : tie.Need-returns-then-success
 unfolding with_counted
-returns c = rw (c.overruns.ensures, c.before.if-success.true, or_false c.before.before.args.self.error, or_true c.before.before.args.self.success)
+returns c = rw (c.overruns.ensures, c.if-success.true, or_false c.args.self.error, or_true c.args.self.success)
 
 returns_2 : tie.Need-returns-else-success
 unfolding with_counted
-returns_2 c = rw (c.overruns-else-success.ensures, c.before.if-success.false, or_true c.before.before.args.self.error, or_false c.before.before.args.self.success)
+returns_2 c = rw (c.overruns-else-success.ensures, c.if-success.false, or_true c.args.self.error, or_false c.args.self.success)
 
 pub counted_spec : {M : Type 1} → statement M
 counted_spec = tie.close (tie.spec (λ c κs. search rules) (λ c κs. search rules) returns returns_2)

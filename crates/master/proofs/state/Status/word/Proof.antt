@@ -6,7 +6,7 @@ use Rattle.master.proofs.state.Status.word.Tie as tie
 
 returns : tie.Need-returns
 unfolding status_word
-returns c = rw (c.before.before.before.digit.ensures.0, c.before.before.digit-2.ensures.0, c.before.digit-3.ensures.0)
+returns c = rw (c.digit.ensures.0, c.digit-2.ensures.0, c.digit-3.ensures.0)
 
 pub word_spec : {M : Type 1} → statement M
 word_spec =

@@ -6,11 +6,11 @@ use Rattle.master.proofs.state.Transfer.count_fits.Tie as tie
 
 returns : tie.Need-returns-then-is_open
 unfolding count_fits
-returns c = rw (← c.before.before.before.is_open.ensures, c.before.before.if-is_open.true, c.length.ensures)
+returns c = rw (← c.is_open.ensures, c.if-is_open.true, c.length.ensures)
 
 returns_2 : tie.Need-returns
 unfolding count_fits
-returns_2 c = rw (← c.before.is_open.ensures, c.if-is_open.false)
+returns_2 c = rw (← c.is_open.ensures, c.if-is_open.false)
 
 pub count_fits_spec : {M : Type 1} → statement M
 count_fits_spec =

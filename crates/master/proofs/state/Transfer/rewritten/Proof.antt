@@ -11,11 +11,11 @@ returns c = rw c.if-self.true
 
 returns_2 : tie.Need-returns-then-touched
 unfolding rewritten
-returns_2 c = rw (← c.before.touched.ensures, c.if-touched.true, or_true c.before.before.before.before.args.self.written)
+returns_2 c = rw (← c.touched.ensures, c.if-touched.true, or_true c.args.self.written)
 
 returns_3 : tie.Need-returns-else-touched
 unfolding rewritten
-returns_3 c = rw (← c.before.touched.ensures, c.if-touched.false, or_false c.before.before.before.before.args.self.written)
+returns_3 c = rw (← c.touched.ensures, c.if-touched.false, or_false c.args.self.written)
 
 pub rewritten_spec : {M : Type 1} → statement M
 rewritten_spec = tie.close (tie.spec returns (λ c κs. search rules) returns_2 returns_3)

@@ -20,16 +20,16 @@ loop_holds c = (omega arith, refl)
 
 loop_again : tie.Need-loop-i-preserved invariant_loop decreases_loop
 loop_again c =
-    let a = c.before.before.before.before.before.before.args in
-    let at = c.before.before.before.loop-i in (
-      omega (arith, c.before.before.loop-i-test.true),
-      at.invariant.1 ∙ rewrites_turn a.t.now a.signals.now at.i c.before.before.loop-i-test.true at.next ∙ rw c.rewritten-next.ensures,
+    let a = c.args in
+    let at = c.loop-i in (
+      omega (arith, c.loop-i-test.true),
+      at.invariant.1 ∙ rewrites_turn a.t.now a.signals.now at.i c.loop-i-test.true at.next ∙ rw c.rewritten-next.ensures,
     )
 
 returns : tie.Need-returns invariant_loop decreases_loop
 returns c =
-    let a = c.before.before.before.before.args in
-    let at = c.before.loop-i in
+    let a = c.args in
+    let at = c.loop-i in
     sym (at.invariant.1 ∙ rewrites_end a.t.now a.signals.now at.i c.loop-i-test.false at.invariant.0 at.next)
 
 pub rewritten_by_spec : {M : Type 1} → statement M

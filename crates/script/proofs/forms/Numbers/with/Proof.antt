@@ -4,7 +4,7 @@ use Rattle.script.proofs.forms.Numbers.with.Statement.{statement}
 use Rattle.script.proofs.forms.Numbers.with.Tie as tie
 
 returns_2 : tie.Need-returns-in-Number
-returns_2 c = rw c.before.in-Number.is c.with_number.ensures
+returns_2 c = rw c.in-Number.is c.with_number.ensures
 
 pub with_spec : {M : Type 1} → statement M
 with_spec =

@@ -11,7 +11,7 @@ returns c = simp (le-leb _ _ c.if-at-ge-MOST.true)
 
 returns_2 : tie.Need-returns
 unfolding with_number
-returns_2 c = simp (lt-leb _ _ c.before.if-at-ge-MOST.false)
+returns_2 c = simp (lt-leb _ _ c.if-at-ge-MOST.false)
 
 pub with_number_spec : {M : Type 1} → statement M
 with_number_spec = tie.close (tie.spec returns (λ c. search rules) (λ c. search rules) (λ c. search rules) returns_2)

@@ -14,38 +14,35 @@ returns c = simp (eq-eqb _ _ c.if-self-eq0.true)
 
 returns_2 : tie.Need-returns-then-self-lt7
 unfolding assembly_fits
-returns_2 c = simp (ne_eqb _ _ c.before.before.if-self-eq0.false, lt-leb _ _ c.if-self-lt7.true)
+returns_2 c = simp (ne_eqb _ _ c.if-self-eq0.false, lt-leb _ _ c.if-self-lt7.true)
 
 returns_3 : tie.Need-returns-then-self-gt-LONGEST
 unfolding assembly_fits
-returns_3 c = simp (ne_eqb _ _ c.before.before.before.before.if-self-eq0.false, le-leb _ _ c.before.before.if-self-lt7.false, lt-leb _ _ c.if-self-gt-LONGEST.true)
+returns_3 c = simp (ne_eqb _ _ c.if-self-eq0.false, le-leb _ _ c.if-self-lt7.false, lt-leb _ _ c.if-self-gt-LONGEST.true)
 
 returns_4 : tie.Need-returns-then-self-ne5
 unfolding assembly_fits
 returns_4 c =
-    let d = c in
-    let m = d.before.before.before.before.before.before.before.before.args.self in
+    let m = c.args.self in
     let parts = ne_eqb m.count (5 + 6 * ((m.count - 5) / 6)) (λ e. omega arith) in
-    simp (ne_eqb _ _ d.before.before.before.before.before.before.if-self-eq0.false, le-leb _ _ d.before.before.before.before.if-self-lt7.false, le-leb _ _ c.before.before.if-self-gt-LONGEST.false, parts)
+    simp (ne_eqb _ _ c.if-self-eq0.false, le-leb _ _ c.if-self-lt7.false, le-leb _ _ c.if-self-gt-LONGEST.false, parts)
 
 returns_5 : tie.Need-returns-then-self
 unfolding assembly_fits
 returns_5 c =
-    let d = c in
-    let m = d.before.before.before.before.before.before.before.before.before.before.args.self in
-    let nad = ne_eqb _ _ d.before.before.before.before.before.before.before.before.if-self-eq0.false in
+    let m = c.args.self in
+    let nad = ne_eqb _ _ c.if-self-eq0.false in
     let parts = eq-eqb m.count (5 + 6 * ((m.count - 5) / 6)) (omega arith) in
-    simp (nad, le-leb _ _ d.before.before.before.before.before.before.if-self-lt7.false, le-leb _ _ d.before.before.before.before.if-self-gt-LONGEST.false, parts, le-ltb _ _ c.if-self.true)
+    simp (nad, le-leb _ _ c.if-self-lt7.false, le-leb _ _ c.if-self-gt-LONGEST.false, parts, le-ltb _ _ c.if-self.true)
 
 returns_6 : tie.Need-returns
 returns_6 c =
-    let d = c in
     fits_by_counter _
-    d.before.before.before.before.before.before.before.before.before.before.if-self-eq0.false
-    d.before.before.before.before.before.before.before.before.if-self-lt7.false
-    d.before.before.before.before.before.before.if-self-gt-LONGEST.false
-    d.before.before.before.before.if-self-ne5.false
-    c.before.before.if-self.false
+    c.if-self-eq0.false
+    c.if-self-lt7.false
+    c.if-self-gt-LONGEST.false
+    c.if-self-ne5.false
+    c.if-self.false
 
 pub fits_spec : {M : Type 1} → statement M
 fits_spec =

@@ -9,32 +9,29 @@ use Rattle.transport.proofs.reassembly.Assembly.next.Statement.{statement}
 use Rattle.transport.proofs.reassembly.Assembly.next.Tie as tie
 
 add_if1 : tie.Need-overflow_add-self
-add_if1 c = omega (arith, counter_below _ c.before.before.before.before.requires.0)
+add_if1 c = omega (arith, counter_below _ c.requires.0)
 
 returns : tie.Need-returns-then-frame-self
-returns c = leaves_plain _ _ _ _ _ (next_broken _ _ _ c.before.if-frame-self.true) c.answering.ensures
+returns c = leaves_plain _ _ _ _ _ (next_broken _ _ _ c.if-frame-self.true) c.answering.ensures
 
 returns_2 : tie.Need-returns-then-buffer-self
-returns_2 c = leaves_plain _ _ _ _ _ (next_short _ _ _ c.before.before.before.if-frame-self.false c.before.if-buffer-self.true) c.refused.ensures
+returns_2 c = leaves_plain _ _ _ _ _ (next_short _ _ _ c.if-frame-self.false c.if-buffer-self.true) c.refused.ensures
 
 deliver_requires : tie.Need-deliver-requires
 deliver_requires c κs =
-    let d = c in
-    let h = due_high d.before.before.before.before.before.before.before.before.before.args.self in
-    let l = due_left d.before.before.before.before.before.before.before.before.before.args.self d.before.before.before.before.before.before.before.before.before.requires.0 in
+    let h = due_high c.args.self in
+    let l = due_left c.args.self c.requires.0 in
     (omega arith, omega arith)
 
 add_reached : tie.Need-overflow_add-self-2
 add_reached c =
-    let d = c in
-    omega (arith, due_left d.before.before.before.before.before.before.before.before.before.before.before.before.before.args.self d.before.before.before.before.before.before.before.before.before.before.before.before.before.requires.0, ((fits_exactly d.before.before.before.before.before.before.before.before.before.before.before.before.before.args.self).0 d.before.before.before.before.before.before.before.before.before.before.before.before.before.requires.0).length_high)
+    omega (arith, due_left c.args.self c.requires.0, ((fits_exactly c.args.self).0 c.requires.0).length_high)
 
 returns_3 : tie.Need-returns
 returns_3 c =
-    let d = c in
-    let a = d.before.before.before.before.before.before.before.before.before.before.before.before.before.before.args in
-    let taken = next_taken _ _ _ d.before.before.before.before.before.before.before.before.before.if-frame-self.false d.before.before.before.before.before.before.before.if-buffer-self.false in
-    leaves_continued a.self a.frame.now a.buffer.now _ _ _ taken d.before.before.before.before.before.before.bytes_due-bytes.ensures c.reached.ensures d.before.before.before.before.deliver.ensures
+    let a = c.args in
+    let taken = next_taken _ _ _ c.if-frame-self.false c.if-buffer-self.false in
+    leaves_continued a.self a.frame.now a.buffer.now _ _ _ taken c.bytes_due-bytes.ensures c.reached.ensures c.deliver.ensures
 
 pub next_spec : {M : Type 1} → statement M
 next_spec =

@@ -7,7 +7,7 @@ use Rattle.transport.proofs.reassembly.Assembly.reached.Tie as tie
 
 returns : tie.Need-returns-then-n-self
 unfolding reached
-returns c = simp (lt-ltb _ _ c.before.if-n-self.true, c.counter_after.ensures)
+returns c = simp (lt-ltb _ _ c.if-n-self.true, c.counter_after.ensures)
 
 returns_2 : tie.Need-returns-else-n-self
 unfolding reached

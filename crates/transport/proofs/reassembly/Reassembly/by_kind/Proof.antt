@@ -13,32 +13,28 @@ use Rattle.transport.proofs.reassembly.Reassembly.by_kind.Tie as tie
 
 returns : tie.Need-returns-in-1-to-6
 returns c =
-    let d = c in
-    let p = d.before.before.before.before.before.before.before.before.requires in
-    let kind = kind_single (frame_pci d.before.before.before.before.before.before.before.before.args.frame.now) (omega arith) (omega arith) in
-    rw (step_kind _ _ _ p.0 p.1 p.2 single kind refl) c.before.before.single.ensures
+    let p = c.requires in
+    let kind = kind_single (frame_pci c.args.frame.now) (omega arith) (omega arith) in
+    rw (step_kind _ _ _ p.0 p.1 p.2 single kind refl) c.single.ensures
 
 returns_2 : tie.Need-returns-in-16-to-31
 returns_2 c =
-    let d = c in
-    let p = d.before.before.before.before.before.before.before.before.requires in
-    let kind = kind_first (frame_pci d.before.before.before.before.before.before.before.before.args.frame.now) (omega arith) (omega arith) in
-    rw (step_kind _ _ _ p.0 p.1 p.2 first kind refl) c.before.before.first.ensures
+    let p = c.requires in
+    let kind = kind_first (frame_pci c.args.frame.now) (omega arith) (omega arith) in
+    rw (step_kind _ _ _ p.0 p.1 p.2 first kind refl) c.first.ensures
 
 returns_3 : tie.Need-returns-in-32-to-47
 returns_3 c =
-    let d = c in
-    let p = d.before.before.before.before.before.before.before.before.requires in
-    let kind = kind_next (frame_pci d.before.before.before.before.before.before.before.before.args.frame.now) (omega arith) (omega arith) in
-    rw (step_next _ _ _ p.0 p.1 p.2 kind) c.before.before.next.ensures
+    let p = c.requires in
+    let kind = kind_next (frame_pci c.args.frame.now) (omega arith) (omega arith) in
+    rw (step_next _ _ _ p.0 p.1 p.2 kind) c.next.ensures
 
 returns_4 : tie.Need-returns-in_default
 returns_4 c =
-    let d = c in
-    let p = d.before.before.before.before.before.requires in
-    let pci = frame_pci d.before.before.before.before.before.args.frame.now in
+    let p = c.requires in
+    let pci = frame_pci c.args.frame.now in
     let none : NoKind pci =
-    elim c.before.in_default.branch [
+    elim c.in_default.branch [
       | in_default-via-then-pci-lt1 w ↦ inl (omega arith)
       | in_default-via-else-pci-lt1+else-pci-lt7+then-pci-lt16 w ↦ inr (inl (omega arith, omega arith))
       | in_default-via-else-pci-lt1+else-pci-lt7+else-pci-lt16+else-pci-lt32+else-pci-lt48 w ↦ inr (inr (omega arith))

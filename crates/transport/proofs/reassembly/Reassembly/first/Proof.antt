@@ -18,11 +18,11 @@ add_length : tie.Need-overflow_add-length
 add_length c = omega (arith, c.shared_slice_known-3-1.given 2)
 
 cast_if2 : tie.Need-overflow_cast-length-else-length-lt7
-cast_if2 c = omega (arith, c.before.shared_slice_known-3-1.given 2)
+cast_if2 c = omega (arith, c.shared_slice_known-3-1.given 2)
 
 returns : tie.Need-returns-then-length-lt7
 returns c =
-    elim c.before.then-length-lt7.branch [
+    elim c.then-length-lt7.branch [
       | then-length-lt7-via-then-length-lt7 w ↦ leaves_plain _ _ _ _ _ (first_low _ _ _ w.if-length-lt7.true) c.answering.ensures
       | then-length-lt7-via-else-length-lt7+then-buffer-length w ↦
           leaves_plain _ _ _ _ _ (first_high _ _ _ w.if-length-lt7.false (ltb-true _ _ w.if-buffer-length.true-raw)) c.answering.ensures
@@ -30,17 +30,16 @@ returns c =
 
 deliver_requires : tie.Need-deliver-requires
 deliver_requires c κs =
-    let a = c.before.before.before.before.before.before.before.args in
-    let high = ltb-false (length a.buffer.now) (first_length a.frame.now) c.before.if-buffer-length.false-raw in
+    let a = c.args in
+    let high = ltb-false (length a.buffer.now) (first_length a.frame.now) c.if-buffer-length.false-raw in
     (search rules, omega arith)
 
 returns_2 : tie.Need-returns
 unfolding first_step
 returns_2 c =
-    let d = c in
-    let a = d.before.before.before.before.before.before.before.before.before.before.before.args in
-    let taken = first_taken a.self a.frame.now a.buffer.now d.before.before.before.before.before.before.if-length-lt7.false (ltb-false _ _ d.before.before.before.before.before.if-buffer-length.false-raw) in
-    leaves_written _ (first_step a.frame.now) _ _ _ taken refl d.before.before.before.deliver.ensures
+    let a = c.args in
+    let taken = first_taken a.self a.frame.now a.buffer.now c.if-length-lt7.false (ltb-false _ _ c.if-buffer-length.false-raw) in
+    leaves_written _ (first_step a.frame.now) _ _ _ taken refl c.deliver.ensures
 
 pub first_spec : {M : Type 1} → statement M
 first_spec =

@@ -11,7 +11,7 @@ returns c = rw c.in-Nothing.is
 
 returns_2 : tie.Need-returns-in-Open
 unfolding fits
-returns_2 c = c.fits.ensures ∙ rw c.before.in-Open.is
+returns_2 c = c.fits.ensures ∙ rw c.in-Open.is
 
 pub fits_spec : {M : Type 1} → statement M
 fits_spec = tie.close (tie.spec (λ c. search rules) (λ c. search rules) (λ c κs. search rules) returns returns_2)

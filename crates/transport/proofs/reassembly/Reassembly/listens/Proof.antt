@@ -11,11 +11,11 @@ returns c = rw c.in-Nothing.is
 
 returns_2 : tie.Need-returns-then-nad-ne0
 unfolding listens
-returns_2 c = simp (c.before.before.in-Open.is, ne_eqb _ _ c.before.if-nad-ne0.true)
+returns_2 c = simp (c.in-Open.is, ne_eqb _ _ c.if-nad-ne0.true)
 
 returns_3 : tie.Need-returns-else-nad-ne0
 unfolding listens
-returns_3 c = simp (c.before.in-Open.is, eq-eqb _ _ c.if-nad-ne0.false)
+returns_3 c = simp (c.in-Open.is, eq-eqb _ _ c.if-nad-ne0.false)
 
 pub listens_spec : {M : Type 1} → statement M
 listens_spec = tie.close (tie.spec (λ c. search rules) (λ c. search rules) returns returns_2 returns_3)

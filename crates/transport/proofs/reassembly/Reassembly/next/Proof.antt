@@ -9,15 +9,15 @@ use Rattle.transport.proofs.reassembly.Reassembly.next.Tie as tie
 
 next_requires : tie.Need-next-requires
 unfolding fits
-next_requires c κs = (rw c.before.in-Open.is at c.before.before.before.before.requires.0, search rules)
+next_requires c κs = (rw c.in-Open.is at c.requires.0, search rules)
 
 returns : tie.Need-returns-in-Nothing
 unfolding next_outcome
-returns c = leaves_plain _ _ _ _ _ (rw c.before.in-Nothing.is) c.answering.ensures
+returns c = leaves_plain _ _ _ _ _ (rw c.in-Nothing.is) c.answering.ensures
 
 returns_2 : tie.Need-returns-in-Open
 unfolding next_outcome
-returns_2 c = rw c.before.before.before.before.in-Open.is c.before.before.next.ensures
+returns_2 c = rw c.in-Open.is c.next.ensures
 
 pub next_spec : {M : Type 1} → statement M
 next_spec =

@@ -7,14 +7,13 @@ use Rattle.transport.proofs.reassembly.Reassembly.single.Statement.{statement}
 use Rattle.transport.proofs.reassembly.Reassembly.single.Tie as tie
 
 returns : tie.Need-returns-then-buffer-bytes
-returns c = leaves_plain _ _ _ _ _ (single_ignored _ _ _ c.before.if-buffer-bytes.true) c.answering.ensures
+returns c = leaves_plain _ _ _ _ _ (single_ignored _ _ _ c.if-buffer-bytes.true) c.answering.ensures
 
 returns_2 : tie.Need-returns
 unfolding single_step
 returns_2 c =
-    let d = c in
-    let a = d.before.before.before.before.before.before.before.before.args in
-    leaves_written _ (single_step a.frame.now) _ _ _ (single_taken a.self a.frame.now a.buffer.now d.before.before.before.before.if-buffer-bytes.false) refl c.before.before.deliver.ensures
+    let a = c.args in
+    leaves_written _ (single_step a.frame.now) _ _ _ (single_taken a.self a.frame.now a.buffer.now c.if-buffer-bytes.false) refl c.deliver.ensures
 
 pub single_spec : {M : Type 1} → statement M
 single_spec =

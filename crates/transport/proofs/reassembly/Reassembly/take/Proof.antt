@@ -9,26 +9,24 @@ use Rattle.transport.proofs.reassembly.Reassembly.take.Statement.{statement}
 use Rattle.transport.proofs.reassembly.Reassembly.take.Tie as tie
 
 returns : tie.Need-returns-then-not-fits
-returns c = take_told_lem _ _ _ _ _ (leaves_plain _ _ _ _ _ (step_unfit _ _ _ (sym c.before.before.fits.ensures ∙ not-true _ c.before.if-not-fits.true-raw)) c.refused.ensures)
+returns c = take_told_lem _ _ _ _ _ (leaves_plain _ _ _ _ _ (step_unfit _ _ _ (sym c.fits.ensures ∙ not-true _ c.if-not-fits.true-raw)) c.refused.ensures)
 
 returns_2 : tie.Need-returns-then-frame-ne8
 returns_2 c =
-    let fit = sym c.before.before.before.fits.ensures ∙ not-false _ c.before.before.if-not-fits.false-raw in
-    take_told_lem _ _ _ _ _ (leaves_plain _ _ _ _ _ (step_length _ _ _ fit c.before.if-frame-ne8.true) c.refused-then-frame-ne8.ensures)
+    let fit = sym c.fits.ensures ∙ not-false _ c.if-not-fits.false-raw in
+    take_told_lem _ _ _ _ _ (leaves_plain _ _ _ _ _ (step_length _ _ _ fit c.if-frame-ne8.true) c.refused-then-frame-ne8.ensures)
 
 returns_3 : tie.Need-returns-then-not-listens
 returns_3 c =
-    let d = c in
-    let fit = sym d.before.before.before.before.before.before.fits.ensures ∙ not-false _ d.before.before.before.before.before.if-not-fits.false-raw in
-    take_told_lem _ _ _ _ _ (leaves_plain _ _ _ _ _ (step_nad _ _ _ fit d.before.before.before.before.if-frame-ne8.false (sym c.before.before.listens.ensures ∙ not-true _ c.before.if-not-listens.true-raw)) c.answering.ensures)
+    let fit = sym c.fits.ensures ∙ not-false _ c.if-not-fits.false-raw in
+    take_told_lem _ _ _ _ _ (leaves_plain _ _ _ _ _ (step_nad _ _ _ fit c.if-frame-ne8.false (sym c.listens.ensures ∙ not-true _ c.if-not-listens.true-raw)) c.answering.ensures)
 
 by_kind_requires : tie.Need-by_kind-requires
 by_kind_requires c κs =
-    let d = c in
-    (sym d.before.before.before.before.before.before.fits.ensures ∙ not-false _ d.before.before.before.before.before.if-not-fits.false-raw, d.before.before.before.before.if-frame-ne8.false, sym c.before.before.listens.ensures ∙ not-false _ c.before.if-not-listens.false-raw)
+    (sym c.fits.ensures ∙ not-false _ c.if-not-fits.false-raw, c.if-frame-ne8.false, sym c.listens.ensures ∙ not-false _ c.if-not-listens.false-raw)
 
 returns_4 : tie.Need-returns
-returns_4 c = take_told_lem _ _ _ _ _ c.before.before.by_kind.ensures
+returns_4 c = take_told_lem _ _ _ _ _ c.by_kind.ensures
 
 pub take_spec : {M : Type 1} → statement M
 take_spec =
