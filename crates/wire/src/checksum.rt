@@ -20,7 +20,7 @@ pub fn of(id: u8, wish: Model, data: &[u8]) -> Answer
     ensures told { told result ≡ first_failing (checksum_tests id (length «data».now)) (checksum_byte id wish «data».now ∷ []) }
 {
     if id < 64 && 1 <= data.len() && data.len() <= 8 {
-        Answer::Byte(255 - sum(start(id, wish), data))
+        Ok(255 - sum(start(id, wish), data))
     } else {
         refused()
     }

@@ -13,7 +13,7 @@ pub fn build(id: u8) -> Answer
     ensures told { told result ≡ first_failing (test 11 (ltb id 64) ∷ []) (protected_byte id ∷ []) }
 {
     if id < 64 {
-        Answer::Byte(protected_in(&PROTECTED, id))
+        Ok(protected_in(&PROTECTED, id))
     } else {
         refused()
     }
@@ -26,7 +26,7 @@ pub fn read(protected: u8) -> Answer
 {
     let id = protected % 64;
     if protected_in(&PROTECTED, id) == protected {
-        Answer::Byte(id)
+        Ok(id)
     } else {
         refused()
     }

@@ -11,15 +11,11 @@ ghost use Rattle.refusal.specs.Numbers.{frame};
 ghost use Rattle.wire.specs.Answers.{refused_with};
 
 // What every call of this crate answers: one byte, or the refusal.
-#[derive(Clone, Copy)]
-pub enum Answer {
-    Byte(u8),
-    Refused(Refusal),
-}
+pub type Answer = Result<u8, Refusal>;
 
 // The refusal of an identifier, a parity or a number of bytes that no frame has.
 pub(crate) fn refused() -> Answer
     ensures { result ≡ refused_with frame }
 {
-    Answer::Refused(Refusal::of(Refusal::FRAME))
+    Err(Refusal::of(Refusal::FRAME))
 }
