@@ -10,13 +10,13 @@ use Rattle.wire.specs.Identifier.{right_parity, read_of}
 use Rattle.wire.specs.Checksum.{checksum_byte}
 use Rattle.wire.proofs.Tests.{whether}
 use Rattle.cluster.specs.Table.{frame_count, frame_length, frame_model}
-use Rattle.cluster.specs.declared.Verdict.TheVariants as table
 use Rattle.cluster.specs.Check.{taken_of}
 use Rattle.buslog.specs.declared.judge.Verdict.{Verdict}
 use Rattle.buslog.specs.declared.judge.Judged.TheVariants as answer
 use Rattle.buslog.specs.declared.judge.Verdict.TheVariants.{Text, Parity, Unknown, Length, Checksum, Ok}
 use Rattle.buslog.specs.Verdict.{frame_with, known_verdict, identifier_verdict, bytes_verdict, line_verdict, answered, judge_of}
 use Rattle.buslog.specs.Pairs.{line_bytes}
+use Rattle.std.specs.Prelude.{Err}
 
 -- ---- a known identifier
 
@@ -106,10 +106,10 @@ module _ (t line : List ℕ) where
   unfolding line_verdict
   by_bytes bytes e = rw e
 
-  pub judge_refused : (r : Refusal) → taken_of t ≡ table.Refused r → answer.Refused r ≡ judge_of t line
+  pub judge_refused : (r : Refusal) → taken_of t ≡ Err r → answer.Refused r ≡ judge_of t line
   unfolding judge_of answered
   judge_refused r e = rw e
 
-  pub judge_accepted : (v : Verdict) → taken_of t ≡ table.Accepted → v ≡ line_verdict t line → answer.Line v ≡ judge_of t line
+  pub judge_accepted : (v : Verdict) → taken_of t ≡ Ok tt → v ≡ line_verdict t line → answer.Line v ≡ judge_of t line
   unfolding judge_of answered
   judge_accepted v e q = rw (e, q)

@@ -2,8 +2,6 @@
 use Rattle.std.proofs.Common.{◌≡◌, ℕ, zero, suc, ◌+◌, ◌-◌, ◌*◌, ◌/◌, ◌%◌, ◌^◌, ◌≤◌, eqb, List, [], ◌∷◌, ◌++◌, length, drop, refl, ap, arith, length-append, le-leb}
 use lib.Seq.{take-length}
 use Rattle.wire.proofs.Tests.{whether}
-use Rattle.cluster.specs.declared.Verdict.{Verdict}
-use Rattle.cluster.specs.declared.Verdict.TheVariants as table
 use Rattle.cluster.specs.Check.{taken_of, TakenTable}
 use Rattle.buslog.specs.declared.report.Written.{Written}
 use Rattle.buslog.specs.declared.judge.Verdict as buslog
@@ -14,12 +12,14 @@ use Rattle.buslog.specs.Row.{digits_of, decimal_of, shown_identifier, word, row_
 use Rattle.buslog.specs.Lines.{whole_lines}
 use Rattle.buslog.specs.Report.{fronted, reportable, reported_lines, reporting, reported_by, reported, Leaves}
 use Rattle.buslog.specs.Parts.{verdict_text}
+use Rattle.std.specs.Prelude.{Err}
+use Rattle.cluster.specs.Check.{Verdict}
 
 module _ (t : List ℕ) (n room : ℕ) (text : List ℕ) where
   put_by : (v : Verdict) → (reported_by v t n room text).report.put ≡ length (reported_by v t n room text).rows
   unfolding reported_by reporting
-  put_by table.Accepted = refl
-  put_by (table.Refused r) = refl
+  put_by (Ok tt) = refl
+  put_by (Err r) = refl
 
   -- the rows that were put are within the buffer
   pub put_within : (before : List ℕ) (r : Written) (after : List ℕ) → Leaves (reported t n room text) before r after → r.put ≤ length after

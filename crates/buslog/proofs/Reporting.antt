@@ -5,7 +5,6 @@ use borrow.Rule.Slice.PartMut.{put_mid}
 use lib.Seq.{append_snoc, take-append_seam}
 use Rattle.scan.specs.Bytes.{index_of, slice}
 use Rattle.refusal.specs.declared.Refusal.{Refusal}
-use Rattle.cluster.specs.declared.Verdict.TheVariants as table
 use Rattle.cluster.specs.Check.{taken_of}
 use Rattle.buslog.specs.declared.judge.Verdict.{Verdict}
 use Rattle.buslog.specs.declared.report.Answer.TheVariants.{Refused}
@@ -18,6 +17,7 @@ use Rattle.buslog.specs.Parts.{so_far}
 use Rattle.buslog.proofs.Fronting.{behind, behind_within, fronted_length}
 use Rattle.buslog.proofs.Rows.{row_number, rows_more, has_room, no_room, characters_more}
 use Rattle.buslog.proofs.Splitting.{line_at, none_at}
+use Rattle.std.specs.Prelude.{Ok, Err}
 
 -- some lines are reported, and what is left is the rest of the text and the rest of the room
 pub record Done (t : List ℕ) (n : ℕ) (text empty : List ℕ) (lines used put : ℕ) (out : List ℕ) : Type 0 where
@@ -127,12 +127,12 @@ module _ (t : List ℕ) (n : ℕ) (text empty : List ℕ) where
 -- ---- the call
 
 module _ (t : List ℕ) (n : ℕ) (text before : List ℕ) where
-  pub refuses : (r : Refusal) → taken_of t ≡ table.Refused r
+  pub refuses : (r : Refusal) → taken_of t ≡ Err r
       → Leaves (reported t n (length before) text) before (record { answer = Refused r; lines = 0; used = 0; put = 0 }) before
   unfolding reported reported_by fronted
   refuses r e = rw e record { handed = refl; left = refl }
 
-  pub accepts : {r : Written} {after : List ℕ} → taken_of t ≡ table.Accepted → Leaves (reporting t n (reported_lines t n (length before) text)) before r after
+  pub accepts : {r : Written} {after : List ℕ} → taken_of t ≡ Ok tt → Leaves (reporting t n (reported_lines t n (length before) text)) before r after
       → Leaves (reported t n (length before) text) before r after
   unfolding reported reported_by
   accepts e l = rw e l

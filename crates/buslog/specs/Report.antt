@@ -1,13 +1,13 @@
 -- Document 01, "The log program": the report of a log, as a whole and in parts.
 use Rattle.std.specs.Prelude.{◌≡◌, ℕ, suc, ◌+◌, ◌-◌, cond, List, [], ◌∷◌, ◌++◌, length, take, drop, nat_le}
-use Rattle.cluster.specs.declared.Verdict as checked
-use Rattle.cluster.specs.declared.Verdict.TheVariants as table
+use Rattle.cluster.specs.Check as checked
 use Rattle.cluster.specs.Check.{taken_of}
 use Rattle.buslog.specs.declared.report.Answer.TheVariants.{Reported, Refused}
 use Rattle.buslog.specs.declared.report.Written.{Written}
 use Rattle.buslog.specs.Verdict.{line_verdict}
 use Rattle.buslog.specs.Row.{row_of, longest_row, header}
 use Rattle.buslog.specs.Lines.{whole_lines, last_line, log_lines}
+use Rattle.std.specs.Prelude.{Ok, Err}
 
 -- the rows of some lines, numbered from n on
 unfoldable pub rows_of : List ℕ → ℕ → List (List ℕ) → List ℕ
@@ -65,8 +65,8 @@ reporting t n ls =
 
 -- refusal 1 with the position, or the whole lines of the text as far as there is room, numbered from n on
 unfoldable pub reported_by : checked.Verdict → List ℕ → ℕ → ℕ → List ℕ → Outcome
-reported_by table.Accepted t n room text = reporting t n (reported_lines t n room text)
-reported_by (table.Refused r) t n room text =
+reported_by (Ok tt) t n room text = reporting t n (reported_lines t n room text)
+reported_by (Err r) t n room text =
     record { report = record { answer = Refused r; lines = 0; used = 0; put = 0 }; rows = [] }
 
 unfoldable pub reported : List ℕ → ℕ → ℕ → List ℕ → Outcome

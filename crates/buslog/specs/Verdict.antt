@@ -4,8 +4,7 @@ use Rattle.wire.specs.Identifier.{right_parity}
 use Rattle.wire.specs.Checksum.{checksum_byte}
 use Rattle.wire.specs.declared.checksum.Model.{Model}
 use Rattle.wire.specs.declared.checksum.Model.TheVariants.{Classic}
-use Rattle.cluster.specs.declared.Verdict.TheVariants as table
-use Rattle.cluster.specs.declared.Verdict as checked
+use Rattle.cluster.specs.Check as checked
 use Rattle.cluster.specs.Check.{taken_of}
 use Rattle.cluster.specs.Lists.{first_from}
 use Rattle.cluster.specs.Table.{frame_count, identifier, frame_length, frame_model}
@@ -14,6 +13,7 @@ use Rattle.buslog.specs.declared.judge.Verdict.TheVariants.{Text, Parity, Unknow
 use Rattle.buslog.specs.declared.judge.Judged.{Judged}
 use Rattle.buslog.specs.declared.judge.Judged.TheVariants as answer
 use Rattle.buslog.specs.Pairs.{line_bytes}
+use Rattle.std.specs.Prelude.{Err}
 
 -- the frame of a table with an identifier; the number of frames where there is none
 unfoldable pub frame_with : List ℕ → ℕ → ℕ
@@ -46,8 +46,8 @@ line_verdict t line = bytes_verdict t (line_bytes line)
 
 -- what the judge answers: refusal 1 with the position, or the verdict
 unfoldable pub answered : checked.Verdict → Verdict → Judged
-answered table.Accepted v = answer.Line v
-answered (table.Refused r) v = answer.Refused r
+answered (Ok tt) v = answer.Line v
+answered (Err r) v = answer.Refused r
 
 unfoldable pub judge_of : List ℕ → List ℕ → Judged
 judge_of t line = answered (taken_of t) (line_verdict t line)

@@ -9,7 +9,8 @@ ghost use Rattle.cluster.specs.Table.{frame_count, signal_count, member_count, e
 ghost use Rattle.cluster.specs.Table.{entry_schedule, entry_kind, entry_target, entry_delay};
 
 use crate::table::{Layout, due, entry_at, follows, whole_records, word};
-use crate::{Verdict, fault, frames, members};
+use crate::{fault, frames, members};
+use refusal::Refusal;
 
 // How many entries there are, in all schedules together.
 pub fn count(t: &[u16]) -> u16
@@ -90,7 +91,7 @@ pub fn next(t: &[u16], e: u16) -> u16
 }
 
 // Checks the entries' records: those that are there in whole, and then one that is cut off.
-pub(crate) fn judge(t: &[u16]) -> Verdict
+pub(crate) fn judge(t: &[u16]) -> Result<(), Refusal>
     requires t_bound { (frame_count t.now ≤ most_frames) × (signal_count t.now ≤ most_signals) × (member_count t.now ≤ most_members) }
     requires t_bound_2 { (entry_count t.now ≤ most_entries) × (placement_count t.now ≤ most_placements) }
     ensures { result ≡ entry_faults t.now }
@@ -116,7 +117,7 @@ pub(crate) fn judge(t: &[u16]) -> Verdict
         let right = right_words(frames::count(t) as usize, lists, schedules, read_due(t, at));
         return fault(at + right);
     }
-    Verdict::Accepted
+    Ok(())
 }
 
 // An entry's record as it was read.

@@ -7,7 +7,8 @@ ghost use Rattle.cluster.specs.Table.{most_frames, most_members, most_placements
 ghost use Rattle.cluster.specs.Table.{member_list, member_frame, list_count};
 
 use crate::table::{Layout, due, follows, member_at, whole_records, word};
-use crate::{Limits, Verdict, fault, frames};
+use crate::{Limits, fault, frames};
+use refusal::Refusal;
 
 // How many members there are, in all lists together.
 pub fn count(t: &[u16]) -> u16
@@ -89,7 +90,7 @@ pub fn of_frame(t: &[u16], f: u16) -> u16
 }
 
 // Checks the members' records, those that are there in whole, and then one that is cut off; the frames in a list so far are marked.
-pub(crate) fn judge(t: &[u16]) -> Verdict
+pub(crate) fn judge(t: &[u16]) -> Result<(), Refusal>
     requires { RecordsBefore t.now × (member_count t.now ≤ most_members) × (placement_count t.now ≤ most_placements) }
     ensures { result ≡ member_faults t.now }
 {
@@ -115,7 +116,7 @@ pub(crate) fn judge(t: &[u16]) -> Verdict
         let at = first + Layout::MEMBER * m;
         return fault(at + right_words(t, &listed, lists, read_due(t, at)));
     }
-    Verdict::Accepted
+    Ok(())
 }
 
 // A member's record as it was read.

@@ -12,7 +12,8 @@ use crate::frames::Room;
 use crate::marks::{are_free, with_bits};
 use crate::signals::Shape;
 use crate::table::{Layout, due, placement_at, word};
-use crate::{Limits, Verdict, fault, frames, signals};
+use crate::{Limits, fault, frames, signals};
+use refusal::Refusal;
 
 // How many placements there are.
 pub fn count(t: &[u16]) -> u16
@@ -77,18 +78,18 @@ pub(crate) fn placed(t: &[u16]) -> usize
 }
 
 // A signal that has no placement is told directly behind the last placement.
-pub(crate) fn unplaced(t: &[u16]) -> Verdict
+pub(crate) fn unplaced(t: &[u16]) -> Result<(), Refusal>
     ensures { result ≡ unplacedOf t.now }
 {
     if placed(t) < signals::count(t) as usize {
         fault(placement_at(t, count(t) as usize))
     } else {
-        Verdict::Accepted
+        Ok(())
     }
 }
 
 // Checks the placements' records; of each frame the bits occupied so far and the signal placed there last are marked.
-pub(crate) fn judge(t: &[u16]) -> Verdict
+pub(crate) fn judge(t: &[u16]) -> Result<(), Refusal>
     requires { (placement_count t.now ≤ most_placements) × RecordsBefore t.now }
     ensures { result ≡ placement_faults t.now }
 {
@@ -113,7 +114,7 @@ pub(crate) fn judge(t: &[u16]) -> Verdict
         frame = f;
         at += Layout::PLACEMENT;
     }
-    Verdict::Accepted
+    Ok(())
 }
 
 // A placement's record as it was read.

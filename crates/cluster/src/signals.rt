@@ -8,7 +8,8 @@ ghost use Rattle.cluster.specs.Table.{most_frames, most_signals, signal_at, fram
 ghost use Rattle.cluster.specs.Table.{signal_kind, signal_width, signal_start, is_array};
 
 use crate::table::{Layout, due, signal_at, whole_records, word};
-use crate::{Verdict, fault};
+use crate::fault;
+use refusal::Refusal;
 
 // How many signals there are.
 pub fn count(t: &[u16]) -> u16
@@ -74,7 +75,7 @@ pub(crate) fn shape_of(t: &[u16], s: usize) -> Shape
 }
 
 // Checks the signals' records: those that are there in whole, and then one that is cut off.
-pub(crate) fn judge(t: &[u16]) -> Verdict
+pub(crate) fn judge(t: &[u16]) -> Result<(), Refusal>
     requires { (frame_count t.now ≤ most_frames) × (signal_count t.now ≤ most_signals) }
     ensures { result ≡ signal_faults t.now }
 {
@@ -94,7 +95,7 @@ pub(crate) fn judge(t: &[u16]) -> Verdict
         let at = first + Layout::SIGNAL * s;
         return fault(at + right_words(read_due(t, at)));
     }
-    Verdict::Accepted
+    Ok(())
 }
 
 // A signal's record as it was read.

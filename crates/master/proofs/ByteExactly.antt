@@ -22,8 +22,8 @@ use Rattle.master.specs.declared.byte.ByteAnswer.TheVariants as byte
 use Rattle.master.specs.Transfers.{format_of, open_length, open_checksum, sends}
 use Rattle.master.proofs.Tests.{never}
 use Rattle.master.proofs.Verdicts.{byte_count, byte_length_high}
-use Rattle.cluster.specs.declared.Verdict.TheVariants as verdict
 use Rattle.master.specs.Byte.{byte_verdict, byte_of, early, sent_byte, checksum_right, accepted, last_byte, received_byte, byte_effect}
+use Rattle.std.specs.Prelude.{Ok}
 
 -- ---- the paper's sentences
 
@@ -175,7 +175,7 @@ pub record ByteSays (t : List ℕ) (s : State) (b : ℕ) (a : ByteAnswer) : Type
   pub response : s.transfer.opened ≡ Response
       → ReceivedSays byte.Response (checksum_byte 61 Classic (take 8 s.transfer.bytes)) s.transfer.count 8 b a
 
-module _ (t : List ℕ) (s : State) (bs : List ℕ) (b : ℕ) (nine : length s.transfer.bytes ≡ 9) (h : byte_verdict t (length bs) s ≡ verdict.Accepted) where
+module _ (t : List ℕ) (s : State) (bs : List ℕ) (b : ℕ) (nine : length s.transfer.bytes ≡ 9) (h : byte_verdict t (length bs) s ≡ Ok tt) where
   effect_exactly : ByteSays t s b (byte_effect t s bs b).given.answer
   unfolding format_of open_checksum accepted
   effect_exactly =

@@ -7,8 +7,6 @@ use native.Mathlib.Omega.{arith}
 use lib.ListN.{length, get_or, take, length-take}
 use Rattle.cluster.specs.Check.{RightTable}
 use Rattle.cluster.specs.Table.{published}
-use Rattle.cluster.specs.declared.Verdict.{Verdict}
-use Rattle.cluster.specs.declared.Verdict.TheVariants.{Accepted, Refused}
 use Rattle.transport.specs.Reassembly.{written}
 use Rattle.transport.proofs.WrittenLaws.{written_length, written_before, written_behind}
 use Rattle.transport.proofs.Tests.{order}
@@ -31,6 +29,8 @@ use Rattle.master.proofs.Cases.{keeping, taken_by, accepted_state}
 use Rattle.master.proofs.Lengths.{data_inside}
 use Rattle.master.proofs.PendingFits.{received_keeps}
 use Rattle.master.proofs.ReadBack.{untouched_data}
+use Rattle.std.specs.Prelude.{Ok, Err}
+use Rattle.cluster.specs.Check.{Verdict}
 
 -- ---- the pending bits
 
@@ -113,5 +113,5 @@ byte_by_copy t s bs cs b e h = rw (e, h) (by_copy (byte_verdict t (length cs) s)
     by_copy : (v : Verdict) →
         (answered {A = Step Took} v (λ r. record { given = no_response s (answer.Refused r); left = bs }) (record { given = sent_byte t s b; left = bs })).given
         ≡ (answered {A = Step Took} v (λ r. record { given = no_response s (answer.Refused r); left = cs }) (record { given = sent_byte t s b; left = cs })).given
-    by_copy Accepted = refl
-    by_copy (Refused r) = refl
+    by_copy (Ok tt) = refl
+    by_copy (Err r) = refl

@@ -9,7 +9,6 @@ use lib.ListN.{length, get_or, take, drop, replicate, length-take, length-drop, 
 use lib.Seq.{get_or-take, get_or-drop, ext_get_or}
 use Rattle.wire.specs.Bits.{Bytes}
 use Rattle.signal.specs.Signal.{bit_at}
-use Rattle.cluster.specs.declared.Verdict.TheVariants.{Accepted}
 use Rattle.cluster.specs.Check.{then, RightTable}
 use Rattle.cluster.specs.Table.{frame_count, frame_length, signal_count, is_array}
 use Rattle.cluster.specs.Places.{occupies}
@@ -38,12 +37,13 @@ use Rattle.master.proofs.Answered.{by_verdict, Writable, writable_signal}
 use Rattle.master.proofs.WriteLaws.{write_accepts, write_state, write_left}
 use Rattle.master.specs.Put.{Value, scalar, array, Put, put, with_value}
 use Rattle.master.specs.Write.{is_bytes, fits_signal}
+use Rattle.std.specs.Prelude.{Ok}
 
 -- ---- reading
 
 -- a read of a signal of the right kind accepts where the call is admitted
-readable : (t : List ℕ) (n : ℕ) (x : State) (s : ℕ) (kind : Bool) → admitted t n x ≡ Accepted → s < signal_count t → is_array t s ≡ kind
-    → read_verdict t n x s kind ≡ Accepted
+readable : (t : List ℕ) (n : ℕ) (x : State) (s : ℕ) (kind : Bool) → admitted t n x ≡ Ok tt → s < signal_count t → is_array t s ≡ kind
+    → read_verdict t n x s kind ≡ Ok tt
 unfolding read_verdict
 readable t n x s true a h k = rw (a, lt-ltb s (signal_count t) h, k)
 readable t n x s false a h k = rw (a, lt-ltb s (signal_count t) h, k)
@@ -58,9 +58,9 @@ record Known (t : List ℕ) (x : State) (bs : List ℕ) (s : ℕ) (kind fits : B
   table_right : RightTable t
   size_right : length bs ≡ buffer_size t
   signal : Writable t s kind fits
-  admits_after : admitted t (length bs) (marked t s x) ≡ Accepted
+  admits_after : admitted t (length bs) (marked t s x) ≡ Ok tt
 
-known : (t : List ℕ) (x : State) (bs : List ℕ) (s : ℕ) (kind fits : Bool) → then (admitted t (length bs) x) (writable t s kind fits) ≡ Accepted
+known : (t : List ℕ) (x : State) (bs : List ℕ) (s : ℕ) (kind fits : Bool) → then (admitted t (length bs) x) (writable t s kind fits) ≡ Ok tt
     → Known t x bs s kind fits
 known t x bs s kind fits a =
     let ad = then_first (admitted t (length bs) x) (writable t s kind fits) a in

@@ -8,7 +8,6 @@ use mathlib.Core.List.{List}
 use native.Mathlib.Omega.{arith}
 use lib.ListN.{length, get_or, replicate}
 use Rattle.refusal.specs.declared.Refusal.{Refusal}
-use Rattle.cluster.specs.declared.Verdict.TheVariants.{Accepted}
 use Rattle.cluster.specs.declared.values.Array.{Array}
 use Rattle.cluster.specs.Check.{RightTable}
 use Rattle.cluster.specs.Table.{signal_count, signal_start, published, placement_count, placement_signal, placement_frame}
@@ -28,6 +27,7 @@ use Rattle.master.specs.Read.{read_verdict, read_scalar_of, array_answer, read_a
 use Rattle.master.specs.Received.{last_of, source_of, scalar_from, array_from}
 use Rattle.master.proofs.Answered.{by_verdict}
 use Rattle.master.proofs.Verdicts.{read_table, read_signal}
+use Rattle.std.specs.Prelude.{Ok}
 
 -- ---- the paper's sentences
 
@@ -97,7 +97,7 @@ module _ (t : List ℕ) (x : State) (bs : List ℕ) (s : ℕ) where
   -- a read of either kind, with how it answers a refusal and a value
   module _ {A B : Type 0} (kind : Bool) (refuse : Refusal → B) (value : A → B) (from : Last → A) where
     abbrev Exactly : B → A → Type 0
-    Exactly b v = (b ≡ value v) ↔ ((read_verdict t (length bs) x s kind ≡ Accepted) × Gives t x.received s (from Never) (λ k. from (Placement k)) v)
+    Exactly b v = (b ≡ value v) ↔ ((read_verdict t (length bs) x s kind ≡ Ok tt) × Gives t x.received s (from Never) (λ k. from (Placement k)) v)
 
     answers : ((r : Refusal) (v : A) → ¬ (refuse r ≡ value v)) → ((u v : A) → value u ≡ value v → u ≡ v) → (v : A)
         → Exactly (answered (read_verdict t (length bs) x s kind) refuse (value (from (source_of t x.received s)))) v
@@ -110,14 +110,14 @@ module _ (t : List ℕ) (x : State) (bs : List ℕ) (s : ℕ) where
 
   -- a read of a scalar answers a value if and only if it is accepted and the value is the one that the paper gives
   pub read_exactly : (v : ℕ) → (read_scalar_of t x bs s ≡ scalar.Value v)
-      ↔ ((read_verdict t (length bs) x s false ≡ Accepted) × Gives t x.received s (signal_start t s) (scalar_at t bs s) v)
+      ↔ ((read_verdict t (length bs) x s false ≡ Ok tt) × Gives t x.received s (signal_start t s) (scalar_at t bs s) v)
   unfolding read_scalar_of scalar_from
   read_exactly = answers false (λ r. scalar.Refused r) (λ v. scalar.Value v) (scalar_from t bs s)
       (λ r v e. let z : ◌≡◌ {A = ℕ} 0 1 = cc in omega arith) (λ u v e. cc)
 
   -- and so does a read of an array
   pub read_array_exactly : (v : Array) → (read_array_of t x bs s ≡ record { answer = array.Bytes v.count; bytes = v.bytes })
-      ↔ ((read_verdict t (length bs) x s true ≡ Accepted) × Gives t x.received s (start_read t s) (array_read t bs s) v)
+      ↔ ((read_verdict t (length bs) x s true ≡ Ok tt) × Gives t x.received s (start_read t s) (array_read t bs s) v)
   unfolding read_array_of array_from
   read_array_exactly = answers true (λ r. record { answer = array.Refused r; bytes = replicate 8 255 }) array_answer (array_from t bs s)
       (λ r v e. let q = ap (λ (z : ReadArray). z.answer) e in let z : ◌≡◌ {A = ℕ} 0 1 = cc in omega arith)

@@ -11,7 +11,6 @@ use Rattle.wire.specs.Bits.{bit}
 use Rattle.wire.specs.Identifier.{p0, p1, protected_byte}
 use Rattle.cluster.specs.Table.{identifier, entry_kind, entry_target, entry_delay}
 use Rattle.cluster.specs.Lists.{members, first_entry, next_entry}
-use Rattle.cluster.specs.declared.Verdict.TheVariants.{Accepted}
 use Rattle.transport.proofs.Tests.{whether, order}
 use Rattle.master.specs.declared.state.Plan.{Plan}
 use Rattle.master.specs.declared.state.Current.{Current}
@@ -39,6 +38,7 @@ use Rattle.master.proofs.PendingLaws.{NonePending, First, first_pending_is, firs
 use Rattle.master.proofs.PendingLength.{abandoned_pending}
 use Rattle.master.proofs.SlotFits.{abandoned_nothing, abandoned_plan}
 use Rattle.master.proofs.Tests.{never}
+use Rattle.std.specs.Prelude.{Ok}
 
 -- ---- the paper's sentences
 
@@ -234,6 +234,6 @@ module _ (t bs m : List ℕ) (s : State) where
       tick_waits
 
   -- an accepted tick, of every state
-  pub tick_exactly : tick_verdict t (length bs) (length m) s ≡ Accepted → TickSays t s (tick_of t bs m s)
+  pub tick_exactly : tick_verdict t (length bs) (length m) s ≡ Ok tt → TickSays t s (tick_of t bs m s)
   unfolding tick_of
   tick_exactly a = rw a effect_exactly

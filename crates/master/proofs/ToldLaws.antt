@@ -8,8 +8,6 @@ use lib.Dec.{ltb, eqb}
 use lib.ListN.{length}
 use Rattle.refusal.specs.declared.Refusal.{Refusal}
 use Rattle.refusal.specs.Answers.{Test, test, first_failing}
-use Rattle.cluster.specs.declared.Verdict.{Verdict}
-use Rattle.cluster.specs.declared.Verdict.TheVariants.{Accepted, Refused}
 use Rattle.cluster.specs.Check.{taken_of, then}
 use Rattle.cluster.specs.Answers.{verdict_told, behind_table}
 use Rattle.cluster.specs.Table.{frame_count, signal_count, is_array, member_count, schedule_count}
@@ -52,13 +50,15 @@ use Rattle.master.specs.Step.{verdict_of, told_of}
 use Rattle.master.specs.Told.{told_as, size_test, state_test, tests_of, values_of, call_told, fresh_call_told, admit_told}
 use Rattle.master.proofs.Answered.{then_accepted}
 use Rattle.master.proofs.StepLaws.{verdict_told_lem}
+use Rattle.std.specs.Prelude.{Ok, Err}
+use Rattle.cluster.specs.Check.{Verdict}
 
 module _ (vs : List ℕ) where
   -- a verdict and some tests tell the same
   abbrev Alike : Verdict → List Test → Type 0
   Alike v tests = told_as v vs ≡ first_failing tests vs
 
-  done : Alike Accepted []
+  done : Alike (Ok tt) []
   unfolding first_failing
   done = refl
 
@@ -68,8 +68,8 @@ module _ (vs : List ℕ) where
   tested false n v tests e = refl
 
   behind_table_lem : (w v : Verdict) (tests : List Test) → Alike v tests → told_as (then w v) vs ≡ behind_table w (first_failing tests vs)
-  behind_table_lem Accepted v tests e = e
-  behind_table_lem (Refused r) v tests e = refl
+  behind_table_lem (Ok tt) v tests e = e
+  behind_table_lem (Err r) v tests e = refl
 
 -- tests 1, 2 and 3 and the rest, one after the other
 admitted_then : (t : List ℕ) (n : ℕ) (s : State) (v : Verdict)
@@ -77,11 +77,11 @@ admitted_then : (t : List ℕ) (n : ℕ) (s : State) (v : Verdict)
 unfolding admitted
 admitted_then t n s v = by (taken_of t) (eqb n (buffer_size t)) (state_fits t s)
   where
-    by : (w : Verdict) (a b : Bool) → then (then w (unless a 2 (unless b 3 Accepted))) v ≡ then w (unless a 2 (unless b 3 v))
-    by Accepted true true = refl
-    by Accepted true false = refl
-    by Accepted false b = refl
-    by (Refused r) a b = refl
+    by : (w : Verdict) (a b : Bool) → then (then w (unless a 2 (unless b 3 (Ok tt)))) v ≡ then w (unless a 2 (unless b 3 v))
+    by (Ok tt) true true = refl
+    by (Ok tt) true false = refl
+    by (Ok tt) false b = refl
+    by (Err r) a b = refl
 
 module _ (t : List ℕ) (s : State) (vs : List ℕ) where
   -- of a call that is lent the frame bytes
@@ -103,7 +103,7 @@ module _ (t : List ℕ) (s : State) (vs : List ℕ) where
 
   -- and of one with no test of its own
   asked_told : told_as (admitted t (buffer_size t) s) vs ≡ behind_table (taken_of t) (first_failing (state_test t s ∷ []) vs)
-  asked_told = ap (λ (w : Verdict). told_as w vs) (sym (then_accepted (admitted t (buffer_size t) s))) ∙ unlent_told Accepted [] (done vs)
+  asked_told = ap (λ (w : Verdict). told_as w vs) (sym (then_accepted (admitted t (buffer_size t) s))) ∙ unlent_told (Ok tt) [] (done vs)
 
 -- the tests of every call
 tests_told : (t : List ℕ) (x : Held) (c : Call) (vs : List ℕ) → told_as (verdict_of t x c) vs ≡ behind_table (taken_of t) (first_failing (tests_of t x c) vs)
@@ -146,8 +146,8 @@ fresh_told_lem t bs =
     refuse r = record { given = record { state = fresh; answer = start.Refused r }; left = bs }
 
     by : (v : Verdict) → fresh_told (answered v refuse (record { given = record { state = fresh; answer = start.Fresh }; left = fresh_bytes t })).given.answer ≡ told_as v []
-    by Accepted = refl
-    by (Refused r) = refl
+    by (Ok tt) = refl
+    by (Err r) = refl
 
 -- and the tests at the head of the calls
 pub admit_told_lem : (t : List ℕ) (n : ℕ) (s : State) → verdict_told (admitted t n s) ≡ admit_told t n s
@@ -157,8 +157,8 @@ admit_told_lem t n s =
     ∙ behind_table_lem [] (taken_of t) _ _ (tested [] (eqb n (8 * frame_count t)) 2 _ _ (tested [] (state_fits t s) 3 _ _ (done [])))
   where
     by : (v : Verdict) → verdict_told v ≡ told_as v []
-    by Accepted = refl
-    by (Refused r) = refl
+    by (Ok tt) = refl
+    by (Err r) = refl
 
 -- ---- what the contract of each call says beside the answer, from the answer alone
 

@@ -4,7 +4,6 @@ use mathlib.Core.Path.{◌≡◌, refl}
 use mathlib.Core.Bool.{◌||◌}
 use mathlib.Core.List.{List}
 use lib.ListN.{length}
-use Rattle.cluster.specs.declared.Verdict.TheVariants.{Accepted}
 use Rattle.master.specs.declared.state.State.{State}
 use Rattle.master.specs.declared.write.WriteAnswer.TheVariants.{Written}
 use Rattle.master.specs.declared.write.Wrote.{Wrote}
@@ -12,6 +11,7 @@ use Rattle.master.specs.Admit.{Step}
 use Rattle.master.specs.Write.{marked_from, touches_open, rewritten, marked, write_verdict, write_of}
 use Rattle.master.proofs.Answered.{by_verdict}
 use Rattle.master.specs.Put.{Put, with_value}
+use Rattle.std.specs.Prelude.{Ok}
 
 -- what a write, refused or not, leaves of the state
 pub record Beside (x y : State) : Type 0 where
@@ -39,9 +39,9 @@ marked_marks t s x y e = record {
 
 module _ (t : List ℕ) (x : State) (bs : List ℕ) (w : Put) where
   -- an accepted write is one that its verdict accepts
-  pub write_accepts : (write_of t x bs w).given.answer ≡ Written → write_verdict t (length bs) x w ≡ Accepted
+  pub write_accepts : (write_of t x bs w).given.answer ≡ Written → write_verdict t (length bs) x w ≡ Ok tt
   unfolding write_of
-  write_accepts = by_verdict (λ (z : Step Wrote). z.given.answer ≡ Written → write_verdict t (length bs) x w ≡ Accepted)
+  write_accepts = by_verdict (λ (z : Step Wrote). z.given.answer ≡ Written → write_verdict t (length bs) x w ≡ Ok tt)
       (write_verdict t (length bs) x w) _ _
       (λ r e k. cc) (λ a k. a)
 

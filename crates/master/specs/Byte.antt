@@ -1,8 +1,6 @@
 -- Document 01, "Byte in".
 use Rattle.std.specs.Prelude.{ℕ, ◌+◌, ◌*◌, Bool, true, cond, List, ltb, eqb, length, get_or, set, take, replicate}
 use Rattle.refusal.specs.Numbers as number
-use Rattle.cluster.specs.declared.Verdict.{Verdict}
-use Rattle.cluster.specs.declared.Verdict.TheVariants as verdict
 use Rattle.cluster.specs.Check.{then}
 use Rattle.transport.specs.Reassembly as lent
 use Rattle.master.specs.declared.state.Opened.{Opened}
@@ -16,6 +14,8 @@ use Rattle.master.specs.Admit.{unless, admitted, answered, Step}
 use Rattle.master.specs.Transfers.{is_open, open_length, open_checksum, sends}
 use Rattle.master.specs.State.{with_transfer}
 use Rattle.master.specs.Closing.{failed, sent, received}
+use Rattle.std.specs.Prelude.{Ok}
+use Rattle.cluster.specs.Check.{Verdict}
 
 -- an answer that brings no response bytes, which are 255 then
 abbrev pub no_response : State → ByteAnswer → Took
@@ -90,7 +90,7 @@ byte_effect t s bs b =
 unfoldable pub byte_verdict : List ℕ → ℕ → State → Verdict
 byte_verdict t size s =
     then (admitted t size s)
-    (unless (is_open s.transfer.opened) number.no_transfer verdict.Accepted)
+    (unless (is_open s.transfer.opened) number.no_transfer (Ok tt))
 
 -- what byte in hands back, and the frame bytes it leaves
 unfoldable pub byte_of : List ℕ → State → List ℕ → ℕ → Step Took

@@ -1,8 +1,6 @@
 -- Document 01, "Diagnostic messages": the message being sent, from send to its last frame.
 use Rattle.std.specs.Prelude.{ℕ, ◌+◌, cond, not, List, ltb}
 use Rattle.refusal.specs.Numbers as number
-use Rattle.cluster.specs.declared.Verdict.{Verdict}
-use Rattle.cluster.specs.declared.Verdict.TheVariants as verdict
 use Rattle.cluster.specs.Check.{then}
 use Rattle.transport.specs.Cutting.{is_length, message_frames}
 use Rattle.master.specs.declared.state.Sending as state
@@ -18,6 +16,8 @@ use Rattle.master.specs.declared.send.MessageAnswer.TheVariants as tells
 use Rattle.master.specs.State.{with_message}
 use Rattle.master.specs.Fits.{is_sending}
 use Rattle.master.specs.Admit.{unless, admitted, answered, buffer_size}
+use Rattle.std.specs.Prelude.{Ok}
+use Rattle.cluster.specs.Check.{Verdict}
 
 -- the message at one of its frames, or completed behind the last of them
 abbrev pub sending_at : state.Sending → ℕ → ℕ → Message
@@ -50,7 +50,7 @@ send_verdict t s n =
     then (admitted t (buffer_size t) s)
     (unless (is_length n) number.message_length
     (unless (not (is_sending s.message)) number.sending
-    verdict.Accepted))
+    (Ok tt)))
 
 -- what send hands back: "Send takes any NAD and the length."
 unfoldable pub send_of : List ℕ → State → ℕ → ℕ → Sent

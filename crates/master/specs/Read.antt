@@ -2,8 +2,6 @@
 use Rattle.std.specs.Prelude.{ℕ, Bool, true, false, List, ltb, length, replicate}
 use Rattle.std.specs.Bool.{beq}
 use Rattle.refusal.specs.Numbers as number
-use Rattle.cluster.specs.declared.Verdict.{Verdict}
-use Rattle.cluster.specs.declared.Verdict.TheVariants as verdict
 use Rattle.cluster.specs.Check.{then}
 use Rattle.cluster.specs.Table.{signal_count, is_array}
 use Rattle.cluster.specs.declared.values.Array.{Array}
@@ -14,6 +12,8 @@ use Rattle.master.specs.declared.read.ArrayAnswer.TheVariants as array
 use Rattle.master.specs.declared.read.ReadArray.{ReadArray}
 use Rattle.master.specs.Admit.{unless, admitted, answered}
 use Rattle.master.specs.Received.{source_of, scalar_from, array_from}
+use Rattle.std.specs.Prelude.{Ok}
+use Rattle.cluster.specs.Check.{Verdict}
 
 -- refusals of a read: 1, 2, 3, 4 "no such signal", 6 "scalar call on an array or the reverse"
 unfoldable pub read_verdict : List ℕ → ℕ → State → ℕ → Bool → Verdict
@@ -21,7 +21,7 @@ read_verdict t size x s array =
     then (admitted t size x)
     (unless (ltb s (signal_count t)) number.unknown
     (unless (beq (is_array t s) array) number.kind
-    verdict.Accepted))
+    (Ok tt)))
 
 -- what a read of a scalar answers
 unfoldable pub read_scalar_of : List ℕ → State → List ℕ → ℕ → ReadAnswer

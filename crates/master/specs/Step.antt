@@ -3,7 +3,6 @@
 use Rattle.std.specs.Prelude.{ℕ, true, false, List, length, replicate}
 use Rattle.refusal.specs.declared.Refusal.{Refusal}
 use Rattle.refusal.specs.Answers.{Told}
-use Rattle.cluster.specs.declared.Verdict.{Verdict}
 use Rattle.master.specs.declared.state.Message.TheVariants.{Sending}
 use Rattle.master.specs.declared.write.WriteAnswer.TheVariants as write
 use Rattle.master.specs.declared.read.ReadAnswer.TheVariants as read
@@ -31,6 +30,7 @@ use Rattle.master.specs.Calls as call
 use Rattle.master.specs.Calls.{Call, Answer}
 use Rattle.master.specs.Run.{Held, held}
 use Rattle.master.specs.Put.{with_value}
+use Rattle.cluster.specs.Check.{Verdict}
 
 -- the verdict on a call
 unfoldable pub verdict_of : List ℕ → Held → Call → Verdict

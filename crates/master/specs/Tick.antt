@@ -1,8 +1,6 @@
 -- Document 01, "Tick".
 use Rattle.std.specs.Prelude.{ℕ, Bool, false, cond, List, [], ◌∷◌, ltb, eqb, length, get_or}
 use Rattle.refusal.specs.Numbers as number
-use Rattle.cluster.specs.declared.Verdict.{Verdict}
-use Rattle.cluster.specs.declared.Verdict.TheVariants as verdict
 use Rattle.cluster.specs.Check.{then}
 use Rattle.cluster.specs.Table.{entry_kind, entry_target}
 use Rattle.cluster.specs.Lists.{members}
@@ -20,6 +18,8 @@ use Rattle.master.specs.Transfers.{is_open, open_protected, opening}
 use Rattle.master.specs.Plan.{waits, waited, entry_due, begun}
 use Rattle.master.specs.State.{with_plan, with_transfer}
 use Rattle.master.specs.Closing.{failed}
+use Rattle.std.specs.Prelude.{Ok}
+use Rattle.cluster.specs.Check.{Verdict}
 
 -- "the first pending member, or is silent"
 unfoldable pub first_pending : List Bool → List ℕ → Opened
@@ -66,7 +66,7 @@ tick_effect t bs m s =
 unfoldable pub tick_verdict : List ℕ → ℕ → ℕ → State → Verdict
 tick_verdict t size lent s =
     then (admitted t size s)
-    (unless (lent_fits s.message lent) number.state verdict.Accepted)
+    (unless (lent_fits s.message lent) number.state (Ok tt))
 
 -- what tick hands back
 unfoldable pub tick_of : List ℕ → List ℕ → List ℕ → State → Ticked

@@ -3,8 +3,6 @@ use Rattle.std.specs.Prelude.{ℕ, suc, Bool, true, false, ◌||◌, List, [], �
 use Rattle.std.specs.Bool.{beq}
 use Rattle.refusal.specs.declared.Refusal.{Refusal}
 use Rattle.refusal.specs.Numbers as number
-use Rattle.cluster.specs.declared.Verdict.{Verdict}
-use Rattle.cluster.specs.declared.Verdict.TheVariants as verdict
 use Rattle.cluster.specs.Check.{then}
 use Rattle.cluster.specs.Table.{signal_count, is_array}
 use Rattle.cluster.specs.Values.{touches, signal_published, value_fits, array_fits}
@@ -17,6 +15,8 @@ use Rattle.master.specs.declared.write.Wrote.{Wrote}
 use Rattle.master.specs.State.{with_pending, with_transfer}
 use Rattle.master.specs.Admit.{unless, admitted, answered, Step}
 use Rattle.master.specs.Put.{Value, scalar, array, Put, with_value}
+use Rattle.std.specs.Prelude.{Ok}
+use Rattle.cluster.specs.Check.{Verdict}
 
 -- it is a write of an array
 abbrev pub is_bytes : Value → Bool
@@ -36,7 +36,7 @@ writable t s bytes fits =
     (unless (signal_published t s) number.not_published
     (unless (beq (is_array t s) bytes) number.kind
     (unless fits number.value
-    verdict.Accepted)))
+    (Ok tt))))
 
 -- the pending bits from frame f on, with those of the frames that a signal touches set
 unfoldable pub marked_from : List ℕ → ℕ → ℕ → List Bool → List Bool

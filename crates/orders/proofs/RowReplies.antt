@@ -6,8 +6,6 @@ use mathlib.Core.List.{List, [], ◌∷◌}
 use lib.Dec.{ltb, eqb}
 use lib.ListN.{length}
 use Rattle.refusal.specs.Numbers.{refused_at}
-use Rattle.cluster.specs.declared.Verdict.{Verdict}
-use Rattle.cluster.specs.declared.Verdict.TheVariants as verdict
 use Rattle.cluster.specs.Check.{then}
 use Rattle.cluster.specs.Table.{signal_count, is_array}
 use Rattle.cluster.specs.Values.{signal_published, value_fits, array_fits}
@@ -25,6 +23,8 @@ use Rattle.master.specs.Replies.{test, write_number, put_number}
 use Rattle.orders.specs.Orders.{row}
 use Rattle.orders.specs.Run.{order_answer}
 use Rattle.orders.specs.Replies.{pairs_reply, row_reply}
+use Rattle.std.specs.Prelude.{Ok, Err}
+use Rattle.cluster.specs.Check.{Verdict}
 
 -- a verdict as the answer of a write
 abbrev reply_to : Verdict → WriteAnswer
@@ -32,7 +32,7 @@ reply_to v = answered v Refused Written
 
 -- the verdict on a pair, and then what the later ones answer
 pair_reply : (i : ℕ) (a b c d : Bool) (v : Verdict) (x : WriteAnswer) → reply_to v ≡ x
-    → reply_to (then (at_place i (unless a 4 (unless b 5 (unless c 6 (unless d 7 verdict.Accepted))))) v)
+    → reply_to (then (at_place i (unless a 4 (unless b 5 (unless c 6 (unless d 7 (Ok tt)))))) v)
     ≡ cond (eqb (test a 4 (test b 5 (test c 6 (test d 7 0)))) 0) x (Refused (refused_at (test a 4 (test b 5 (test c 6 (test d 7 0)))) i))
 pair_reply i true true true true v x e = e
 pair_reply i true true true false v x e = refl
@@ -61,8 +61,8 @@ length_reply false v x e = refl
 -- a row answers its verdict
 answers_verdict : (v : Verdict) (x : State) (bs : List ℕ) (go : Step Wrote) → go.given.answer ≡ Written
     → (answered v (λ r. record { given = refused_write x r; left = bs }) go).given.answer ≡ reply_to v
-answers_verdict verdict.Accepted x bs go e = e
-answers_verdict (verdict.Refused r) x bs go e = refl
+answers_verdict (Ok tt) x bs go e = e
+answers_verdict (Err r) x bs go e = refl
 
 row_verdict_lem : (t : List ℕ) (x : Held) → Admitted t x → (ss vs : List ℕ) → reply_to (row_verdict t (length x.bytes) x.state ss vs) ≡ row_reply t ss vs
 unfolding row_verdict row_reply

@@ -4,7 +4,7 @@ use Rattle.wire.specs.Answers.{told}
 use Rattle.refusal.specs.Answers.{value_told}
 use Rattle.wire.specs.Checksum.{checksum_of}
 use Rattle.wire.specs.Identifier.{protected_of}
-use Rattle.wire.specs.declared.Answer.{Answer}
+use Rattle.wire.specs.Answers.{Answer}
 use Rattle.wire.specs.declared.checksum.Model.{Model}
 use Rattle.wire.specs.declared.checksum.Model.TheVariants.{Classic, Enhanced}
 use Rattle.signal.specs.Signal.{put_scalar}

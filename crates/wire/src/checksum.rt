@@ -5,7 +5,8 @@ ghost use Rattle.refusal.specs.Answers.{first_failing};
 ghost use Rattle.wire.specs.Checksum.{with_carry, sum, covered, model_of, checksum_byte, checksum_of, checksum_tests};
 
 use crate::identifier::protected_byte;
-use crate::{Answer, refused};
+use crate::refused;
+use refusal::Refusal;
 
 // Which bytes a checksum covers: classic the data alone, enhanced the protected identifier too.
 #[derive(Clone, Copy)]
@@ -15,7 +16,7 @@ pub enum Model {
 }
 
 // The checksum of 1 to 8 data bytes under an identifier; 60 to 63 use classic whatever is wished.
-pub fn of(id: u8, wish: Model, data: &[u8]) -> Answer
+pub fn of(id: u8, wish: Model, data: &[u8]) -> Result<u8, Refusal>
     ensures value { result ≡ checksum_of id wish «data».now }
     ensures told { told result ≡ first_failing (checksum_tests id (length «data».now)) (checksum_byte id wish «data».now ∷ []) }
 {

@@ -5,10 +5,11 @@ ghost use Rattle.refusal.specs.Answers.{test, first_failing};
 ghost use Rattle.wire.specs.Identifier.{protected_byte, protected_of, right_parity, read_of};
 ghost use Rattle.wire.specs.Parts.{Listed};
 
-use crate::{Answer, refused};
+use crate::refused;
+use refusal::Refusal;
 
 // The protected identifier of an identifier below 64.
-pub fn build(id: u8) -> Answer
+pub fn build(id: u8) -> Result<u8, Refusal>
     ensures value { result ≡ protected_of id }
     ensures told { told result ≡ first_failing (test 11 (ltb id 64) ∷ []) (protected_byte id ∷ []) }
 {
@@ -20,7 +21,7 @@ pub fn build(id: u8) -> Answer
 }
 
 // The identifier of a protected identifier with right parity.
-pub fn read(protected: u8) -> Answer
+pub fn read(protected: u8) -> Result<u8, Refusal>
     ensures value { result ≡ read_of protected }
     ensures told { told result ≡ first_failing (test 11 (right_parity protected) ∷ []) (protected % 64 ∷ []) }
 {

@@ -7,7 +7,6 @@ use native.Mathlib.Omega.{arith}
 use lib.ListN.{length, replicate}
 use Rattle.refusal.specs.declared.Refusal.{Refusal}
 use Rattle.refusal.specs.Numbers as number
-use Rattle.cluster.specs.declared.Verdict.TheVariants as verdict
 use Rattle.cluster.specs.Check.{TakenTable, RightTable}
 use Rattle.cluster.specs.declared.values.Array.{Array}
 use Rattle.transport.proofs.Tests.{whether}
@@ -66,9 +65,10 @@ use Rattle.master.specs.Write.{writable, marked, write_verdict, write_of}
 use Rattle.cluster.proofs.TakenLaws.{taken_right}
 use Rattle.master.specs.Put.{Put}
 use Rattle.master.specs.Write.{is_bytes, fits_signal}
+use Rattle.std.specs.Prelude.{Ok, Err}
 
 -- an accepted call is not refused
-refused_never : {A : Type 0} (q : Refusal) → verdict.Accepted ≡ verdict.Refused q → A
+refused_never : {A : Type 0} (q : Refusal) → Ok tt ≡ Err q → A
 refused_never q e = let z : ◌≡◌ {A = ℕ} 0 1 = cc in absurd (omega arith)
 
 module _ (t : List ℕ) (is-taken : TakenTable t) (h : Seq Scheduled) (x : Held) (is : Agrees t h x) where
@@ -79,10 +79,10 @@ module _ (t : List ℕ) (is-taken : TakenTable t) (h : Seq Scheduled) (x : Held)
   s = x.state
 
   -- the call is admitted, with the frame bytes and without them
-  lent_admitted : admitted t (length x.bytes) s ≡ verdict.Accepted
+  lent_admitted : admitted t (length x.bytes) s ≡ Ok tt
   lent_admitted = admits t (length x.bytes) s is-taken is.frames.size is.fits
 
-  own_admitted : admitted t (buffer_size t) s ≡ verdict.Accepted
+  own_admitted : admitted t (buffer_size t) s ≡ Ok tt
   own_admitted = admits t (buffer_size t) s is-taken refl is.fits
 
   -- a call that counts for nothing
@@ -106,13 +106,13 @@ module _ (t : List ℕ) (is-taken : TakenTable t) (h : Seq Scheduled) (x : Held)
       let inner : write_verdict t (length x.bytes) s w ≡ writable t r (is_bytes v) (fits_signal t r v) = rw lent_admitted in
       let number_is : by_number n ≡ write_verdict t (length x.bytes) s w = sym (put_verdict_lem t r v) ∙ sym inner in
       by_verdict (λ (z : Step Wrote). Stepped t h (call.write w) z.given.answer (held z.given.state z.left)) (write_verdict t (length x.bytes) s w) _ _
-      (λ q e. step_nothing (call.write w) (write.Refused q) refl (reply_is n (λ i. write.Refused i) write.Written (verdict.Refused q) (number_is ∙ e)))
+      (λ q e. step_nothing (call.write w) (write.Refused q) refl (reply_is n (λ i. write.Refused i) write.Written (Err q) (number_is ∙ e)))
       (λ a. let k = writable_signal t r (is_bytes v) (fits_signal t r v) (sym inner ∙ a) in
       record {
         agrees =
             agrees_wrote t ok h x is (schedule t h (call.write w ⇒ write.Written)) r v refl k.below
             (fits_all t (marked t r s) (marked_fits t s (fits_clauses t s is.fits) ok r k.below k.is_published));
-        replies = reply_is n (λ i. write.Refused i) write.Written verdict.Accepted (number_is ∙ a);
+        replies = reply_is n (λ i. write.Refused i) write.Written (Ok tt) (number_is ∙ a);
         lawful = λ e q p k. never q;
       })
 
@@ -168,10 +168,10 @@ module _ (t : List ℕ) (is-taken : TakenTable t) (h : Seq Scheduled) (x : Held)
       let number_is : by_number (select_number t n) ≡ select_verdict t s n = sym (select_verdict_lem t n) ∙ rw own_admitted in
       by_verdict (λ (z : Chosen). Stepped t h (call.select n) z.answer (held z.state x.bytes)) (select_verdict t s n) _ _
       (λ q e. step_nothing (call.select n) (select.Refused q) refl
-      (reply_is (select_number t n) (λ i. select.Refused i) select.Selected (verdict.Refused q) (number_is ∙ e)))
+      (reply_is (select_number t n) (λ i. select.Refused i) select.Selected (Err q) (number_is ∙ e)))
       (λ a. record {
         agrees = agrees_selected t h x is (schedule t h (call.select n ⇒ select.Selected)) n refl (rw a at keeps);
-        replies = reply_is (select_number t n) (λ i. select.Refused i) select.Selected verdict.Accepted (number_is ∙ a);
+        replies = reply_is (select_number t n) (λ i. select.Refused i) select.Selected (Ok tt) (number_is ∙ a);
         lawful = λ e q p k. never q;
       })
 
@@ -194,10 +194,10 @@ module _ (t : List ℕ) (is-taken : TakenTable t) (h : Seq Scheduled) (x : Held)
       let number_is : by_number (send_number (message_after t h) n) ≡ send_verdict t s n = sym (send_verdict_lem (message_after t h) n) ∙ rw (own_admitted, is.message_is) in
       by_verdict (λ (z : Sent). Stepped t h (call.send nad n) z.answer (held z.state x.bytes)) (send_verdict t s n) _ _
       (λ q e. step_nothing (call.send nad n) (send.Refused q) refl
-      (reply_is (send_number (message_after t h) n) (λ i. send.Refused i) send.Sending (verdict.Refused q) (number_is ∙ e)))
+      (reply_is (send_number (message_after t h) n) (λ i. send.Refused i) send.Sending (Err q) (number_is ∙ e)))
       (λ a. record {
         agrees = agrees_sending t h x is (schedule t h (call.send nad n ⇒ send.Sending)) nad n refl (rw a at keeps);
-        replies = reply_is (send_number (message_after t h) n) (λ i. send.Refused i) send.Sending verdict.Accepted (number_is ∙ a);
+        replies = reply_is (send_number (message_after t h) n) (λ i. send.Refused i) send.Sending (Ok tt) (number_is ∙ a);
         lawful = λ e q p k. never q;
       })
 
@@ -212,25 +212,25 @@ module _ (t : List ℕ) (is-taken : TakenTable t) (h : Seq Scheduled) (x : Held)
       let inner = tick_refusal t n (length m) s is-taken is.frames.size is.fits in
       by_verdict (λ (z : Ticked). Stepped t h (call.tick m) z.answer (held z.state x.bytes)) (tick_verdict t n (length m) s) _ _
       (λ q e. step_nothing (call.tick m) (tick.Refused q) refl (record {
-        refuses = λ l. let z : verdict.Refused (number.refused number.state) ≡ verdict.Refused q = rw (same ∙ l) at (sym inner ∙ e) in cc;
+        refuses = λ l. let z : Err (number.refused number.state) ≡ Err q = rw (same ∙ l) at (sym inner ∙ e) in cc;
         goes_on = λ l. refused_never q (rw (same ∙ l) at (sym inner ∙ e));
       }))
-      (λ a. tick_goes t ok h x is m (unless_test fits number.state verdict.Accepted (sym inner ∙ a)))
+      (λ a. tick_goes t ok h x is m (unless_test fits number.state (Ok tt) (sym inner ∙ a)))
 
   step_byte : (b : ℕ) → Stepped t h (call.byte_in b) (answer_of t x (call.byte_in b)) (left_by t x (call.byte_in b))
   unfolding answer_of left_by byte_of byte_verdict byte_reply
   step_byte b =
       let o = is_open s.transfer.opened in
-      let inner : byte_verdict t (length x.bytes) s ≡ unless o number.no_transfer verdict.Accepted = rw lent_admitted in
+      let inner : byte_verdict t (length x.bytes) s ≡ unless o number.no_transfer (Ok tt) = rw lent_admitted in
       by_verdict (λ (z : Step Took). Stepped t h (call.byte_in b) (record { answer = z.given.answer; response = z.given.response }) (held z.given.state z.left))
       (byte_verdict t (length x.bytes) s) _ _
       (λ q e. step_nothing (call.byte_in b) (plain (byte.Refused q)) refl
       (whether o
       (λ l. refused_never q (rw l at (sym inner ∙ e)))
-      (λ l. let z : verdict.Refused (number.refused number.no_transfer) ≡ verdict.Refused q = rw l at (sym inner ∙ e) in
+      (λ l. let z : Err (number.refused number.no_transfer) ≡ Err q = rw l at (sym inner ∙ e) in
       let i : q ≡ number.refused number.no_transfer = cc in
       rw (← is.transfer.opened_is, not_open s.transfer.opened l, i))))
-      (λ a. byte_goes t ok h x is b (unless_test o number.no_transfer verdict.Accepted (sym inner ∙ a))
+      (λ a. byte_goes t ok h x is b (unless_test o number.no_transfer (Ok tt) (sym inner ∙ a))
       (fits_all t (byte_effect t s x.bytes b).given.state (taken_fits t ok s (fits_clauses t s is.fits) x.bytes b)))
 
   -- every call

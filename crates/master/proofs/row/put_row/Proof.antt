@@ -4,19 +4,19 @@ use mathlib.Core.Path.{◌≡◌, refl, sym, ◌∙◌}
 use native.Mathlib.Omega.{arith}
 use lib.ListN.{length}
 use borrow.Author.Rules.{rules}
-use Rattle.cluster.specs.declared.Verdict.TheVariants.{Accepted}
 use Rattle.master.specs.Put.{scalar, puts}
 use Rattle.master.specs.WriteRow.{first_bad, with_row}
 use Rattle.master.proofs.ReadBack.{value_length}
 use Rattle.master.proofs.RowTurns.{puts_from, put_turn, put_end, good_turn, good_value}
 use Rattle.master.proofs.row.put_row.Statement.{statement}
 use Rattle.master.proofs.row.put_row.Tie as tie
+use Rattle.std.specs.Prelude.{Ok}
 
 abbrev invariant_loop : tie.invariant-loop-i
 invariant_loop t bytes₀ signals values i₀ bytes i =
     (i ≤ length signals)
     × (length bytes ≡ length bytes₀)
-    × (first_bad t i (puts_from i signals values) ≡ Accepted)
+    × (first_bad t i (puts_from i signals values) ≡ Ok tt)
     × (with_row t bytes₀ (puts signals values) ≡ with_row t bytes (puts_from i signals values))
 
 abbrev decreases_loop : tie.decreases-loop-i
