@@ -19,13 +19,10 @@ use Rattle.cluster.proofs.FrameLaws.{frame_length_high}
 use Rattle.cluster.proofs.PlacementLaws.{first_there}
 use Rattle.cluster.proofs.ValueLaws.{scalar_length, array_length_stays, read_scalar_at, read_array_at, scalar_untouched, array_untouched, scalar_outside, array_outside}
 use Rattle.transport.proofs.Tests.{order}
-use Rattle.master.specs.declared.state.Last.TheVariants.{Placement}
 use Rattle.master.specs.declared.state.Reception.{Reception}
 use Rattle.master.specs.declared.state.State.{State}
 use Rattle.master.specs.Received.{source_of, scalar_from, array_from}
-use Rattle.master.specs.declared.write.WriteAnswer.TheVariants.{Written}
-use Rattle.master.specs.declared.write.Wrote.{Wrote}
-use Rattle.master.specs.declared.read.ReadAnswer.TheVariants as read
+use Rattle.master.specs.Answers.{Wrote}
 use Rattle.master.specs.declared.read.ArrayAnswer.TheVariants as bytes
 use Rattle.master.specs.Admit.{admitted, buffer_size, Step}
 use Rattle.master.specs.Transfers.{frame_data}
@@ -38,6 +35,7 @@ use Rattle.master.proofs.WriteLaws.{write_accepts, write_state, write_left}
 use Rattle.master.specs.Put.{Value, scalar, array, Put, put, with_value}
 use Rattle.master.specs.Write.{is_bytes, fits_signal}
 use Rattle.std.specs.Prelude.{Ok}
+use Rattle.std.specs.Prelude.{Some}
 
 -- ---- reading
 
@@ -49,7 +47,7 @@ readable t n x s true a h k = rw (a, lt-ltb s (signal_count t) h, k)
 readable t n x s false a h k = rw (a, lt-ltb s (signal_count t) h, k)
 
 -- a published signal is read from its first placement
-pub source_published : (t : List ℕ) (rs : List Reception) (s : ℕ) → signal_published t s ≡ true → source_of t rs s ≡ Placement (first_placement t s)
+pub source_published : (t : List ℕ) (rs : List Reception) (s : ℕ) → signal_published t s ≡ true → source_of t rs s ≡ Some (first_placement t s)
 unfolding source_of
 source_published t rs s p = rw p
 
@@ -78,8 +76,8 @@ known t x bs s kind fits a =
     }
 
 -- a scalar reads as the value that an accepted write put there
-pub write_value : (t : List ℕ) (x : State) (bs : List ℕ) (s v : ℕ) → (write_of t x bs (put s (scalar v))).given.answer ≡ Written
-    → read_scalar_of t (write_of t x bs (put s (scalar v))).given.state (write_of t x bs (put s (scalar v))).left s ≡ read.Value v
+pub write_value : (t : List ℕ) (x : State) (bs : List ℕ) (s v : ℕ) → (write_of t x bs (put s (scalar v))).given.answer ≡ Ok tt
+    → read_scalar_of t (write_of t x bs (put s (scalar v))).given.state (write_of t x bs (put s (scalar v))).left s ≡ Ok v
 unfolding read_scalar_of scalar_from buffer_size
 write_value t x bs s v k =
     let w = put s (scalar v) in
@@ -96,7 +94,7 @@ write_value t x bs s v k =
 
 -- an array reads as the bytes that an accepted write put there, and as many
 pub write_array_value : (t : List ℕ) (x : State) (bs : List ℕ) (s : ℕ) (vs : List ℕ) → Bytes vs
-    → (write_of t x bs (put s (array vs))).given.answer ≡ Written
+    → (write_of t x bs (put s (array vs))).given.answer ≡ Ok tt
     → read_array_of t (write_of t x bs (put s (array vs))).given.state (write_of t x bs (put s (array vs))).left s
     ≡ record { answer = bytes.Bytes (length vs); bytes = vs ++ replicate (8 - length vs) 255 }
 unfolding read_array_of array_from array_read handed_out buffer_size array_fits

@@ -15,8 +15,7 @@ use Rattle.cluster.specs.Table.{signal_count, is_array}
 use Rattle.cluster.specs.Values.{signal_published}
 use Rattle.cluster.proofs.Accepted.{then_first, then_second}
 use Rattle.transport.proofs.Tests.{whether}
-use Rattle.master.specs.declared.write.WriteAnswer.TheVariants.{Written, Refused}
-use Rattle.master.specs.declared.write.Wrote.{Wrote}
+use Rattle.master.specs.Answers.{Wrote}
 use Rattle.master.specs.Admit.{unless, admitted, Step}
 use Rattle.master.specs.Put.{Put, put, scalar, puts}
 use Rattle.master.specs.Write.{is_bytes, fits_signal, writable, marked, write_verdict, write_of}
@@ -73,11 +72,11 @@ module _ (t : List ℕ) (x : Held) (ad : Admitted t x) (w : Put) where
   behind : write_verdict t (length x.bytes) x.state w ≡ put_verdict t w
   behind = rw ad
 
-  written : (answer_of t x (call.write w) ≡ Written) ↔ (put_verdict t w ≡ Ok tt)
+  written : (answer_of t x (call.write w) ≡ Ok tt) ↔ (put_verdict t w ≡ Ok tt)
   unfolding answer_of write_of
   written = ((λ k. sym behind ∙ write_accepts t x.state x.bytes w k), (λ a. ap (λ (z : Step Wrote). z.given.answer) (goes _ _ _ (behind ∙ a))))
 
-  refuses : (r : Refusal) → (answer_of t x (call.write w) ≡ Refused r) ↔ (put_verdict t w ≡ Err r)
+  refuses : (r : Refusal) → (answer_of t x (call.write w) ≡ Err r) ↔ (put_verdict t w ≡ Err r)
   unfolding verdict_of refusal_of
   refuses r = (
     (λ k. sym behind ∙ (refused_exactly t x (call.write w) r).0 k),
@@ -117,7 +116,7 @@ record Bad (t : List ℕ) (x : Held) (i : ℕ) (ws : List Put) (r : Refusal) : T
   number : ℕ
   split : ws ≡ before ++ (pair ∷ after)
   all_written : AllWritten t x before
-  refused_there : answer_of t (after_writes t x before) (call.write pair) ≡ Refused (refused number)
+  refused_there : answer_of t (after_writes t x before) (call.write pair) ≡ Err (refused number)
   given : r ≡ refused_at number (i + length before)
 
 first_bad_is : (t : List ℕ) (x : Held) → Admitted t x → (i : ℕ) (ws : List Put) (r : Refusal) → first_bad t i ws ≡ Err r → Bad t x i ws r
@@ -154,7 +153,7 @@ first_bad_is t x ad i (w ∷ ws) r e = by (put_verdict t w) refl (first_bad_is t
         }
 
 bad_is_first : (t : List ℕ) (x : Held) → Admitted t x → (i : ℕ) (before : List Put) (w : Put) (after : List Put) (n : ℕ)
-    → AllWritten t x before → answer_of t (after_writes t x before) (call.write w) ≡ Refused (refused n)
+    → AllWritten t x before → answer_of t (after_writes t x before) (call.write w) ≡ Err (refused n)
     → first_bad t i (before ++ (w ∷ after)) ≡ Err (refused_at n (i + length before))
 unfolding first_bad after_writes
 bad_is_first t x ad i [] w after n u e =
@@ -184,24 +183,24 @@ module _ (t : List ℕ) (x : Held) (ss vs : List ℕ) where
   abbrev verdict_here : Verdict
   verdict_here = row_verdict t (length x.bytes) x.state ss vs
 
-  accepts : (row_answer t x ss vs ≡ Written) ↔ (verdict_here ≡ Ok tt)
+  accepts : (row_answer t x ss vs ≡ Ok tt) ↔ (verdict_here ≡ Ok tt)
   unfolding row_answer row_of
   accepts = (
-    by_verdict (λ (z : Step Wrote). z.given.answer ≡ Written → verdict_here ≡ Ok tt) verdict_here _ _
+    by_verdict (λ (z : Step Wrote). z.given.answer ≡ Ok tt → verdict_here ≡ Ok tt) verdict_here _ _
         (λ r e k. let z : ◌≡◌ {A = ℕ} 0 1 = cc in absurd (omega arith)) (λ a k. a),
     (λ a. rw (row_answer, row_of, a)),
   )
 
-  refused_by : (r : Refusal) → (row_answer t x ss vs ≡ Refused r) ↔ (verdict_here ≡ Err r)
+  refused_by : (r : Refusal) → (row_answer t x ss vs ≡ Err r) ↔ (verdict_here ≡ Err r)
   unfolding row_answer row_of
   refused_by r = (
-    by_verdict (λ (z : Step Wrote). z.given.answer ≡ Refused r → verdict_here ≡ Err r) verdict_here _ _
+    by_verdict (λ (z : Step Wrote). z.given.answer ≡ Err r → verdict_here ≡ Err r) verdict_here _ _
         (λ q e k. let z : q ≡ r = cc in e ∙ ap Err z) (λ a k. let z : ◌≡◌ {A = ℕ} 0 1 = cc in absurd (omega arith)),
     (λ a. rw (row_answer, row_of, a)),
   )
 
   -- a row is written exactly when tests 1 to 3 hold, its rows are of one length and each of its single writes is accepted
-  pub row_written_exactly : (row_answer t x ss vs ≡ Written) ↔ (Admitted t x × (length ss ≡ length vs) × AllWritten t x (puts ss vs))
+  pub row_written_exactly : (row_answer t x ss vs ≡ Ok tt) ↔ (Admitted t x × (length ss ≡ length vs) × AllWritten t x (puts ss vs))
   unfolding row_verdict
   row_written_exactly = (
     (λ k.
@@ -211,19 +210,19 @@ module _ (t : List ℕ) (x : Held) (ss vs : List ℕ) where
   )
 
   -- and then it leaves what they leave
-  pub row_is_writes : row_answer t x ss vs ≡ Written → row_left t x ss vs ≡ after_writes t x (puts ss vs)
+  pub row_is_writes : row_answer t x ss vs ≡ Ok tt → row_left t x ss vs ≡ after_writes t x (puts ss vs)
   unfolding row_left row_of
   row_is_writes k =
       let h = row_written_exactly.0 k in
       rw (accepts.0 k) (leaves_all t x h.0 ss vs h.1 h.2)
 
   -- "If one would be refused, none is written."
-  pub row_refused_unchanged : (r : Refusal) → row_answer t x ss vs ≡ Refused r → row_left t x ss vs ≡ x
+  pub row_refused_unchanged : (r : Refusal) → row_answer t x ss vs ≡ Err r → row_left t x ss vs ≡ x
   unfolding row_left row_of
   row_refused_unchanged r k = rw ((refused_by r).0 k)
 
   -- a row is refused exactly so
-  pub row_refused_exactly : (r : Refusal) → (row_answer t x ss vs ≡ Refused r) ↔ RowRefused t x ss vs r
+  pub row_refused_exactly : (r : Refusal) → (row_answer t x ss vs ≡ Err r) ↔ RowRefused t x ss vs r
   unfolding row_verdict
   row_refused_exactly r = ((λ k. first (admitted t (length x.bytes) x.state) refl ((refused_by r).0 k)), back r)
     where
@@ -246,7 +245,7 @@ module _ (t : List ℕ) (x : Held) (ss vs : List ℕ) where
       first (Ok tt) a e = rest a (rw a at e)
       first (Err q) a e = let z : Err q ≡ Err r = rw a at e in as_every_call (a ∙ z)
 
-      back : (r : Refusal) → RowRefused t x ss vs r → row_answer t x ss vs ≡ Refused r
+      back : (r : Refusal) → RowRefused t x ss vs r → row_answer t x ss vs ≡ Err r
       back r (as_every_call a) = (refused_by r).1 (rw a)
       back r (unequal ad n) = (refused_by (refused 12)).1 (rw (ad, ne_eqb (length ss) (length vs) n))
       back r (bad_pair ad same before w after n split u e) =

@@ -11,7 +11,7 @@ use Rattle.cluster.specs.Answers.{behind_table}
 use Rattle.cluster.specs.Table.{signal_count, is_array}
 use Rattle.cluster.specs.Values.{signal_published}
 use Rattle.master.specs.declared.state.State.{State}
-use Rattle.master.specs.declared.write.Wrote.{Wrote}
+use Rattle.master.specs.Answers.{Wrote}
 use Rattle.master.specs.Fits.{state_fits}
 use Rattle.master.specs.Admit.{unless, buffer_size, admitted, Step, Leaves}
 use Rattle.master.specs.Answers.{write_told}

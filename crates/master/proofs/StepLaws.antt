@@ -21,15 +21,15 @@ use Rattle.master.specs.declared.state.Opened.TheVariants as opened
 use Rattle.master.specs.declared.state.Message.{Message}
 use Rattle.master.specs.declared.state.Message.TheVariants.{None, Sending, Completed, Failed}
 use Rattle.master.specs.declared.state.State.{State}
-use Rattle.master.specs.declared.write.Wrote.{Wrote}
+use Rattle.master.specs.Answers.{Wrote}
 use Rattle.master.specs.declared.read.ReadArray.{ReadArray}
-use Rattle.master.specs.declared.read.StatusRead.{StatusRead}
-use Rattle.master.specs.declared.select.Chosen.{Chosen}
-use Rattle.master.specs.declared.tick.Ticked.{Ticked}
+use Rattle.master.specs.Answers.{StatusRead}
+use Rattle.master.specs.Answers.{Chosen}
+use Rattle.master.specs.Answers.{Ticked}
 use Rattle.master.specs.declared.tick.TickAnswer.TheVariants as tick
-use Rattle.master.specs.declared.byte.Took.{Took}
+use Rattle.master.specs.Answers.{Took}
 use Rattle.master.specs.declared.byte.ByteAnswer.TheVariants as byte
-use Rattle.master.specs.declared.send.Sent.{Sent}
+use Rattle.master.specs.Answers.{Sent}
 use Rattle.master.specs.declared.send.MessageAnswer.TheVariants as tells
 use Rattle.master.specs.Fits.{state_fits}
 use Rattle.master.specs.Transfers.{opening}
@@ -111,14 +111,14 @@ refused_answer t x (call.send nad n) r e = ap (λ (z : Sent). z.answer) (refuses
 refused_answer t x call.message_state r e = refuses _ _ _ r e
 refused_answer t x (call.number_ahead f) r e = refuses _ _ _ r e
 
-accepted_answers : (t : List ℕ) (s : State) (o : Opened) (nine bs : List ℕ) (r : Refusal) → (accepted t s o nine bs).given.answer ≡ byte.Refused r → ⊥
+accepted_answers : (t : List ℕ) (s : State) (o : Opened) (nine bs : List ℕ) (r : Refusal) → (accepted t s o nine bs).given.answer ≡ Err r → ⊥
 unfolding accepted
 accepted_answers t s opened.Nothing nine bs r k = let z : ◌≡◌ {A = ℕ} 0 1 = cc in omega arith
 accepted_answers t s (opened.Frame f) nine bs r k = let z : ◌≡◌ {A = ℕ} 0 1 = cc in omega arith
 accepted_answers t s opened.Request nine bs r k = let z : ◌≡◌ {A = ℕ} 0 1 = cc in omega arith
 accepted_answers t s opened.Response nine bs r k = let z : ◌≡◌ {A = ℕ} 0 1 = cc in omega arith
 
-told_answers : (m : Message) (r : Refusal) → told m ≡ tells.Refused r → ⊥
+told_answers : (m : Message) (r : Refusal) → told m ≡ Err r → ⊥
 told_answers None r k = let z : ◌≡◌ {A = ℕ} 0 1 = cc in omega arith
 told_answers (Sending s) r k = let z : ◌≡◌ {A = ℕ} 0 1 = cc in omega arith
 told_answers Completed r k = let z : ◌≡◌ {A = ℕ} 0 1 = cc in omega arith
@@ -132,14 +132,14 @@ accepted_answer t x (call.read s) r a k = let z = sym (goes _ _ _ a) ∙ k in le
 accepted_answer t x (call.read_array s) r a k = let z = ap (λ (w : ReadArray). w.answer) (sym (goes _ _ _ a) ∙ k) in let y : ◌≡◌ {A = ℕ} 0 1 = cc in omega arith
 accepted_answer t x (call.select n) r a k = let z = sym (ap (λ (z : Chosen). z.answer) (goes _ _ _ a)) ∙ k in let y : ◌≡◌ {A = ℕ} 0 1 = cc in omega arith
 accepted_answer t x (call.tick m) r a k =
-    ticked_by t x.bytes m (λ w. w.answer ≡ tick.Refused r → ⊥) x.state
+    ticked_by t x.bytes m (λ w. w.answer ≡ Err r → ⊥) x.state
     (λ y z. let q : ◌≡◌ {A = ℕ} 0 1 = cc in omega arith)
     (λ n c z. let q : ◌≡◌ {A = ℕ} 0 1 = cc in omega arith)
     (λ e n c p z. let q : ◌≡◌ {A = ℕ} 0 1 = cc in omega arith)
     (λ e o n c p y z. let q : ◌≡◌ {A = ℕ} 0 1 = cc in omega arith)
     (sym (ap (λ (z : Ticked). z.answer) (goes _ _ _ a)) ∙ k)
 accepted_answer t x (call.byte_in b) r a k =
-    taken_by t x.state x.bytes b (λ w. w.given.answer ≡ byte.Refused r → ⊥)
+    taken_by t x.state x.bytes b (λ w. w.given.answer ≡ Err r → ⊥)
     (λ nine e z. let q : ◌≡◌ {A = ℕ} 0 1 = cc in omega arith)
     (λ z. let q : ◌≡◌ {A = ℕ} 0 1 = cc in omega arith)
     (λ y z. let q : ◌≡◌ {A = ℕ} 0 1 = cc in omega arith)

@@ -15,8 +15,7 @@ use Rattle.cluster.specs.Lists.{member_of}
 use Rattle.cluster.specs.Values.{signal_published}
 use Rattle.transport.specs.Cutting.{is_length}
 use Rattle.cluster.specs.Fresh.{fresh_bytes}
-use Rattle.master.specs.declared.start.FreshAnswer.TheVariants as start
-use Rattle.master.specs.declared.start.Started.{Started}
+use Rattle.master.specs.Answers.{Started}
 use Rattle.master.specs.Fresh.{fresh}
 use Rattle.master.specs.declared.state.State.{State}
 use Rattle.master.specs.Fits.{state_fits, is_sending, lent_fits}
@@ -27,16 +26,13 @@ use Rattle.master.specs.Write.{is_bytes, fits_signal, writable, write_of}
 use Rattle.master.specs.Put.{Put}
 use Rattle.master.specs.Read.{read_verdict, read_scalar_of, read_array_of}
 use Rattle.master.specs.Select.{select_verdict, select_of}
-use Rattle.master.specs.declared.select.Chosen.{Chosen}
-use Rattle.master.specs.declared.write.Wrote.{Wrote}
-use Rattle.master.specs.declared.read.ReadAnswer.{ReadAnswer}
+use Rattle.master.specs.Answers.{Chosen}
+use Rattle.master.specs.Answers.{Wrote}
 use Rattle.master.specs.declared.read.ReadArray.{ReadArray}
-use Rattle.master.specs.declared.read.StatusRead.{StatusRead}
-use Rattle.master.specs.declared.tick.Ticked.{Ticked}
-use Rattle.master.specs.declared.byte.Took.{Took}
-use Rattle.master.specs.declared.send.Sent.{Sent}
-use Rattle.master.specs.declared.send.MessageAnswer.{MessageAnswer}
-use Rattle.master.specs.declared.ahead.AheadAnswer.{AheadAnswer}
+use Rattle.master.specs.Answers.{StatusRead}
+use Rattle.master.specs.Answers.{Ticked}
+use Rattle.master.specs.Answers.{Took}
+use Rattle.master.specs.Answers.{Sent}
 use Rattle.master.specs.Tick.{tick_verdict, tick_of}
 use Rattle.master.specs.Byte.{byte_verdict, byte_of}
 use Rattle.master.specs.Message.{send_verdict, send_of, message_of}
@@ -52,6 +48,9 @@ use Rattle.master.proofs.Answered.{then_accepted}
 use Rattle.master.proofs.StepLaws.{verdict_told_lem}
 use Rattle.std.specs.Prelude.{Ok, Err}
 use Rattle.cluster.specs.Check.{Verdict}
+use Rattle.master.specs.Answers.{ReadAnswer}
+use Rattle.master.specs.Answers.{AheadAnswer}
+use Rattle.master.specs.Answers.{MessageResult}
 
 module _ (vs : List ℕ) where
   -- a verdict and some tests tell the same
@@ -143,9 +142,9 @@ fresh_told_lem t bs =
     ∙ behind_table_lem [] (taken_of t) _ _ (tested [] (eqb (length bs) (8 * frame_count t)) 2 _ _ (done []))
   where
     refuse : Refusal → Step Started
-    refuse r = record { given = record { state = fresh; answer = start.Refused r }; left = bs }
+    refuse r = record { given = record { state = fresh; answer = Err r }; left = bs }
 
-    by : (v : Verdict) → fresh_told (answered v refuse (record { given = record { state = fresh; answer = start.Fresh }; left = fresh_bytes t })).given.answer ≡ told_as v []
+    by : (v : Verdict) → fresh_told (answered v refuse (record { given = record { state = fresh; answer = Ok tt }; left = fresh_bytes t })).given.answer ≡ told_as v []
     by (Ok tt) = refl
     by (Err r) = refl
 
@@ -191,7 +190,7 @@ pub send_told_lem : (t : List ℕ) (x : State) (nad n : ℕ) (r : Sent) → r �
 unfolding answer_of told_of
 send_told_lem t x nad n r e = (e, rw e (call_told_lem t (held x []) (call.send nad n)))
 
-pub message_told_lem : (t : List ℕ) (x : State) (r : MessageAnswer) → r ≡ message_of t x
+pub message_told_lem : (t : List ℕ) (x : State) (r : MessageResult) → r ≡ message_of t x
     → (r ≡ message_of t x) × (message_told r ≡ call_told t (held x []) call.message_state)
 unfolding answer_of told_of
 message_told_lem t x r e = (e, rw e (call_told_lem t (held x []) call.message_state))

@@ -5,11 +5,11 @@ use Rattle.cluster.specs.Check.{then}
 use Rattle.cluster.specs.Table.{member_count}
 use Rattle.cluster.specs.Lists.{member_of, frames_ahead}
 use Rattle.master.specs.declared.state.State.{State}
-use Rattle.master.specs.declared.ahead.AheadAnswer.{AheadAnswer}
-use Rattle.master.specs.declared.ahead.AheadAnswer.TheVariants.{Count, Refused}
 use Rattle.master.specs.Admit.{unless, admitted, answered, buffer_size}
 use Rattle.std.specs.Prelude.{Ok}
 use Rattle.cluster.specs.Check.{Verdict}
+use Rattle.std.specs.Prelude.{Err}
+use Rattle.master.specs.Answers.{AheadAnswer}
 
 -- how many of some frames are pending
 unfoldable pub pending_count : List Bool → List ℕ → ℕ
@@ -25,4 +25,4 @@ ahead_verdict t s f =
 -- what number ahead answers
 unfoldable pub ahead_of : List ℕ → State → ℕ → AheadAnswer
 ahead_of t s f =
-    answered (ahead_verdict t s f) (λ r. Refused r) (Count (pending_count s.pending (frames_ahead t f)))
+    answered (ahead_verdict t s f) (λ r. Err r) (Ok (pending_count s.pending (frames_ahead t f)))

@@ -4,13 +4,13 @@ use Rattle.refusal.specs.Numbers.{unknown}
 use Rattle.cluster.specs.Table.{schedule_count}
 use Rattle.cluster.specs.Check.{then}
 use Rattle.master.specs.declared.state.State.{State}
-use Rattle.master.specs.declared.select.SelectAnswer.TheVariants.{Selected, Refused}
-use Rattle.master.specs.declared.select.Chosen.{Chosen}
+use Rattle.master.specs.Answers.{Chosen}
 use Rattle.master.specs.Admit.{unless, admitted, answered, buffer_size}
 use Rattle.master.specs.State.{with_plan}
 use Rattle.master.specs.Plan.{asking}
 use Rattle.std.specs.Prelude.{Ok}
 use Rattle.cluster.specs.Check.{Verdict}
+use Rattle.std.specs.Prelude.{Err}
 
 -- refusals of select: 1, 3, 4 "no such .. schedule"
 unfoldable pub select_verdict : List ℕ → State → ℕ → Verdict
@@ -22,5 +22,5 @@ select_verdict t s n =
 unfoldable pub select_of : List ℕ → State → ℕ → Chosen
 select_of t s n =
     answered (select_verdict t s n)
-    (λ r. record { state = s; answer = Refused r })
-    (record { state = with_plan s (asking s.plan n); answer = Selected })
+    (λ r. record { state = s; answer = Err r })
+    (record { state = with_plan s (asking s.plan n); answer = Ok tt })

@@ -4,8 +4,7 @@ use Rattle.refusal.specs.Numbers as number
 use Rattle.cluster.specs.Check.{then}
 use Rattle.master.specs.declared.state.Transfer.{Transfer}
 use Rattle.master.specs.declared.state.State.{State}
-use Rattle.master.specs.declared.write.WriteAnswer.TheVariants.{Written}
-use Rattle.master.specs.declared.write.Wrote.{Wrote}
+use Rattle.master.specs.Answers.{Wrote}
 use Rattle.master.specs.State.{with_pending, with_transfer}
 use Rattle.master.specs.Admit.{unless, admitted, answered, Step}
 use Rattle.master.specs.Put.{Put, with_value, puts}
@@ -55,4 +54,4 @@ unfoldable pub row_of : List ℕ → State → List ℕ → List ℕ → List �
 row_of t x bs ss vs =
     answered (row_verdict t (length bs) x ss vs)
     (λ r. record { given = refused_write x r; left = bs })
-    (record { given = record { state = marked_row t ss x; answer = Written }; left = with_row t bs (puts ss vs) })
+    (record { given = record { state = marked_row t ss x; answer = Ok tt }; left = with_row t bs (puts ss vs) })

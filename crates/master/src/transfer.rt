@@ -20,7 +20,7 @@ use crate::state::{Message, Opened, Transfer};
 use cluster::{entries, frames, members};
 use transport::cutting;
 use wire::checksum::Model;
-use wire::{Answer, checksum, identifier};
+use wire::{checksum, identifier};
 
 // What is known of a transfer.
 #[derive(Clone, Copy)]
@@ -304,8 +304,8 @@ fn protected_byte(id: u8) -> u8
     ensures { result ≡ protected_byte id }
 {
     match identifier::build(id) {
-        Answer::Byte(byte) => byte,
-        Answer::Refused(refusal) => 0,
+        Ok(byte) => byte,
+        Err(_) => 0,
     }
 }
 
@@ -315,8 +315,8 @@ fn checksum_byte(id: u8, wish: Model, bytes: &[u8]) -> u8
     ensures { result ≡ checksum_byte id wish bytes.now }
 {
     match checksum::of(id, wish, bytes) {
-        Answer::Byte(byte) => byte,
-        Answer::Refused(refusal) => 0,
+        Ok(byte) => byte,
+        Err(_) => 0,
     }
 }
 

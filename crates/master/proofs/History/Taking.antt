@@ -17,9 +17,8 @@ use Rattle.master.specs.declared.state.Opened.{Opened}
 use Rattle.master.specs.declared.state.Opened.TheVariants.{Nothing, Frame, Request, Response}
 use Rattle.master.specs.declared.state.Message.{Message}
 use Rattle.master.specs.declared.state.State.{State}
-use Rattle.master.specs.declared.byte.ByteAnswer.{ByteAnswer}
 use Rattle.master.specs.declared.byte.ByteAnswer.TheVariants as byte
-use Rattle.master.specs.declared.byte.Took.{Took}
+use Rattle.master.specs.Answers.{Took}
 use Rattle.master.specs.Admit.{Step}
 use Rattle.master.specs.Fits.{state_fits, frame_there}
 use Rattle.master.specs.Transfers.{format_of, is_open, open_length, open_checksum, sends}
@@ -47,6 +46,8 @@ use Rattle.master.proofs.History.TransferIs.{TransferIs, due_byte, received_nine
 use Rattle.master.proofs.History.Closing.{end_closes, end_message, end_status}
 use Rattle.master.proofs.History.Agrees.{Agrees}
 use Rattle.master.proofs.History.Stepped.{Stepped}
+use Rattle.std.specs.Prelude.{Ok}
+use Rattle.master.specs.Answers.{ByteResult}
 
 -- what the master sends is stored nowhere
 stored_sent : (t : List ℕ) (o : Opened) (ds bs : List ℕ) → sends t o ≡ true → stored_by t o ds bs ≡ bs
@@ -58,10 +59,10 @@ stored_sent t Response ds bs s = refl
 
 -- "A successful response frame .. answers its eight bytes."
 abbrev success_reply : Opened → List ℕ → Reply
-success_reply Nothing got = plain byte.Success
-success_reply (Frame f) got = plain byte.Success
-success_reply Request got = plain byte.Success
-success_reply Response got = record { answer = byte.Response; response = got }
+success_reply Nothing got = plain (Ok byte.Success)
+success_reply (Frame f) got = plain (Ok byte.Success)
+success_reply Request got = plain (Ok byte.Success)
+success_reply Response got = record { answer = Ok byte.Response; response = got }
 
 -- what is answered in a transfer that the master sends, and in one that it receives
 module _ (t : List ℕ) (o : Opened) (due got : List ℕ) (b : ℕ) where
@@ -108,12 +109,12 @@ module _ (t : List ℕ) (ok : RightTable t) (h : Seq Scheduled) (x : Held) (is :
   event r = schedule t h (call.byte_in b ⇒ r)
 
   module _ (y : Scheduled) where
-    agrees_more : act y ≡ took b byte.More → (nine : List ℕ) → state_fits t (passed s nine) ≡ true → TransferIs t (h ▹ y) (passed s nine).transfer
+    agrees_more : act y ≡ took b (Ok byte.More) → (nine : List ℕ) → state_fits t (passed s nine) ≡ true → TransferIs t (h ▹ y) (passed s nine).transfer
         → Agrees t (h ▹ y) (held (passed s nine) x.bytes)
     unfolding passed plan_after plan_by message_after counted_after closes succeeds
     agrees_more a nine f r = record {
       fits = f;
-      frames = frames_byte t h s.pending x.bytes is.frames y b byte.More a refl;
+      frames = frames_byte t h s.pending x.bytes is.frames y b (Ok byte.More) a refl;
       transfer = r;
       plan_is = rw a is.plan_is;
       message_is = rw a is.message_is;
@@ -121,22 +122,22 @@ module _ (t : List ℕ) (ok : RightTable t) (h : Seq Scheduled) (x : Held) (is :
       received_are = received_quiet t h s.received is.received_are y (rw a);
     }
 
-    agrees_failed : act y ≡ took b byte.Failure → state_fits t (failed t s true) ≡ true → Agrees t (h ▹ y) (held (failed t s true) x.bytes)
+    agrees_failed : act y ≡ took b (Ok byte.Failure) → state_fits t (failed t s true) ≡ true → Agrees t (h ▹ y) (held (failed t s true) x.bytes)
     unfolding failed plan_after plan_by opens succeeds
     agrees_failed a f = record {
       fits = f;
-      frames = frames_byte t h s.pending x.bytes is.frames y b byte.Failure a refl;
-      transfer = transfer_closed t h y (end_closes t h x is y b byte.Failure a refl) (rw a);
+      frames = frames_byte t h s.pending x.bytes is.frames y b (Ok byte.Failure) a refl;
+      transfer = transfer_closed t h y (end_closes t h x is y b (Ok byte.Failure) a refl) (rw a);
       plan_is = rw a is.plan_is;
-      message_is = message_failed_lem o s.message ∙ sym (end_message t h x is y b byte.Failure a refl);
-      status_is = end_status t h x is y b byte.Failure a refl open-now;
+      message_is = message_failed_lem o s.message ∙ sym (end_message t h x is y b (Ok byte.Failure) a refl);
+      status_is = end_status t h x is y b (Ok byte.Failure) a refl open-now;
       received_are = received_quiet t h s.received is.received_are y (rw a);
     }
 
   -- a state that may stand after a success, with the frame bytes handed over
   abbrev Ends : State → Type 0
   Ends after =
-      (y : Scheduled) (c : ByteAnswer) → act y ≡ took b c → is_end c ≡ true → is_success c ≡ true → state_fits t after ≡ true → (bs : List ℕ)
+      (y : Scheduled) (c : ByteResult) → act y ≡ took b c → is_end c ≡ true → is_success c ≡ true → state_fits t after ≡ true → (bs : List ℕ)
       → FramesAre t (h ▹ y) (pending_sent o s.transfer.written s.pending) bs → Agrees t (h ▹ y) (held after bs)
 
   agrees_sent : sends t o ≡ true → Ends (sent t s)
@@ -183,7 +184,7 @@ module _ (t : List ℕ) (ok : RightTable t) (h : Seq Scheduled) (x : Held) (is :
     sent_now = rw is.transfer.opened_is at sent
 
     sent_replies : byte_reply t (open_after t h) (due_after t h) (got_after h) b
-        ≡ plain (cond (eqb (get_or s.transfer.bytes s.transfer.count 0) b) (cond (early t s.transfer) byte.More byte.Success) byte.Failure)
+        ≡ plain (cond (eqb (get_or s.transfer.bytes s.transfer.count 0) b) (cond (early t s.transfer) (Ok byte.More) (Ok byte.Success)) (Ok byte.Failure))
     unfolding sent_reply
     sent_replies =
         reply_sent t (open_after t h) (due_after t h) (got_after h) b sent_now
@@ -218,13 +219,13 @@ module _ (t : List ℕ) (ok : RightTable t) (h : Seq Scheduled) (x : Held) (is :
       right_is = rw (last_is, data_are)
 
       last_replies : byte_reply t (open_after t h) (due_after t h) (got_after h) b
-          ≡ cond (checksum_right t o nine) (success_reply o (got_after h)) (plain byte.Failure)
+          ≡ cond (checksum_right t o nine) (success_reply o (got_after h)) (plain (Ok byte.Failure))
       unfolding received_reply
       last_replies =
           reply_received t (open_after t h) (due_after t h) (got_after h) b is_open_lem received_now
           ∙ rw (← early_is, last, right_is, is.transfer.opened_is)
 
-    more_replies : early t s.transfer ≡ true → byte_reply t (open_after t h) (due_after t h) (got_after h) b ≡ plain byte.More
+    more_replies : early t s.transfer ≡ true → byte_reply t (open_after t h) (due_after t h) (got_after h) b ≡ plain (Ok byte.More)
     unfolding received_reply
     more_replies e = reply_received t (open_after t h) (due_after t h) (got_after h) b is_open_lem received_now ∙ rw (← early_is, e)
 
@@ -241,27 +242,27 @@ module _ (t : List ℕ) (ok : RightTable t) (h : Seq Scheduled) (x : Held) (is :
   event_act r = refl
 
   -- an answer that leaves the frame bytes
-  abbrev leaving : State → ByteAnswer → Step Took
+  abbrev leaving : State → ByteResult → Step Took
   leaving s' a = record { given = record { state = s'; answer = a; response = replicate 8 255 }; left = x.bytes }
 
-  goes_more : (nine : List ℕ) → byte_reply t (open_after t h) (due_after t h) (got_after h) b ≡ plain byte.More
-      → TransferIs t (h ▹ event (plain byte.More)) (passed s nine).transfer → Goes (leaving (passed s nine) byte.More)
+  goes_more : (nine : List ℕ) → byte_reply t (open_after t h) (due_after t h) (got_after h) b ≡ plain (Ok byte.More)
+      → TransferIs t (h ▹ event (plain (Ok byte.More))) (passed s nine).transfer → Goes (leaving (passed s nine) (Ok byte.More))
   unfolding schedule slot_begun
   goes_more nine r tr f = record {
-    agrees = agrees_more (event (plain byte.More)) refl nine f tr;
+    agrees = agrees_more (event (plain (Ok byte.More))) refl nine f tr;
     replies = sym r;
     lawful = λ e q p k. never q;
   }
 
-  goes_failed : byte_reply t (open_after t h) (due_after t h) (got_after h) b ≡ plain byte.Failure → Goes (leaving (failed t s true) byte.Failure)
+  goes_failed : byte_reply t (open_after t h) (due_after t h) (got_after h) b ≡ plain (Ok byte.Failure) → Goes (leaving (failed t s true) (Ok byte.Failure))
   unfolding schedule slot_begun
   goes_failed r f = record {
-    agrees = agrees_failed (event (plain byte.Failure)) refl f;
+    agrees = agrees_failed (event (plain (Ok byte.Failure))) refl f;
     replies = sym r;
     lawful = λ e q p k. never q;
   }
 
-  goes_succeeded : (s' : State) → Ends s' → (c : ByteAnswer) (r : List ℕ) (after : List ℕ) → byte_reply t (open_after t h) (due_after t h) (got_after h) b ≡ record { answer = c; response = r }
+  goes_succeeded : (s' : State) → Ends s' → (c : ByteResult) (r : List ℕ) (after : List ℕ) → byte_reply t (open_after t h) (due_after t h) (got_after h) b ≡ record { answer = c; response = r }
       → act (event (record { answer = c; response = r })) ≡ took b c → is_end c ≡ true → is_success c ≡ true
       → length after ≡ length x.bytes → after ≡ stored_by t o (got_after h) x.bytes
       → ((f : ℕ) → published t f ≡ true → (k : ℕ) → k < 8 → get_or after (8 * f + k) 0 ≡ get_or x.bytes (8 * f + k) 0)
@@ -284,16 +285,16 @@ module _ (t : List ℕ) (ok : RightTable t) (h : Seq Scheduled) (x : Held) (is :
       whether (eqb (get_or s.transfer.bytes s.transfer.count 0) b)
       (λ e. whether (early t s.transfer)
       (λ z. rw (e, z) (goes_more s.transfer.bytes (rw (e, z) at r)
-      (transfer_more_sent t h s.transfer is.transfer (event (plain byte.More)) b more_act n not_above e)))
-      (λ z. rw (e, z) (goes_succeeded (sent t s) (agrees_sent ours) byte.Success (replicate 8 255) x.bytes (rw (e, z) at r) success_act refl refl refl
+      (transfer_more_sent t h s.transfer is.transfer (event (plain (Ok byte.More))) b more_act n not_above e)))
+      (λ z. rw (e, z) (goes_succeeded (sent t s) (agrees_sent ours) (Ok byte.Success) (replicate 8 255) x.bytes (rw (e, z) at r) success_act refl refl refl
       (sym (stored_sent t o (got_after h) x.bytes ours)) (λ f p k l. refl))))
       (λ e. rw e (goes_failed (rw e at r)))
     where
-      more_act : act (event (plain byte.More)) ≡ took b byte.More
-      more_act = event_act (plain byte.More)
+      more_act : act (event (plain (Ok byte.More))) ≡ took b (Ok byte.More)
+      more_act = event_act (plain (Ok byte.More))
 
-      success_act : act (event (plain byte.Success)) ≡ took b byte.Success
-      success_act = event_act (plain byte.Success)
+      success_act : act (event (plain (Ok byte.Success))) ≡ took b (Ok byte.Success)
+      success_act = event_act (plain (Ok byte.Success))
 
   -- of one that it receives, at its end
   goes_accepted : (o' : Opened) → o ≡ o' → sends t o ≡ false → early t s.transfer ≡ false
@@ -305,8 +306,8 @@ module _ (t : List ℕ) (ok : RightTable t) (h : Seq Scheduled) (x : Held) (is :
       let there : frame_there t (Frame g) ≡ true = rw p at (fits_clauses t s is.fits).frame_there_lem in
       let ds : take (open_length t (Frame g)) (with_byte s.transfer b) ≡ got_after h = rw p at (data_are n z) in
       let unpublished : published t g ≡ false = rw p at n in
-      goes_succeeded (received t s) (agrees_received n) byte.Success (replicate 8 255) (lent.written x.bytes (8 * g) (take (open_length t (Frame g)) (with_byte s.transfer b)))
-      (rw p at r) (event_act (plain byte.Success)) refl refl
+      goes_succeeded (received t s) (agrees_received n) (Ok byte.Success) (replicate 8 255) (lent.written x.bytes (8 * g) (take (open_length t (Frame g)) (with_byte s.transfer b)))
+      (rw p at r) (event_act (plain (Ok byte.Success))) refl refl
       (written_length x.bytes (8 * g) (take (open_length t (Frame g)) (with_byte s.transfer b))
       (data_inside t ok s x.bytes is.frames.size g (with_byte s.transfer b) there))
       (rw (p, unpublished, ds))
@@ -316,7 +317,7 @@ module _ (t : List ℕ) (ok : RightTable t) (h : Seq Scheduled) (x : Held) (is :
   goes_accepted Response p n z r =
       let ds : take 8 (with_byte s.transfer b) ≡ got_after h = rw p at (data_are n z) in
       rw ds
-      (goes_succeeded (received t s) (agrees_received n) byte.Response (got_after h) x.bytes (rw p at r) (event_act (record { answer = byte.Response; response = got_after h })) refl refl refl
+      (goes_succeeded (received t s) (agrees_received n) (Ok byte.Response) (got_after h) x.bytes (rw p at r) (event_act (record { answer = Ok byte.Response; response = got_after h })) refl refl refl
       (rw p) (λ f q k l. refl))
 
   goes_received : sends t o ≡ false → Goes (received_byte t s x.bytes b)
@@ -324,7 +325,7 @@ module _ (t : List ℕ) (ok : RightTable t) (h : Seq Scheduled) (x : Held) (is :
   goes_received n =
       whether (early t s.transfer)
       (λ z. rw z (goes_more (with_byte s.transfer b) (more_replies n z)
-      (transfer_more_received t h s.transfer is.transfer (event (plain byte.More)) b (event_act (plain byte.More)) (received_now n) is_open_lem at_most_eight)))
+      (transfer_more_received t h s.transfer is.transfer (event (plain (Ok byte.More))) b (event_act (plain (Ok byte.More))) (received_now n) is_open_lem at_most_eight)))
       (λ z. whether (checksum_right t o (with_byte s.transfer b))
       (λ c. rw (z, c) (goes_accepted o refl n z (rw c at (last_replies n z))))
       (λ c. rw (z, c) (goes_failed (rw c at (last_replies n z)))))

@@ -6,12 +6,12 @@ use native.Mathlib.Omega.{arith}
 use Rattle.master.specs.declared.state.Opened.{Opened}
 use Rattle.master.specs.declared.state.Opened.TheVariants.{Nothing, Frame, Request, Response}
 use Rattle.master.specs.declared.state.State.{State}
-use Rattle.master.specs.declared.write.Wrote.{Wrote}
-use Rattle.master.specs.declared.read.StatusRead.{StatusRead}
-use Rattle.master.specs.declared.select.Chosen.{Chosen}
-use Rattle.master.specs.declared.tick.Ticked.{Ticked}
-use Rattle.master.specs.declared.byte.Took.{Took}
-use Rattle.master.specs.declared.send.Sent.{Sent}
+use Rattle.master.specs.Answers.{Wrote}
+use Rattle.master.specs.Answers.{StatusRead}
+use Rattle.master.specs.Answers.{Chosen}
+use Rattle.master.specs.Answers.{Ticked}
+use Rattle.master.specs.Answers.{Took}
+use Rattle.master.specs.Answers.{Sent}
 use Rattle.master.specs.Admit.{Step, answered}
 use Rattle.master.specs.Write.{write_of}
 use Rattle.master.specs.Select.{select_of}
