@@ -173,9 +173,13 @@ pub record ByteSays (t : List ℕ) (s : State) (b : ℕ) (a : ByteResult) : Type
       → ReceivedSays (Ok byte.Success) (checksum_byte (identifier t f) (frame_model t f) (take (frame_length t f) s.transfer.bytes))
       s.transfer.count (frame_length t f) b a
   pub response : s.transfer.opened ≡ Response
-      → ReceivedSays (Ok byte.Response) (checksum_byte 61 Classic (take 8 s.transfer.bytes)) s.transfer.count 8 b a
+      → ReceivedSays (Ok (byte.Response (take 8 (set s.transfer.bytes s.transfer.count b)))) (checksum_byte 61 Classic (take 8 s.transfer.bytes)) s.transfer.count 8 b a
 
 module _ (t : List ℕ) (s : State) (bs : List ℕ) (b : ℕ) (nine : length s.transfer.bytes ≡ 9) (h : byte_verdict t (length bs) s ≡ Ok tt) where
+  -- the eight data bytes, where the byte is the ninth
+  abbrev got : List ℕ
+  got = take 8 (set s.transfer.bytes s.transfer.count b)
+
   effect_exactly : ByteSays t s b (byte_effect t s bs b).given.answer
   unfolding format_of open_checksum accepted
   effect_exactly =
@@ -192,13 +196,13 @@ module _ (t : List ℕ) (s : State) (bs : List ℕ) (b : ℕ) (nine : length s.t
         response = λ e.
             let l : open_length t s.transfer.opened ≡ 8 = rw e in
             let c : open_checksum t s.transfer.opened (take 8 s.transfer.bytes) ≡ checksum_byte 61 Classic (take 8 s.transfer.bytes) = rw e in
-            rw (l, c) at (received_says t s bs b (Ok byte.Response) response_well (rw e) (rw e) nine high low);
+            rw (l, c) at (received_says t s bs b (Ok (byte.Response got)) response_well (rw e) (rw e) nine high low);
       }
     where
-      success_well : ¬ ((Ok byte.Success) ≡ Ok byte.More) × ¬ ((Ok byte.Success) ≡ Ok byte.Failure)
+      success_well : ¬ (◌≡◌ {A = ByteResult} (Ok byte.Success) (Ok byte.More)) × ¬ (◌≡◌ {A = ByteResult} (Ok byte.Success) (Ok byte.Failure))
       success_well = ((λ e. let u : ◌≡◌ {A = ℕ} 0 1 = cc in omega arith), λ e. let u : ◌≡◌ {A = ℕ} 0 1 = cc in omega arith)
 
-      response_well : ¬ ((Ok byte.Response) ≡ Ok byte.More) × ¬ ((Ok byte.Response) ≡ Ok byte.Failure)
+      response_well : ¬ (◌≡◌ {A = ByteResult} (Ok (byte.Response got)) (Ok byte.More)) × ¬ (◌≡◌ {A = ByteResult} (Ok (byte.Response got)) (Ok byte.Failure))
       response_well = ((λ e. let u : ◌≡◌ {A = ℕ} 0 1 = cc in omega arith), λ e. let u : ◌≡◌ {A = ℕ} 0 1 = cc in omega arith)
 
   -- an accepted byte, of every state; its nine bytes are nine

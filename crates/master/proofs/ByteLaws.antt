@@ -21,7 +21,7 @@ use Rattle.master.specs.Answers.{successful}
 use Rattle.master.specs.Fits.{frame_there}
 use Rattle.master.specs.Transfers.{format_of, open_length, sends, frame_data}
 use Rattle.master.specs.Closing.{failed, pending_sent, sent, received}
-use Rattle.master.specs.Byte.{no_response, passed, with_byte, sent_byte, accepted, byte_effect, byte_verdict, byte_of}
+use Rattle.master.specs.Byte.{passed, with_byte, sent_byte, accepted, byte_effect, byte_verdict, byte_of}
 use Rattle.master.proofs.Admitted.{admitted_table, admitted_size, admitted_fits, fits_clauses, open_length_high}
 use Rattle.master.proofs.Answered.{by_verdict}
 use Rattle.master.proofs.Cases.{keeping, taken_by, accepted_state}
@@ -31,6 +31,7 @@ use Rattle.master.proofs.ReadBack.{untouched_data}
 use Rattle.std.specs.Prelude.{Ok, Err}
 use Rattle.cluster.specs.Check.{Verdict}
 use Rattle.master.specs.Answers.{ByteResult}
+use Rattle.master.specs.Answers.{handed}
 
 -- ---- the pending bits
 
@@ -52,7 +53,7 @@ pub byte_pending : (t : List ℕ) (s : State) (bs : List ℕ) (b : ℕ)
 unfolding byte_of byte_verdict passed failed sent received
 byte_pending t s bs b =
     by_verdict (λ (w : Step Took). w.given.state.pending ≡ bits_after s w.given.answer) (byte_verdict t (length bs) s)
-    (λ r. keeping (no_response s (Err r)) bs) (byte_effect t s bs b)
+    (λ r. keeping (handed s (Err r)) bs) (byte_effect t s bs b)
     (λ r e. refl)
     (λ a. taken_by t s bs b (λ w. w.given.state.pending ≡ bits_after s w.given.answer) (λ nine e. refl) refl (λ y. refl)
     (λ n. let o = s.transfer.opened in let nine = with_byte s.transfer b in
@@ -111,7 +112,7 @@ unfolding byte_of byte_effect
 byte_by_copy t s bs cs b e h = rw (e, h) (by_copy (byte_verdict t (length cs) s))
   where
     by_copy : (v : Verdict) →
-        (answered {A = Step Took} v (λ r. record { given = no_response s (Err r); left = bs }) (record { given = sent_byte t s b; left = bs })).given
-        ≡ (answered {A = Step Took} v (λ r. record { given = no_response s (Err r); left = cs }) (record { given = sent_byte t s b; left = cs })).given
+        (answered {A = Step Took} v (λ r. record { given = handed s (Err r); left = bs }) (record { given = sent_byte t s b; left = bs })).given
+        ≡ (answered {A = Step Took} v (λ r. record { given = handed s (Err r); left = cs }) (record { given = sent_byte t s b; left = cs })).given
     by_copy (Ok tt) = refl
     by_copy (Err r) = refl

@@ -18,10 +18,11 @@ use Rattle.master.specs.Transfers.{is_open, sends, open_protected, opening}
 use Rattle.master.specs.Plan.{waits, waited, entry_due, begun}
 use Rattle.master.specs.Closing.{failed, sent, received}
 use Rattle.master.specs.Tick.{slot_opens, abandoned, opens_or_silent, slot_at, slot, tick_effect}
-use Rattle.master.specs.Byte.{no_response, passed, early, sent_byte, with_byte, checksum_right, accepted, last_byte, received_byte, byte_effect}
+use Rattle.master.specs.Byte.{passed, early, sent_byte, with_byte, checksum_right, accepted, last_byte, received_byte, byte_effect}
 use Rattle.master.specs.State.{with_plan, with_transfer}
 use Rattle.std.specs.Prelude.{Ok}
 use Rattle.std.specs.Prelude.{Some, None, Option}
+use Rattle.master.specs.Answers.{handed}
 
 -- a byte that changes no frame byte
 abbrev pub keeping : Took → List ℕ → Step Took
@@ -30,9 +31,9 @@ keeping r bs = record { given = r; left = bs }
 module _ (t : List ℕ) (s : State) (bs : List ℕ) (b : ℕ) (P : Step Took → Type 0) where
   -- a byte is one of more, the failing one, the last of a sent transfer, or the last of a received one with a right checksum
   pub taken_by :
-      ((nine : List ℕ) → early t s.transfer ≡ true → P (keeping (no_response (passed s nine) (Ok byte.More)) bs))
-      → P (keeping (no_response (failed t s true) (Ok byte.Failure)) bs)
-      → (sends t s.transfer.opened ≡ true → P (keeping (no_response (sent t s) (Ok byte.Success)) bs))
+      ((nine : List ℕ) → early t s.transfer ≡ true → P (keeping (handed (passed s nine) (Ok byte.More)) bs))
+      → P (keeping (handed (failed t s true) (Ok byte.Failure)) bs)
+      → (sends t s.transfer.opened ≡ true → P (keeping (handed (sent t s) (Ok byte.Success)) bs))
       → (sends t s.transfer.opened ≡ false → P (accepted t s s.transfer.opened (with_byte s.transfer b) bs))
       → P (byte_effect t s bs b)
   unfolding byte_effect sent_byte received_byte last_byte

@@ -23,7 +23,6 @@ use Rattle.master.specs.declared.state.Reception.{Reception}
 use Rattle.master.specs.declared.state.State.{State}
 use Rattle.master.specs.Received.{source_of, scalar_from, array_from}
 use Rattle.master.specs.Answers.{Wrote}
-use Rattle.master.specs.declared.read.ArrayAnswer.TheVariants as bytes
 use Rattle.master.specs.Admit.{admitted, buffer_size, Step}
 use Rattle.master.specs.Transfers.{frame_data}
 use Rattle.master.specs.Write.{marked, writable, write_verdict, write_of}
@@ -96,7 +95,7 @@ write_value t x bs s v k =
 pub write_array_value : (t : List ℕ) (x : State) (bs : List ℕ) (s : ℕ) (vs : List ℕ) → Bytes vs
     → (write_of t x bs (put s (array vs))).given.answer ≡ Ok tt
     → read_array_of t (write_of t x bs (put s (array vs))).given.state (write_of t x bs (put s (array vs))).left s
-    ≡ record { answer = bytes.Bytes (length vs); bytes = vs ++ replicate (8 - length vs) 255 }
+    ≡ Ok (record { count = length vs; bytes = vs ++ replicate (8 - length vs) 255 })
 unfolding read_array_of array_from array_read handed_out buffer_size array_fits
 write_array_value t x bs s vs hv k =
     let w = put s (array vs) in

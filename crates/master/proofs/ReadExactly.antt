@@ -17,10 +17,8 @@ use Rattle.cluster.proofs.SomePlacement.{first_low, first_only}
 use Rattle.transport.proofs.Tests.{whether}
 use Rattle.master.specs.declared.state.Reception.{Reception}
 use Rattle.master.specs.declared.state.State.{State}
-use Rattle.master.specs.declared.read.ArrayAnswer.TheVariants as array
-use Rattle.master.specs.declared.read.ReadArray.{ReadArray}
 use Rattle.master.specs.Admit.{answered}
-use Rattle.master.specs.Read.{read_verdict, read_scalar_of, array_answer, read_array_of}
+use Rattle.master.specs.Read.{read_verdict, read_scalar_of, read_array_of}
 use Rattle.master.specs.Received.{last_of, source_of, scalar_from, array_from}
 use Rattle.master.proofs.Answered.{by_verdict}
 use Rattle.master.proofs.Verdicts.{read_table, read_signal}
@@ -115,10 +113,8 @@ module _ (t : List ℕ) (x : State) (bs : List ℕ) (s : ℕ) where
       (λ r v e. let z : ◌≡◌ {A = ℕ} 0 1 = cc in omega arith) (λ u v e. cc)
 
   -- and so does a read of an array
-  pub read_array_exactly : (v : Array) → (read_array_of t x bs s ≡ record { answer = array.Bytes v.count; bytes = v.bytes })
+  pub read_array_exactly : (v : Array) → (read_array_of t x bs s ≡ Ok v)
       ↔ ((read_verdict t (length bs) x s true ≡ Ok tt) × Gives t x.received s (start_read t s) (array_read t bs s) v)
   unfolding read_array_of array_from
-  read_array_exactly = answers true (λ r. record { answer = array.Refused r; bytes = replicate 8 255 }) array_answer (array_from t bs s)
-      (λ r v e. let q = ap (λ (z : ReadArray). z.answer) e in let z : ◌≡◌ {A = ℕ} 0 1 = cc in omega arith)
-      (λ u v e. let p = ap (λ (z : ReadArray). z.answer) e in let c : u.count ≡ v.count = cc in
-      ap (λ (n : ℕ). record { count = n; bytes = u.bytes }) c ∙ ap (λ (z : ReadArray). record { count = v.count; bytes = z.bytes }) e)
+  read_array_exactly = answers true (λ r. Err r) (λ v. Ok v) (array_from t bs s)
+      (λ r v e. let z : ◌≡◌ {A = ℕ} 0 1 = cc in omega arith) (λ u v e. cc)

@@ -22,7 +22,7 @@ use Rattle.master.specs.declared.state.Message.{Message}
 use Rattle.master.specs.declared.state.Message.TheVariants.{None, Sending, Completed, Failed}
 use Rattle.master.specs.declared.state.State.{State}
 use Rattle.master.specs.Answers.{Wrote}
-use Rattle.master.specs.declared.read.ReadArray.{ReadArray}
+use Rattle.master.specs.Answers.{ArrayAnswer}
 use Rattle.master.specs.Answers.{StatusRead}
 use Rattle.master.specs.Answers.{Chosen}
 use Rattle.master.specs.Answers.{Ticked}
@@ -46,7 +46,7 @@ use Rattle.master.specs.Status.{status_of}
 use Rattle.master.specs.Message.{send_verdict, send_of, told, message_of}
 use Rattle.master.specs.Ahead.{ahead_verdict, ahead_of}
 use Rattle.master.specs.Calls as call
-use Rattle.master.specs.Calls.{Call, Reply}
+use Rattle.master.specs.Calls.{Call}
 use Rattle.master.specs.Run.{Held, held, answer_of, left_by}
 use Rattle.master.specs.Step.{verdict_of, effect_of, refusal_of, told_of}
 use Rattle.master.proofs.Admitted.{unless_test, admitted_table, admitted_size, admitted_fits, Fits, fits_clauses, fits_all}
@@ -105,7 +105,7 @@ refused_answer t x (call.read_array s) r e = refuses _ _ _ r e
 refused_answer t x (call.select n) r e = ap (λ (z : Chosen). z.answer) (refuses _ _ _ r e)
 refused_answer t x (call.tick m) r e = ap (λ (z : Ticked). z.answer) (refuses _ _ _ r e)
 refused_answer t x (call.byte_in b) r e =
-    ap (λ (z : Step Took). record { answer = z.given.answer; response = z.given.response }) (refuses _ _ _ r e)
+    ap (λ (z : Step Took). z.given.answer) (refuses _ _ _ r e)
 refused_answer t x call.read_status r e = ap (λ (z : StatusRead). z.answer) (refuses _ _ _ r e)
 refused_answer t x (call.send nad n) r e = ap (λ (z : Sent). z.answer) (refuses _ _ _ r e)
 refused_answer t x call.message_state r e = refuses _ _ _ r e
@@ -118,18 +118,12 @@ accepted_answers t s (opened.Frame f) nine bs r k = let z : ◌≡◌ {A = ℕ} 
 accepted_answers t s opened.Request nine bs r k = let z : ◌≡◌ {A = ℕ} 0 1 = cc in omega arith
 accepted_answers t s opened.Response nine bs r k = let z : ◌≡◌ {A = ℕ} 0 1 = cc in omega arith
 
-told_answers : (m : Message) (r : Refusal) → told m ≡ Err r → ⊥
-told_answers None r k = let z : ◌≡◌ {A = ℕ} 0 1 = cc in omega arith
-told_answers (Sending s) r k = let z : ◌≡◌ {A = ℕ} 0 1 = cc in omega arith
-told_answers Completed r k = let z : ◌≡◌ {A = ℕ} 0 1 = cc in omega arith
-told_answers Failed r k = let z : ◌≡◌ {A = ℕ} 0 1 = cc in omega arith
-
 -- an accepted one answers none
 accepted_answer : (t : List ℕ) (x : Held) (c : Call) (r : Refusal) → verdict_of t x c ≡ Ok tt → answer_of t x c ≡ refusal_of c r → ⊥
 unfolding answer_of verdict_of refusal_of write_of read_scalar_of read_array_of select_of tick_of byte_of status_of send_of message_of ahead_of
 accepted_answer t x (call.write w) r a k = let z = sym (ap (λ (z : Step Wrote). z.given.answer) (goes _ _ _ a)) ∙ k in let y : ◌≡◌ {A = ℕ} 0 1 = cc in omega arith
 accepted_answer t x (call.read s) r a k = let z = sym (goes _ _ _ a) ∙ k in let y : ◌≡◌ {A = ℕ} 0 1 = cc in omega arith
-accepted_answer t x (call.read_array s) r a k = let z = ap (λ (w : ReadArray). w.answer) (sym (goes _ _ _ a) ∙ k) in let y : ◌≡◌ {A = ℕ} 0 1 = cc in omega arith
+accepted_answer t x (call.read_array s) r a k = let z = sym (goes _ _ _ a) ∙ k in let y : ◌≡◌ {A = ℕ} 0 1 = cc in omega arith
 accepted_answer t x (call.select n) r a k = let z = sym (ap (λ (z : Chosen). z.answer) (goes _ _ _ a)) ∙ k in let y : ◌≡◌ {A = ℕ} 0 1 = cc in omega arith
 accepted_answer t x (call.tick m) r a k =
     ticked_by t x.bytes m (λ w. w.answer ≡ Err r → ⊥) x.state
@@ -144,20 +138,20 @@ accepted_answer t x (call.byte_in b) r a k =
     (λ z. let q : ◌≡◌ {A = ℕ} 0 1 = cc in omega arith)
     (λ y z. let q : ◌≡◌ {A = ℕ} 0 1 = cc in omega arith)
     (λ n z. accepted_answers t x.state x.state.transfer.opened (with_byte x.state.transfer b) x.bytes r z)
-    (sym (ap (λ (z : Step Took). z.given.answer) (goes _ _ _ a)) ∙ ap (λ (w : Reply). w.answer) k)
+    (sym (ap (λ (z : Step Took). z.given.answer) (goes _ _ _ a)) ∙ k)
 accepted_answer t x call.read_status r a k = let z = sym (ap (λ (z : StatusRead). z.answer) (goes _ _ _ a)) ∙ k in let y : ◌≡◌ {A = ℕ} 0 1 = cc in omega arith
 accepted_answer t x (call.send nad n) r a k = let z = sym (ap (λ (z : Sent). z.answer) (goes _ _ _ a)) ∙ k in let y : ◌≡◌ {A = ℕ} 0 1 = cc in omega arith
-accepted_answer t x call.message_state r a k = told_answers x.state.message r (sym (goes _ _ _ a) ∙ k)
+accepted_answer t x call.message_state r a k = let z = sym (goes _ _ _ a) ∙ k in let y : ◌≡◌ {A = ℕ} 0 1 = cc in omega arith
 accepted_answer t x (call.number_ahead f) r a k = let z = sym (goes _ _ _ a) ∙ k in let y : ◌≡◌ {A = ℕ} 0 1 = cc in omega arith
 
 same_refusal : (c : Call) (r q : Refusal) → refusal_of c r ≡ refusal_of c q → r ≡ q
 unfolding refusal_of
 same_refusal (call.write w) r q e = cc
 same_refusal (call.read s) r q e = cc
-same_refusal (call.read_array s) r q e = let z = ap (λ (w : ReadArray). w.answer) e in cc
+same_refusal (call.read_array s) r q e = cc
 same_refusal (call.select n) r q e = cc
 same_refusal (call.tick m) r q e = cc
-same_refusal (call.byte_in b) r q e = let z = ap (λ (w : Reply). w.answer) e in cc
+same_refusal (call.byte_in b) r q e = cc
 same_refusal call.read_status r q e = cc
 same_refusal (call.send nad n) r q e = cc
 same_refusal call.message_state r q e = cc
@@ -188,7 +182,7 @@ accepted_told t s (opened.Frame f) nine bs = refl
 accepted_told t s opened.Request nine bs = refl
 accepted_told t s opened.Response nine bs = refl
 
-message_told_lem : (x : Message) → message_told (told x) ≡ gives []
+message_told_lem : (x : Message) → message_told (Ok (told x)) ≡ gives []
 message_told_lem None = refl
 message_told_lem (Sending x) = refl
 message_told_lem Completed = refl
@@ -198,7 +192,7 @@ pub verdict_told_lem : (t : List ℕ) (x : Held) (c : Call) → told_of c (answe
 unfolding told_of answer_of verdict_of values_of opening write_of read_scalar_of read_array_of select_of tick_of byte_of status_of send_of message_of ahead_of
 verdict_told_lem t x (call.write w) = telling (λ (z : Step Wrote). write_told z.given.answer) (write_verdict t (length x.bytes) x.state w) _ _ _ (λ r. refl) refl
 verdict_told_lem t x (call.read s) = telling read_told (read_verdict t (length x.bytes) x.state s false) _ _ _ (λ r. refl) refl
-verdict_told_lem t x (call.read_array s) = telling (λ (z : ReadArray). array_told z.answer) (read_verdict t (length x.bytes) x.state s true) _ _ _ (λ r. refl) refl
+verdict_told_lem t x (call.read_array s) = telling (λ (z : ArrayAnswer). array_told z) (read_verdict t (length x.bytes) x.state s true) _ _ _ (λ r. refl) refl
 verdict_told_lem t x (call.select n) = telling (λ (z : Chosen). select_told z.answer) (select_verdict t x.state n) _ _ _ (λ r. refl) refl
 verdict_told_lem t x (call.tick m) =
     telling (λ (z : Ticked). tick_told z.answer) (tick_verdict t (length x.bytes) (length m) x.state) _ _ _ (λ r. refl)

@@ -52,15 +52,15 @@ StillSending s = ((y : Sending) × (s.message ≡ message.Sending y)) × ¬ (s.t
 -- what a slot with entry e answers, and what is open after it
 pub record SlotSays (t : List ℕ) (s : State) (e : ℕ) (a : TickResult) (o : Opened) : Type 0 where
   -- "Kind 0 opens its frame."
-  pub frame : entry_kind t e ≡ 0 → (a ≡ (Ok Opens) (protected_byte (identifier t (entry_target t e)))) × (o ≡ Frame (entry_target t e))
+  pub frame : entry_kind t e ≡ 0 → (a ≡ Ok (Opens (protected_byte (identifier t (entry_target t e))))) × (o ≡ Frame (entry_target t e))
   -- "Kind 1 opens the first pending member, or is silent."
   pub list : entry_kind t e ≡ 1
-      → ((f : ℕ) × First s.pending (members t (entry_target t e)) f × (a ≡ (Ok Opens) (protected_byte (identifier t f))) × (o ≡ Frame f))
+      → ((f : ℕ) × First s.pending (members t (entry_target t e)) f × (a ≡ Ok (Opens (protected_byte (identifier t f)))) × (o ≡ Frame f))
       ⊎ (NonePending s.pending (members t (entry_target t e)) × (a ≡ Ok Silent) × (o ≡ Nothing))
   -- "Kind 2 opens identifier 60 if a message is being sent, or is silent."
-  pub request : entry_kind t e ≡ 2 → (StillSending s × (a ≡ (Ok Opens) 60) × (o ≡ Request)) ⊎ (¬ StillSending s × (a ≡ Ok Silent) × (o ≡ Nothing))
+  pub request : entry_kind t e ≡ 2 → (StillSending s × (a ≡ Ok (Opens 60)) × (o ≡ Request)) ⊎ (¬ StillSending s × (a ≡ Ok Silent) × (o ≡ Nothing))
   -- "Kind 3 always opens identifier 61": 7D in hexadecimal
-  pub response : entry_kind t e ≡ 3 → (a ≡ (Ok Opens) 125) × (o ≡ Response)
+  pub response : entry_kind t e ≡ 3 → (a ≡ Ok (Opens 125)) × (o ≡ Response)
 
 pub record TickSays (t : List ℕ) (s : State) (r : Ticked) : Type 0 where
   -- "If the wait is above 1, it falls by one and the answer is "waiting"."
@@ -124,7 +124,7 @@ module _ (t bs m : List ℕ) (s : State) (e : ℕ) where
 
   -- what it opens is answered and open
   opened_as_lem : (o : Opened) → is_open o ≡ true → slot_opens t (abandoned t s).pending (abandoned t s).message e ≡ o
-      → (began.answer ≡ (Ok Opens) (open_protected t o)) × (began.state.transfer.opened ≡ o)
+      → (began.answer ≡ Ok (Opens (open_protected t o))) × (began.state.transfer.opened ≡ o)
   unfolding slot_at opens_or_silent opening
   opened_as_lem o y q = rw (q, y) (refl, refl)
 

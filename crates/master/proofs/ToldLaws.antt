@@ -28,7 +28,7 @@ use Rattle.master.specs.Read.{read_verdict, read_scalar_of, read_array_of}
 use Rattle.master.specs.Select.{select_verdict, select_of}
 use Rattle.master.specs.Answers.{Chosen}
 use Rattle.master.specs.Answers.{Wrote}
-use Rattle.master.specs.declared.read.ReadArray.{ReadArray}
+use Rattle.master.specs.Answers.{ArrayAnswer}
 use Rattle.master.specs.Answers.{StatusRead}
 use Rattle.master.specs.Answers.{Ticked}
 use Rattle.master.specs.Answers.{Took}
@@ -170,8 +170,8 @@ pub read_told_lem : (t : List ℕ) (x : State) (bs : List ℕ) (s : ℕ) (r : Re
 unfolding answer_of told_of
 read_told_lem t x bs s r e = (e, rw e (call_told_lem t (held x bs) (call.read s)))
 
-pub read_array_told : (t : List ℕ) (x : State) (bs : List ℕ) (s : ℕ) (r : ReadArray) → r ≡ read_array_of t x bs s
-    → (r ≡ read_array_of t x bs s) × (array_told r.answer ≡ call_told t (held x bs) (call.read_array s))
+pub read_array_told : (t : List ℕ) (x : State) (bs : List ℕ) (s : ℕ) (r : ArrayAnswer) → r ≡ read_array_of t x bs s
+    → (r ≡ read_array_of t x bs s) × (array_told r ≡ call_told t (held x bs) (call.read_array s))
 unfolding answer_of told_of
 read_array_told t x bs s r e = (e, rw e (call_told_lem t (held x bs) (call.read_array s)))
 

@@ -10,6 +10,7 @@ use Rattle.master.specs.declared.state.Opened.{Opened}
 use Rattle.master.specs.declared.state.Opened.TheVariants as opened
 use Rattle.master.specs.declared.state.State.{State}
 use Rattle.master.specs.Answers.{Sent}
+use Rattle.master.specs.declared.send.MessageAnswer.{MessageAnswer}
 use Rattle.master.specs.declared.send.MessageAnswer.TheVariants as tells
 use Rattle.master.specs.State.{with_message}
 use Rattle.master.specs.Fits.{is_sending}
@@ -60,12 +61,12 @@ send_of t s nad n =
     (record { state = with_message s (Sending (record { nad = nad; length = n; next = 0 })); answer = Ok tt })
 
 -- "A public call tells none, sending, completed or failed."
-abbrev pub told : Message → MessageResult
-told None = Ok tells.None
-told (Sending x) = Ok tells.Sending
-told Completed = Ok tells.Completed
-told Failed = Ok tells.Failed
+abbrev pub told : Message → MessageAnswer
+told None = tells.None
+told (Sending x) = tells.Sending
+told Completed = tells.Completed
+told Failed = tells.Failed
 
 -- what the message state answers
 unfoldable pub message_of : List ℕ → State → MessageResult
-message_of t s = answered (admitted t (buffer_size t) s) (λ r. Err r) (told s.message)
+message_of t s = answered (admitted t (buffer_size t) s) (λ r. Err r) (Ok (told s.message))

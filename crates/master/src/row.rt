@@ -78,14 +78,12 @@ fn first_bad(t: &[u16], signals: &[u16], values: &[u32]) -> Result<(), Refusal>
     requires { RightTable t.now × (length signals.now ≡ length values.now) }
     ensures { result ≡ first_bad t.now 0 (puts signals.now values.now) }
 {
-    let mut i: usize = 0;
-    while i < signals.len() {
+    for i in 0..signals.len() {
         let s = signals[i];
         let fits = values_of::scalar_fits(t, s, values[i]);
         if let Err(refusal) = writable(t, s, false, fits) {
             return Err(Refusal::at(refusal.number, i));
         }
-        i += 1;
     }
     Ok(())
 }

@@ -57,8 +57,9 @@ impl State {
         requires { tick_verdict t.now (length bytes.now) (length lent.now) self.old ≡ Ok tt }
         ensures { handed self.new (Ok result) ≡ slot_of t.now bytes.now lent.now self.old }
     {
+        let due = self.plan.due(t);
         *self = self.abandoned(t);
-        match self.plan.due(t) {
+        match due {
             None => TickAnswer::Idle,
             Some(e) => {
                 let opened = slot_opens(t, self.pending, self.message, e);

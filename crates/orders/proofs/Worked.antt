@@ -41,7 +41,7 @@ use Rattle.master.specs.Seq.{Seq, ∅, ◌▹◌, ◌⋈◌}
 use Rattle.master.specs.Calls as call
 use Rattle.master.specs.Calls.{Event, ◌⇒◌}
 use Rattle.master.specs.Run.{answer_of, left_by, held_after}
-use Rattle.master.specs.Replies.{plain}
+use Rattle.master.specs.Replies.{}
 use Rattle.master.specs.Put.{put, scalar, puts}
 use Rattle.master.specs.WriteRow.{first_bad, row_verdict, marked_bits, rewritten_by, with_row, marked_row, row_of}
 use Rattle.orders.specs.Orders.{Order, one, row, Ordered, ◌⇛◌, with_writes, read_order, read_orders}
@@ -74,7 +74,7 @@ abbrev writes : ℕ → ℕ → Event
 writes s v = call.write (put s (scalar v)) ⇒ Ok tt
 
 abbrev more : ℕ → Ordered
-more b = one (call.byte_in b) ⇛ plain (Ok byte.More)
+more b = one (call.byte_in b) ⇛ Ok byte.More
 
 abbrev opens : ℕ → Ordered
 opens p = one (call.tick []) ⇛ Ok (tick.Opened p)
@@ -100,13 +100,13 @@ sending =
     ▹ opens 66
     ▹ (row (0 ∷ []) (5 ∷ []) ⇛ Ok tt)
     ▹ more 250
-    ▹ (one (call.byte_in 194) ⇛ plain (Ok byte.Success))
+    ▹ (one (call.byte_in 194) ⇛ Ok byte.Success)
     ▹ (one (call.number_ahead 1) ⇛ Ok 1)
     ▹ opens 66
     ▹ (row (0 ∷ 0 ∷ []) (1 ∷ 8 ∷ []) ⇛ Err (refused_at 7 1))
     ▹ (row [] [] ⇛ Ok tt)
     ▹ more 253
-    ▹ (one (call.byte_in 191) ⇛ plain (Ok byte.Success))
+    ▹ (one (call.byte_in 191) ⇛ Ok byte.Success)
     ▹ (one (call.number_ahead 1) ⇛ Ok 0)
 
 abbrev answered : Seq Ordered
@@ -127,12 +127,12 @@ history =
     ▹ (call.select 0 ⇒ Ok tt)
     ▹ (call.tick [] ⇒ Ok (tick.Opened 66))
     ▹ writes 0 5
-    ▹ (call.byte_in 250 ⇒ plain (Ok byte.More))
-    ▹ (call.byte_in 194 ⇒ plain (Ok byte.Success))
+    ▹ (call.byte_in 250 ⇒ Ok byte.More)
+    ▹ (call.byte_in 194 ⇒ Ok byte.Success)
     ▹ (call.number_ahead 1 ⇒ Ok 1)
     ▹ (call.tick [] ⇒ Ok (tick.Opened 66))
-    ▹ (call.byte_in 253 ⇒ plain (Ok byte.More))
-    ▹ (call.byte_in 191 ⇒ plain (Ok byte.Success))
+    ▹ (call.byte_in 253 ⇒ Ok byte.More)
+    ▹ (call.byte_in 191 ⇒ Ok byte.Success)
     ▹ (call.number_ahead 1 ⇒ Ok 0)
 
 -- some bytes of a frame, and 255 behind them

@@ -52,7 +52,7 @@ module _ (x : Scheduled) where
       ends (Ok byte.More) e = refl
       ends (Ok byte.Success) e = e
       ends (Ok byte.Failure) e = refl
-      ends (Ok byte.Response) e = e
+      ends (Ok (byte.Response bs)) e = e
       ends (Err r) e = refl
 
       go : (a : Act) → on_byte (λ b c. is_end c) false a ≡ false → on_byte (λ b c. is_success c) false a ≡ false

@@ -40,7 +40,7 @@ use Rattle.master.specs.Calls.{Call, select, write, tick, byte_in}
 use Rattle.master.specs.Run.{answer_of, left_by, held_after, history_of}
 use Rattle.master.specs.Schedule.{slot_begun, none, entry, Scheduled, slot_of, slot_due, plan_with, plan_by, plan_after, schedule, scheduled, slot_after}
 use Rattle.master.specs.History.{writes, frame_named, transfer_named, opens, closes, succeeds, open_after, Succeeded, successes}
-use Rattle.master.specs.Replies.{plain, none_left, one_more}
+use Rattle.master.specs.Replies.{none_left, one_more}
 use Rattle.master.specs.Claim.{record_of, event}
 use Rattle.master.proofs.History.Computed.{rewritten_after, wipes, pending_after}
 use Rattle.master.proofs.History.PendingLaw.{pending_iff}
@@ -77,11 +77,11 @@ abbrev sending : Seq Scheduled
 sending =
     ∅
     ▹ event (tick []) (Ok (Opened 66)) (entry 0) (entry 0)
-    ▹ event (byte_in 7) (plain (Ok More)) none (entry 0)
-    ▹ event (byte_in 182) (plain (Ok Success)) none (entry 0)
+    ▹ event (byte_in 7) (Ok More) none (entry 0)
+    ▹ event (byte_in 182) (Ok Success) none (entry 0)
     ▹ event (tick []) (Ok (Opened 3)) (entry 0) (entry 0)
-    ▹ event (byte_in 5) (plain (Ok More)) none (entry 0)
-    ▹ event (byte_in 247) (plain (Ok Success)) none (entry 0)
+    ▹ event (byte_in 5) (Ok More) none (entry 0)
+    ▹ event (byte_in 247) (Ok Success) none (entry 0)
 
 accepted : (fresh_of table buffer).given.answer ≡ Ok tt
 unfolding fresh_of fresh_verdict buffer_size taken_of judged faults surplus words_right front_right back_right placement_right earlier_placement again mixed sticks_out all_placed placed_signals placement_count placement_signal placement_frame placement_offset

@@ -22,12 +22,12 @@ unfoldable pub first_with : (ℕ → Bool) → List ℕ → Opened
 first_with p [] = Nothing
 first_with p (f ∷ fs) = cond (p f) (Frame f) (first_with p fs)
 
--- what a tick answers where its slot (Ok opens) something or nothing
+-- what a tick answers where its slot opens something or nothing
 abbrev pub answer_for : List ℕ → Opened → TickResult
 answer_for t Nothing = Ok Silent
-answer_for t (Frame f) = (Ok opens) (protected_byte (identifier t f))
-answer_for t Request = (Ok opens) (protected_byte 60)
-answer_for t Response = (Ok opens) (protected_byte 61)
+answer_for t (Frame f) = Ok (opens (protected_byte (identifier t f)))
+answer_for t Request = Ok (opens (protected_byte 60))
+answer_for t Response = Ok (opens (protected_byte 61))
 
 -- the first pending member of a list, by bits that say what p says
 pub first_pending_lem : (bits : List Bool) (p : ℕ → Bool) → ((f : ℕ) → get_or bits f false ≡ p f) → (fs : List ℕ) → first_pending bits fs ≡ first_with p fs

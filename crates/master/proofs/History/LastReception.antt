@@ -151,7 +151,7 @@ module _ (t : List ℕ) (h : Seq Scheduled) (f : ℕ) (op : open_after t h ≡ F
   came (call.byte_in b ⇒ r) e y =
       whether (ltb (length (got_after h)) (frame_length t f))
       (λ l.
-      let q : r.answer ≡ (Ok byte.More) = ap (λ z. z.answer) e ∙ rw (op, p, l) in
+      let q : r ≡ Ok byte.More = e ∙ rw (op, p, l) in
       let n = rw q at y in
       let z : ◌≡◌ {A = ℕ} 0 1 = cc in absurd (omega arith))
       (λ l. omega (arith, ltb-false (length (got_after h)) (frame_length t f) l))

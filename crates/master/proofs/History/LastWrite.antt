@@ -130,7 +130,7 @@ byte_wrote : (b : ℕ) (a : ByteResult) (r : ℕ) (v : Value) → ¬ (byte_act b
 byte_wrote b (Ok byte.More) r v e = let z : ◌≡◌ {A = ℕ} 0 1 = cc in omega arith
 byte_wrote b (Ok byte.Success) r v e = let z : ◌≡◌ {A = ℕ} 0 1 = cc in omega arith
 byte_wrote b (Ok byte.Failure) r v e = let z : ◌≡◌ {A = ℕ} 0 1 = cc in omega arith
-byte_wrote b (Ok byte.Response) r v e = let z : ◌≡◌ {A = ℕ} 0 1 = cc in omega arith
+byte_wrote b (Ok (byte.Response bs)) r v e = let z : ◌≡◌ {A = ℕ} 0 1 = cc in omega arith
 byte_wrote b (Err q) r v e = let z : ◌≡◌ {A = ℕ} 0 1 = cc in omega arith
 
 select_wrote : (n : ℕ) (a : SelectAnswer) (r : ℕ) (v : Value) → ¬ (select_act n a ≡ wrote r v)
@@ -165,7 +165,7 @@ call_allowed t x (call.read s) r v e = let z : ◌≡◌ {A = ℕ} 0 1 = cc in a
 call_allowed t x (call.read_array s) r v e = let z : ◌≡◌ {A = ℕ} 0 1 = cc in absurd (omega arith)
 call_allowed t x (call.select n) r v e = absurd (select_wrote n (answer_of t x (call.select n)) r v e)
 call_allowed t x (call.tick m) r v e = absurd (tick_wrote m (answer_of t x (call.tick m)) r v e)
-call_allowed t x (call.byte_in b) r v e = absurd (byte_wrote b (answer_of t x (call.byte_in b)).answer r v e)
+call_allowed t x (call.byte_in b) r v e = absurd (byte_wrote b (answer_of t x (call.byte_in b)) r v e)
 call_allowed t x call.read_status r v e = absurd (status_wrote (answer_of t x call.read_status) r v e)
 call_allowed t x (call.send nad n) r v e = absurd (send_wrote nad n (answer_of t x (call.send nad n)) r v e)
 call_allowed t x call.message_state r v e = let z : ◌≡◌ {A = ℕ} 0 1 = cc in absurd (omega arith)

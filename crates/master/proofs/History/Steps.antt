@@ -7,12 +7,11 @@ use native.Mathlib.Omega.{arith}
 use lib.ListN.{length, replicate}
 use Rattle.refusal.specs.declared.Refusal.{Refusal}
 use Rattle.refusal.specs.Numbers as number
-use Rattle.cluster.specs.Check.{TakenTable, RightTable}
+use Rattle.cluster.specs.Check.{TakenTable, RightTable, Verdict}
 use Rattle.cluster.specs.declared.values.Array.{Array}
 use Rattle.transport.proofs.Tests.{whether}
 use Rattle.master.specs.declared.state.State.{State}
 use Rattle.master.specs.Answers.{Wrote}
-use Rattle.master.specs.declared.read.ArrayAnswer.TheVariants as bytes
 use Rattle.master.specs.Answers.{Chosen}
 use Rattle.master.specs.declared.tick.TickAnswer.TheVariants as tick
 use Rattle.master.specs.Answers.{Ticked}
@@ -37,7 +36,7 @@ use Rattle.master.specs.Acts.{nothing, act_of}
 use Rattle.master.specs.Schedule.{slot_begun, Scheduled, schedule}
 use Rattle.master.specs.Answering.{message_after, counted_after, bytes_after, read_from, scalar_read, array_given}
 use Rattle.master.specs.Received.{source_of, scalar_from, array_from}
-use Rattle.master.specs.Replies.{put_number, Replies, read_number, select_number, send_number, write_reply, read_reply, read_array_reply, select_reply, send_reply, byte_reply, plain, lent_right}
+use Rattle.master.specs.Replies.{put_number, Replies, read_number, select_number, send_number, write_reply, read_reply, read_array_reply, select_reply, send_reply, byte_reply, lent_right}
 use Rattle.master.proofs.Tests.{never}
 use Rattle.master.proofs.Admitted.{admits, fits_clauses, fits_all, unless_test}
 use Rattle.master.proofs.Answered.{by_verdict, writable_signal}
@@ -63,7 +62,7 @@ use Rattle.master.specs.Write.{is_bytes, fits_signal}
 use Rattle.std.specs.Prelude.{Ok, Err}
 
 -- an accepted call is not refused
-refused_never : {A : Type 0} (q : Refusal) → Ok tt ≡ Err q → A
+refused_never : {A : Type 0} (q : Refusal) → ◌≡◌ {A = Verdict} (Ok tt) (Err q) → A
 refused_never q e = let z : ◌≡◌ {A = ℕ} 0 1 = cc in absurd (omega arith)
 
 module _ (t : List ℕ) (is-taken : TakenTable t) (h : Seq Scheduled) (x : Held) (is : Agrees t h x) where
@@ -141,8 +140,8 @@ module _ (t : List ℕ) (is-taken : TakenTable t) (h : Seq Scheduled) (x : Held)
   step_read_array r =
       let a = array_from t x.bytes r (source_of t s.received r) in
       step_nothing (call.read_array r) (read_array_of t s x.bytes r) refl
-      (reply_is (read_number t r true) (λ q. record { answer = bytes.Refused q; bytes = replicate 8 255 })
-      (record { answer = bytes.Bytes a.count; bytes = a.bytes })
+      (reply_is (read_number t r true) (λ q. Err q)
+      (Ok a)
       (read_verdict t (length x.bytes) s r true) (read_inner r true)
       ∙ ap (λ (w : Array). read_array_reply (read_number t r true) w) (array_same r))
 
@@ -217,9 +216,9 @@ module _ (t : List ℕ) (is-taken : TakenTable t) (h : Seq Scheduled) (x : Held)
   step_byte b =
       let o = is_open s.transfer.opened in
       let inner : byte_verdict t (length x.bytes) s ≡ unless o number.no_transfer (Ok tt) = rw lent_admitted in
-      by_verdict (λ (z : Step Took). Stepped t h (call.byte_in b) (record { answer = z.given.answer; response = z.given.response }) (held z.given.state z.left))
+      by_verdict (λ (z : Step Took). Stepped t h (call.byte_in b) (z.given.answer) (held z.given.state z.left))
       (byte_verdict t (length x.bytes) s) _ _
-      (λ q e. step_nothing (call.byte_in b) (plain (Err q)) refl
+      (λ q e. step_nothing (call.byte_in b) (Err q) refl
       (whether o
       (λ l. refused_never q (rw l at (sym inner ∙ e)))
       (λ l. let z : Err (number.refused number.no_transfer) ≡ Err q = rw l at (sym inner ∙ e) in

@@ -20,7 +20,7 @@ use Rattle.master.specs.History.{is_transfer, data_of, checksum_over}
 use Rattle.master.specs.Answering.{sent_on, message_closed, protected_of}
 use Rattle.master.specs.Replies.{is_being_sent, message_reply, lent_right}
 use Rattle.master.proofs.Tests.{never}
-use Rattle.std.specs.Prelude.{Some, None, Option}
+use Rattle.std.specs.Prelude.{Some, None, Option, Ok}
 
 -- ---- transfers
 
@@ -96,7 +96,7 @@ lent_right_lem (message.Sending x) n = refl
 lent_right_lem message.Completed n = refl
 lent_right_lem message.Failed n = refl
 
-pub message_told_lem : (x : Message) → told x ≡ message_reply x
+pub message_told_lem : (x : Message) → Ok (told x) ≡ message_reply x
 message_told_lem message.None = refl
 message_told_lem (message.Sending x) = refl
 message_told_lem message.Completed = refl

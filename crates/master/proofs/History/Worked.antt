@@ -24,7 +24,6 @@ use Rattle.cluster.specs.Fresh.{array_length, start_at, put_start, filled, fresh
 use Rattle.cluster.specs.Values.{touches, first_placement, signal_published, value_fits, array_fits, scalar_at, array_at, with_scalar, with_array, handed_out, array_read, start_read}
 use Rattle.transport.specs.Cutting as cutting
 use Rattle.transport.specs.Reassembly as lent
-use Rattle.master.specs.declared.read.ArrayAnswer.TheVariants as array
 use Rattle.master.specs.declared.tick.TickAnswer.TheVariants as tick
 use Rattle.master.specs.declared.byte.ByteAnswer.TheVariants as byte
 use Rattle.master.specs.declared.send.MessageAnswer.TheVariants as message
@@ -46,7 +45,7 @@ use Rattle.master.specs.Seq.{Seq, ∅, ◌▹◌, ◌⋈◌}
 use Rattle.master.specs.Calls as call
 use Rattle.master.specs.Calls.{Call, Event, ◌⇒◌}
 use Rattle.master.specs.Run.{answer_of, left_by, held_after, history_of}
-use Rattle.master.specs.Replies.{plain}
+use Rattle.master.specs.Replies.{}
 use Rattle.master.specs.Claim.{calls_of}
 use Rattle.master.specs.Put.{put, scalar, array}
 use Rattle.std.specs.Prelude.{Ok, Err}
@@ -94,10 +93,10 @@ abbrev writes_bytes : ℕ → List ℕ → Event
 writes_bytes s vs = call.write (put s (array vs)) ⇒ Ok tt
 
 abbrev more : ℕ → Event
-more b = call.byte_in b ⇒ plain (Ok byte.More)
+more b = call.byte_in b ⇒ Ok byte.More
 
 abbrev succeeds : ℕ → Event
-succeeds b = call.byte_in b ⇒ plain (Ok byte.Success)
+succeeds b = call.byte_in b ⇒ Ok byte.Success
 
 abbrev opens : List ℕ → ℕ → Event
 opens m p = call.tick m ⇒ Ok (tick.Opened p)
@@ -164,7 +163,7 @@ failing =
     ∅
     ▹ opens lent_message 216
     ▹ more 255
-    ▹ (call.byte_in 1 ⇒ plain (Ok byte.Failure))
+    ▹ (call.byte_in 1 ⇒ Ok byte.Failure)
     ▹ (call.read_status ⇒ Ok 55303)
 
 -- the other schedule begins at the next slot: its list has nothing pending, and then the response, 7D, which a write does not touch
@@ -184,7 +183,7 @@ responding =
     ▹ more 3
     ▹ more 255
     ▹ more 255
-    ▹ (call.byte_in 176 ⇒ record { answer = Ok byte.Response; response = 5 ∷ 3 ∷ 65 ∷ 1 ∷ 2 ∷ 3 ∷ 255 ∷ 255 ∷ [] })
+    ▹ (call.byte_in 176 ⇒ Ok (byte.Response (5 ∷ 3 ∷ 65 ∷ 1 ∷ 2 ∷ 3 ∷ 255 ∷ 255 ∷ [])))
     ▹ (call.read_status ⇒ Ok 32002)
 
 -- frame 1 with the bytes of the last write; then none is pending ahead of frame 0; frame 2 gets no response, which counts for nothing
@@ -227,12 +226,12 @@ ending =
     ▹ more 252
     ▹ more 200
     ▹ succeeds 146
-    ▹ (call.read_array 1 ⇒ record { answer = array.Bytes 3; bytes = 4 ∷ 5 ∷ 6 ∷ 255 ∷ 255 ∷ 255 ∷ 255 ∷ 255 ∷ [] })
+    ▹ (call.read_array 1 ⇒ Ok (record { count = 3; bytes = 4 ∷ 5 ∷ 6 ∷ 255 ∷ 255 ∷ 255 ∷ 255 ∷ 255 ∷ [] }))
     ▹ (call.read 0 ⇒ Ok 100)
     ▹ (call.read 1 ⇒ Err (refused 6))
     ▹ (call.write (put 2 (scalar 1)) ⇒ Err (refused 5))
     ▹ (call.number_ahead 2 ⇒ Err (refused 4))
-    ▹ (call.byte_in 0 ⇒ plain (Err (refused 8)))
+    ▹ (call.byte_in 0 ⇒ (Err (refused 8)))
     ▹ (call.send 5 0 ⇒ Err (refused 9))
     ▹ (call.read_status ⇒ Ok 2054)
 
