@@ -12,21 +12,27 @@ use Rattle.buslog.specs.Row.{digits_of, decimal_of, shown_identifier, word, row_
 use Rattle.buslog.specs.Lines.{whole_lines}
 use Rattle.buslog.specs.Report.{fronted, reportable, reported_lines, reporting, reported_by, reported, Leaves}
 use Rattle.buslog.specs.Parts.{verdict_text}
-use Rattle.std.specs.Prelude.{Err}
 use Rattle.cluster.specs.Check.{Verdict}
+use Rattle.std.specs.Prelude.{Result}
+use Rattle.refusal.specs.declared.Refusal.{Refusal}
+use Rattle.std.specs.declared.result.Result.TheVariants as result
 
 module _ (t : List ℕ) (n room : ℕ) (text : List ℕ) where
-  put_by : (v : Verdict) → (reported_by v t n room text).report.put ≡ length (reported_by v t n room text).rows
+  abbrev put_of : Result Written Refusal → ℕ
+  put_of (result.Ok w) = w.put
+  put_of (result.Err r) = 0
+
+  put_by : (v : Verdict) → put_of (reported_by v t n room text).report ≡ length (reported_by v t n room text).rows
   unfolding reported_by reporting
-  put_by (Ok tt) = refl
-  put_by (Err r) = refl
+  put_by (result.Ok tt) = refl
+  put_by (result.Err r) = refl
 
   -- the rows that were put are within the buffer
-  pub put_within : (before : List ℕ) (r : Written) (after : List ℕ) → Leaves (reported t n room text) before r after → r.put ≤ length after
+  pub put_within : (before : List ℕ) (r : Written) (after : List ℕ) → Leaves (reported t n room text) before (result.Ok r) after → r.put ≤ length after
   unfolding reported fronted
   put_within before r after l =
       let rows = (reported_by (taken_of t) t n room text).rows in
-      omega (arith, ap (λ (w : Written). w.put) l.handed, put_by (taken_of t), ap length l.left, length-append rows (drop (length rows) before))
+      omega (arith, ap put_of l.handed, put_by (taken_of t), ap length l.left, length-append rows (drop (length rows) before))
 
 -- ---- a buffer with room for every line
 

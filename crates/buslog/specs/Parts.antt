@@ -2,7 +2,6 @@
 use Rattle.std.specs.Prelude.{◌≡◌, ℕ, ◌+◌, ◌≤◌, cond, List, [], ◌∷◌, ◌++◌, length, take, slice_index}
 use Rattle.buslog.specs.declared.pairs.Pairs.{Pairs}
 use Rattle.buslog.specs.declared.judge.Verdict.{Verdict}
-use Rattle.buslog.specs.declared.report.Answer.TheVariants.{Reported}
 use Rattle.buslog.specs.declared.report.Written.{Written}
 use Rattle.buslog.specs.Pairs.{is_pair, pair_byte, line_bytes}
 use Rattle.buslog.specs.Row.{shown_identifier, word}
@@ -22,4 +21,4 @@ verdict_text v = 32 ∷ shown_identifier v ++ (32 ∷ word v ++ (10 ∷ []))
 
 -- the report of what was reported
 unfoldable pub so_far : ℕ → ℕ → ℕ → Written
-so_far lines used put = record { answer = Reported; lines = lines; used = used; put = put }
+so_far lines used put = record { lines = lines; used = used; put = put }

@@ -10,7 +10,7 @@ use crate::pairs;
 use cluster::frames;
 use refusal::Refusal;
 use wire::checksum::Model;
-use wire::{Answer, checksum, identifier};
+use wire::{checksum, identifier};
 
 // The verdicts in the order in which they apply, with the identifier where there is one.
 #[derive(Clone, Copy)]
@@ -23,22 +23,13 @@ pub enum Verdict {
     Ok(u8),
 }
 
-// What the judge answers: the verdict, or refusal 1 for the table.
-#[derive(Clone, Copy)]
-pub enum Judged {
-    Line(Verdict),
-    Refused(Refusal),
-}
-
 // Judges a line, without its newline, under a table.
-pub fn judge(t: &[u16], line: &[u8]) -> Judged
+pub fn judge(t: &[u16], line: &[u8]) -> Result<Verdict, Refusal>
     ensures value { result ≡ judge_of t.now line.now }
     ensures told { judged_told result ≡ behind_table (taken_of t.now) (gives (verdict_values (line_verdict t.now line.now))) }
 {
-    match cluster::taken(t) {
-        cluster::Verdict::Refused(refusal) => Judged::Refused(refusal),
-        cluster::Verdict::Accepted => Judged::Line(of_line(t, line)),
-    }
+    cluster::taken(t)?;
+    Ok(of_line(t, line))
 }
 
 // The verdict on a line under an accepted table.
@@ -61,8 +52,8 @@ fn of_bytes(t: &[u16], bytes: &[u8]) -> Verdict
     ensures { result ≡ bytes_verdict t.now bytes.now }
 {
     match identifier::read(bytes[0]) {
-        Answer::Refused(_) => Verdict::Parity,
-        Answer::Byte(id) => of_identifier(t, id, &bytes[1..]),
+        Err(_) => Verdict::Parity,
+        Ok(id) => of_identifier(t, id, &bytes[1..]),
     }
 }
 
@@ -91,13 +82,8 @@ fn of_known(id: u8, length: u16, wish: Model, rest: &[u8]) -> Verdict
         return Verdict::Length(id);
     }
     match checksum::of(id, wish, &rest[..n]) {
-        Answer::Byte(sum) => {
-            if rest[n] == sum {
-                return Verdict::Ok(id);
-            }
-            Verdict::Checksum(id)
-        }
-        Answer::Refused(_) => Verdict::Checksum(id),
+        Ok(sum) if rest[n] == sum => Verdict::Ok(id),
+        _ => Verdict::Checksum(id),
     }
 }
 

@@ -137,7 +137,7 @@ fn whole_lines(rt: HostRuntime, log: Log, text: &mut [u8], n: usize, out: &mut [
     ensures { Reports log (take n text.old) out.old result text.new out.new }
 {
     let table = table();
-    let written = report::write(&table, log.number, &text[..n], out);
+    let written = report::write(&table, log.number, &text[..n], out).unwrap();
     let put = written.put;
     let goes_on = write_out(rt, &out[..put]);
     Log {
