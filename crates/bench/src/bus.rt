@@ -14,7 +14,7 @@ pub(crate) fn answer(line: &[u8], desk: &Desk) -> Reply {
     let n = byte(desk[NUMBERS]);
     match desk[FORM] {
         Form::PID => Reply::made(Text::PID, identifier::build(n)),
-        Form::ID => Reply::identifier(identifier::read(n)),
+        Form::ID => Reply::made(Text::ID, identifier::read(n)),
         Form::CLASSIC => sum(n, Model::Classic, line, size(desk[LIST])),
         _ => sum(n, Model::Enhanced, line, size(desk[LIST])),
     }

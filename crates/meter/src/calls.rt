@@ -1,135 +1,79 @@
 // The calls: a master made ready, then for each letter a tick (T), a row (R), its single writes (W), or else a byte in.
 use crate::row;
 use crate::row::VALUES;
-use cluster::Limits;
 use master::byte::ByteAnswer;
 use master::state::{State, Transfer};
 use master::tick::TickAnswer;
 use refusal::Refusal;
 
-// The state behind a call, and its answer as a number.
-#[derive(Clone, Copy)]
-pub(crate) struct Done {
-    pub(crate) state: State,
-    pub(crate) code: u64,
-}
-
 // Starts, selects schedule 0, writes, makes the calls, and gives the digest of their answers and of what they left.
 pub(crate) fn all(t: &[u16], bytes: &mut [u8], letters: &[u8]) -> u64 {
-    let started = State::start(t, bytes);
-    let state = started.state;
-    let chosen = state.select(t, 0);
-    let ready = written(chosen.state, t, bytes);
+    let mut state = State::start(t, bytes).unwrap_or(State::fresh());
+    let _ = state.select(t, 0);
+    write_six(&mut state, t, bytes);
     let mut numbers = [0u16; VALUES];
     let mut values = [0u32; VALUES];
     row::build(t, &mut numbers, &mut values);
-    each(ready, t, bytes, letters, &numbers, &values)
+    let mut digest: u64 = 0;
+    for &letter in letters {
+        let code = call(&mut state, t, bytes, letter, &numbers, &values);
+        digest = folded(digest, code);
+    }
+    with_left(digest, &state, bytes)
 }
 
 // Six scalars are written, each in two frames, so that ten of the fifteen lists have a pending frame.
-fn written(ready: State, t: &[u16], bytes: &mut [u8]) -> State {
-    let mut state = ready;
-    let mut s: u16 = 14;
-    while s < 60 {
-        state = write(state, t, bytes, s);
-        s += 8;
+fn write_six(state: &mut State, t: &[u16], bytes: &mut [u8]) {
+    for s in [14, 22, 30, 38, 46, 54] {
+        let _ = state.write(t, bytes, s, 42);
     }
-    state
 }
 
-fn write(state: State, t: &[u16], bytes: &mut [u8], s: u16) -> State {
-    let wrote = state.write(t, bytes, s, 42);
-    wrote.state
-}
-
-// A call for each letter.
-fn each(
-    ready: State,
-    t: &[u16],
-    bytes: &mut [u8],
-    letters: &[u8],
-    numbers: &[u16; VALUES],
-    values: &[u32; VALUES],
-) -> u64 {
-    let mut state = ready;
-    let mut digest: u64 = 0;
-    let mut i: usize = 0;
-    while i < letters.len() {
-        let letter = letters[i];
-        i += 1;
-        let done = call(state, t, bytes, letter, numbers, values);
-        digest = folded(digest, done.code);
-        state = done.state;
-    }
-    with_left(digest, state, bytes)
-}
-
+// The call of a letter, and its answer as a number.
 fn call(
-    state: State,
+    state: &mut State,
     t: &[u16],
     bytes: &mut [u8],
     letter: u8,
     numbers: &[u16; VALUES],
     values: &[u32; VALUES],
-) -> Done {
-    if letter == b'T' {
-        return tick(state, t, bytes);
-    }
-    if letter == b'R' {
-        return row::write(state, t, bytes, numbers, values);
-    }
-    if letter == b'W' {
-        return row::write_singly(state, t, bytes, numbers, values);
-    }
-    byte_in(state, t, bytes)
-}
-
-fn tick(state: State, t: &[u16], bytes: &[u8]) -> Done {
-    let lent = [0u8; 1];
-    let ticked = state.tick(t, bytes, &lent[0..0]);
-    let answer = ticked.answer;
-    let next = ticked.state;
-    Done {
-        state: next,
-        code: tick_code(answer),
+) -> u64 {
+    match letter {
+        b'T' => tick_code(state.tick(t, bytes, &[])),
+        b'R' => row::write(state, t, bytes, numbers, values),
+        b'W' => row::write_singly(state, t, bytes, numbers, values),
+        _ => {
+            let b = due(state.transfer);
+            byte_code(state.byte_in(t, bytes, b))
+        }
     }
 }
 
-// The byte in is the one that is due in the open copy.
-fn byte_in(state: State, t: &[u16], bytes: &mut [u8]) -> Done {
-    let transfer = state.transfer;
-    let took = state.byte_in(t, bytes, due(transfer));
-    let answer = took.answer;
-    let next = took.state;
-    Done {
-        state: next,
-        code: byte_code(answer),
-    }
-}
-
+// The byte that is due in the open copy.
 fn due(transfer: Transfer) -> u8 {
-    let copy = transfer.bytes;
-    let i = transfer.count as usize;
-    if i < 9 { copy[i] } else { 0 }
-}
-
-fn tick_code(answer: TickAnswer) -> u64 {
-    match answer {
-        TickAnswer::Waiting => 0,
-        TickAnswer::Idle => 1,
-        TickAnswer::Silent => 2,
-        TickAnswer::Opened(id) => 256 + id as u64,
-        TickAnswer::Refused(refusal) => refused(refusal),
+    match transfer.bytes.get(transfer.count as usize) {
+        Some(&byte) => byte,
+        None => 0,
     }
 }
 
-fn byte_code(answer: ByteAnswer) -> u64 {
+fn tick_code(answer: Result<TickAnswer, Refusal>) -> u64 {
     match answer {
-        ByteAnswer::More => 3,
-        ByteAnswer::Success => 4,
-        ByteAnswer::Failure => 5,
-        ByteAnswer::Response => 6,
-        ByteAnswer::Refused(refusal) => refused(refusal),
+        Ok(TickAnswer::Waiting) => 0,
+        Ok(TickAnswer::Idle) => 1,
+        Ok(TickAnswer::Silent) => 2,
+        Ok(TickAnswer::Opened(id)) => 256 + id as u64,
+        Err(refusal) => refused(refusal),
+    }
+}
+
+fn byte_code(answer: Result<ByteAnswer, Refusal>) -> u64 {
+    match answer {
+        Ok(ByteAnswer::More) => 3,
+        Ok(ByteAnswer::Success) => 4,
+        Ok(ByteAnswer::Failure) => 5,
+        Ok(ByteAnswer::Response(_)) => 6,
+        Err(refusal) => refused(refusal),
     }
 }
 
@@ -138,37 +82,27 @@ pub(crate) fn refused(refusal: Refusal) -> u64 {
 }
 
 // The digest with what the calls left: the last transfer counted, the frame bytes and the pending bits.
-fn with_left(digest: u64, state: State, bytes: &[u8]) -> u64 {
-    let status = state.status;
-    let pending = state.pending;
-    let last = folded(digest, status.last as u64);
-    with_pending(with_bytes(last, bytes), pending)
+fn with_left(digest: u64, state: &State, bytes: &[u8]) -> u64 {
+    let last = folded(digest, state.status.last as u64);
+    with_pending(with_bytes(last, bytes), &state.pending)
 }
 
 // The digest with the frame bytes.
 fn with_bytes(digest: u64, bytes: &[u8]) -> u64 {
     let mut next = digest;
-    let mut i: usize = 0;
-    while i < bytes.len() {
-        next = with_byte(next, bytes[i]);
-        i += 1;
+    for &byte in bytes {
+        next = folded(next, byte as u64);
     }
     next
 }
 
-fn with_byte(digest: u64, byte: u8) -> u64 {
-    folded(digest, byte as u64)
-}
-
 // The digest with the numbers of the pending frames.
-fn with_pending(digest: u64, pending: [bool; Limits::FRAMES]) -> u64 {
+fn with_pending(digest: u64, pending: &[bool]) -> u64 {
     let mut next = digest;
-    let mut f: usize = 0;
-    while f < Limits::FRAMES {
-        if pending[f] {
+    for (f, &is_pending) in pending.iter().enumerate() {
+        if is_pending {
             next = folded(next, f as u64);
         }
-        f += 1;
     }
     next
 }

@@ -1,10 +1,10 @@
 // A row of twenty values: written as one, and by single writes.
 ghost use Rattle.std.specs.Prelude.{◌≤◌};
 
-use crate::calls::{Done, refused};
+use crate::calls::refused;
 use cluster::{frames, signals};
 use master::state::State;
-use master::write::WriteAnswer;
+use refusal::Refusal;
 
 // The values of the row.
 pub(crate) const VALUES: usize = 20;
@@ -14,12 +14,10 @@ pub(crate) const VALUES: usize = 20;
 pub(crate) fn build(t: &[u16], numbers: &mut [u16; VALUES], values: &mut [u32; VALUES]) {
     let step = frames::count(t) / 5;
     let mut s: u16 = 0;
-    let mut i: usize = 0;
-    while i < VALUES {
+    for i in 0..VALUES {
         numbers[i] = s;
         values[i] = opposite(signals::start(t, s));
         s = (s % 256 + step) % 256;
-        i += 1;
     }
 }
 
@@ -38,61 +36,35 @@ fn length(t: &[u16], most: usize) -> usize
 
 // Writes the row.
 pub(crate) fn write(
-    state: State,
+    state: &mut State,
     t: &[u16],
     bytes: &mut [u8],
     numbers: &[u16],
     values: &[u32],
-) -> Done {
+) -> u64 {
     let n = length(t, numbers.len());
     let m = length(t, values.len());
-    let wrote = state.write_row(t, bytes, &numbers[..n], &values[..m]);
-    let answer = wrote.answer;
-    let next = wrote.state;
-    Done {
-        state: next,
-        code: code_of(answer),
-    }
+    code_of(state.write_row(t, bytes, &numbers[..n], &values[..m]))
 }
 
 // Writes the values of the row one by one; the code is the largest.
 pub(crate) fn write_singly(
-    ready: State,
+    state: &mut State,
     t: &[u16],
     bytes: &mut [u8],
     numbers: &[u16; VALUES],
     values: &[u32; VALUES],
-) -> Done {
-    let mut state = ready;
+) -> u64 {
     let mut code: u64 = 0;
-    let mut i: usize = 0;
-    while i < VALUES {
-        let done = write_one(state, t, bytes, numbers[i], values[i]);
-        code = larger(code, done.code);
-        state = done.state;
-        i += 1;
+    for (&s, &v) in numbers.iter().zip(values) {
+        code = code.max(code_of(state.write(t, bytes, s, v)));
     }
-    Done { state, code }
+    code
 }
 
-// Writes one value.
-fn write_one(state: State, t: &[u16], bytes: &mut [u8], s: u16, v: u32) -> Done {
-    let wrote = state.write(t, bytes, s, v);
-    let answer = wrote.answer;
-    let next = wrote.state;
-    Done {
-        state: next,
-        code: code_of(answer),
-    }
-}
-
-fn code_of(answer: WriteAnswer) -> u64 {
+fn code_of(answer: Result<(), Refusal>) -> u64 {
     match answer {
-        WriteAnswer::Written => 7,
-        WriteAnswer::Refused(refusal) => refused(refusal),
+        Ok(()) => 7,
+        Err(refusal) => refused(refusal),
     }
-}
-
-fn larger(a: u64, b: u64) -> u64 {
-    if a < b { b } else { a }
 }
