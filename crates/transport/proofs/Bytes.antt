@@ -5,7 +5,7 @@ use native.Mathlib.Nat.{add_assoc}
 use native.Mathlib.Numerals.{add-one}
 use mathlib.Core.Path.{◌≡◌, refl, sym, ◌∙◌}
 use mathlib.Core.List.{List, [], ◌∷◌, ◌++◌, append-nil}
-use borrow.Rule.Slice.PartMut.{put_mid}
+use borrow.Rule.Slice.PartMut.{put_mid, mid_of}
 use lib.ListN.{length-drop, length, get_or, take, drop, set, drop_of_length-le}
 use lib.Seq.{drop-drop, drop-cons, set_at, length-take-le, take-suc, append_snoc, take-length}
 use Rattle.transport.specs.Reassembly.{written}
@@ -36,6 +36,13 @@ copy_turn to₀ from to i h h₀ q =
 pub copy_all : (to₀ from to : List ℕ) (i : ℕ) → i ≡ length from → length to₀ ≡ length from → to ≡ take i from ++ drop i to₀ → to ≡ from
 copy_all to₀ from to i h e q =
     q ∙ rw (h, take-length from, drop_of_length-le to₀ {i = length from} (omega arith)) (append-nil from)
+
+-- the bytes of a list between two places
+pub part : (f : List ℕ) (from n : ℕ) → mid_of from (from + n - from) f ≡ take n (drop from f)
+part f from n = let e : from + n - from ≡ n = omega arith in rw e
+
+pub part_length : (f : List ℕ) (from n : ℕ) → from + n ≤ length f → length (mid_of from (from + n - from) f) ≡ n
+part_length f from n h = rw (part f from n) (length-take-le n (drop from f) (simp length-drop (omega arith)))
 
 -- the part of a buffer that was lent to take n bytes of a frame, put back
 pub delivered : (b f ys : List ℕ) (at from n : ℕ) → from + n ≤ length f → ys ≡ take (from + n - from) (drop from f)

@@ -2,63 +2,33 @@
 ghost use Rattle.std.specs.Prelude.{◌≡◌, [], ◌∷◌, ◌≤◌, length, get_or};
 ghost use Rattle.refusal.specs.Answers.{test, first_failing};
 ghost use Rattle.transport.specs.Answers.{count_told, cut_told};
-ghost use Rattle.transport.specs.Cutting.{longest, is_length, count_of, cut_of, without_frame, message_frames};
+ghost use Rattle.transport.specs.Cutting.{longest, is_length, count_of, cut_of, message_frames};
 ghost use Rattle.transport.specs.Cutting.{message_frame, single_frame, first_frame, next_frame, data_bytes};
 
 use crate::reassembly::Assembly;
 use refusal::Refusal;
 
-// What is answered for a length: the number of frames, or refusal 9.
-#[derive(Clone, Copy)]
-pub enum Counted {
-    Frames(u16),
-    Refused(Refusal),
-}
-
-// What is answered for a frame's number: there is such a frame, there is none, or refusal 9 for the message's length.
-#[derive(Clone, Copy)]
-pub enum Answer {
-    Frame,
-    Missing,
-    Refused(Refusal),
-}
-
-// The answer, and the frame's eight bytes; where there is no frame they are all 255.
-#[derive(Clone, Copy)]
-pub struct Cut {
-    pub answer: Answer,
-    pub bytes: [u8; 8],
-}
-
-// The number of frames that a message of a length takes.
-pub fn count(length: usize) -> Counted
+// The number of frames that a message of a length takes, or refusal 9.
+pub fn count(length: usize) -> Result<u16, Refusal>
     ensures value { result ≡ count_of length }
     ensures told { count_told result ≡ first_failing (test 9 (is_length length) ∷ []) (message_frames length ∷ []) }
 {
     if 1 <= length && length <= Assembly::LONGEST as usize {
-        Counted::Frames(frames(length))
+        Ok(frames(length))
     } else {
-        Counted::Refused(Refusal::of(Refusal::MESSAGE_LENGTH))
+        Err(Refusal::of(Refusal::MESSAGE_LENGTH))
     }
 }
 
-// Frame k of a message, counted from 0.
-pub fn frame(nad: u8, message: &[u8], k: u16) -> Cut
+// Frame k of a message, counted from 0, if there is such a frame, or refusal 9 for the message's length.
+pub fn frame(nad: u8, message: &[u8], k: u16) -> Result<Option<[u8; 8]>, Refusal>
     ensures value { result ≡ cut_of nad message.now k }
-    ensures told { cut_told result.answer ≡ first_failing (test 9 (is_length (length message.now)) ∷ []) [] }
+    ensures told { cut_told result ≡ first_failing (test 9 (is_length (length message.now)) ∷ []) [] }
 {
-    match count(message.len()) {
-        Counted::Refused(refusal) => without_frame(Answer::Refused(refusal)),
-        Counted::Frames(frames) => {
-            if k < frames {
-                Cut {
-                    answer: Answer::Frame,
-                    bytes: frame_bytes(nad, message, k),
-                }
-            } else {
-                without_frame(Answer::Missing)
-            }
-        }
+    if k < count(message.len())? {
+        Ok(Some(frame_bytes(nad, message, k)))
+    } else {
+        Ok(None)
     }
 }
 
@@ -71,16 +41,6 @@ fn frames(length: usize) -> u16
         1
     } else {
         (1 + length / 6) as u16
-    }
-}
-
-// What is answered where there is no frame.
-fn without_frame(answer: Answer) -> Cut
-    ensures { result ≡ without_frame answer }
-{
-    Cut {
-        answer,
-        bytes: [255; 8],
     }
 }
 
