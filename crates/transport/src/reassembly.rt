@@ -72,10 +72,11 @@ impl Reassembly {
         let Ok(frame) = <&[u8; 8]>::try_from(frame) else {
             return Err(Refusal::of(Refusal::FRAME));
         };
-        if !self.listens(frame[0]) {
-            return Ok(Answer::Ignored);
+        if self.listens(frame[0]) {
+            self.by_kind(frame, buffer)
+        } else {
+            Ok(Answer::Ignored)
         }
-        self.by_kind(frame, buffer)
     }
 
     // Takes a frame of a NAD that is not ignored, by its kind.

@@ -22,21 +22,21 @@ returns-in_default-clause-leaves c =
 pub returns-in_default-clause-told : goal.returns-in_default-clause-told
 returns-in_default-clause-told c = (take_told_lem _ _ _ _ _ (returns-in_default-clause-leaves c)).1
 
-pub returns-then-not-listens-clause-leaves : goal.returns-then-not-listens-clause-leaves
-returns-then-not-listens-clause-leaves c =
+pub returns-else-listens-clause-leaves : goal.returns-else-listens-clause-leaves
+returns-else-listens-clause-leaves c =
     let same : c.in-Ok.frame.now ≡ c.args.frame.now = search rules in
     let eight : length c.args.frame.now ≡ 8 = search rules in
     leaves_plain _ _ _ _ _
-    (step_nad _ _ _ (sym c.fits.ensures ∙ c.if-not-fits.false) eight (rw same at (sym c.listens.ensures ∙ c.if-not-listens.true)))
+    (step_nad _ _ _ (sym c.fits.ensures ∙ c.if-not-fits.false) eight (rw same at (sym c.listens.ensures ∙ c.if-listens.false)))
     refl
 
-pub returns-then-not-listens-clause-told : goal.returns-then-not-listens-clause-told
-returns-then-not-listens-clause-told c = (take_told_lem _ _ _ _ _ (returns-then-not-listens-clause-leaves c)).1
+pub returns-else-listens-clause-told : goal.returns-else-listens-clause-told
+returns-else-listens-clause-told c = (take_told_lem _ _ _ _ _ (returns-else-listens-clause-leaves c)).1
 
-pub returns-clause-leaves : goal.returns-clause-leaves
-returns-clause-leaves c =
+pub returns-then-listens-clause-leaves : goal.returns-then-listens-clause-leaves
+returns-then-listens-clause-leaves c =
     let same : c.in-Ok.frame.now ≡ c.args.frame.now = search rules in
     rw same at c.by_kind.ensures
 
-pub returns-clause-told : goal.returns-clause-told
-returns-clause-told c = (take_told_lem _ _ _ _ _ (returns-clause-leaves c)).1
+pub returns-then-listens-clause-told : goal.returns-then-listens-clause-told
+returns-then-listens-clause-told c = (take_told_lem _ _ _ _ _ (returns-then-listens-clause-leaves c)).1
