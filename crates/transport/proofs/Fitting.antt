@@ -3,8 +3,8 @@ use Prim.Native.Nat.{◌+◌, ◌*◌, ◌/◌, ◌%◌, ◌<◌, ◌≤◌}
 use native.Mathlib.Omega.{arith}
 use mathlib.Core.Path.{◌≡◌}
 use mathlib.Core.Bool.{true, false}
-use borrow.Author.Tests.{lt-ltb, le-leb, eq-eqb, ne_eqb}
-use lib.Dec.{eqb}
+use borrow.Author.Tests.{lt-ltb, le-leb, eq-eqb, ne_eqb, eqb-true, eqb-false, leb-true, ltb-true}
+use lib.Dec.{eqb, leb, ltb}
 use Rattle.transport.specs.Cutting.{longest}
 use Rattle.transport.specs.Reassembly.{next_frames, assembly_fits, bytes_due}
 use Rattle.transport.specs.declared.reassembly.Assembly.{Assembly}
@@ -27,10 +27,18 @@ fits_by_counter m n l h w c =
 -- one of which some other part is wrong does not
 pub not_fitting : (m : Assembly)
     → ((m.nad ≡ 0 → ⊥) × (7 ≤ m.length) × (m.length ≤ longest) × (m.count % 6 ≡ 5) × (m.count < m.length) → ⊥) → assembly_fits m ≡ false
+unfolding assembly_fits
 not_fitting m wrong =
-    whether (assembly_fits m)
-    (λ t. let f = (fits_exactly m).0 t in absurd (wrong (f.nad_not_0, f.length_low, f.length_high, omega arith, f.count_below)))
-    (λ u. u)
+    whether (eqb m.nad 0) (λ z. rw z)
+    (λ z. whether (leb 7 m.length)
+    (λ l. whether (leb m.length longest)
+    (λ h. whether (eqb m.count (5 + 6 * next_frames m.count))
+    (λ w. whether (ltb m.count m.length)
+    (λ c. absurd (wrong (eqb-false _ _ z, leb-true _ _ l, leb-true _ _ h, omega (arith, eqb-true _ _ w), ltb-true _ _ c)))
+    (λ c. rw (z, l, h, w, c)))
+    (λ w. rw (z, l, h, w)))
+    (λ h. rw (z, l, h)))
+    (λ l. rw (z, l)))
 
 -- a next frame brings at most six bytes, and never more than are left
 pub due_high : (m : Assembly) → bytes_due m ≤ 6
