@@ -97,7 +97,9 @@ impl Bits {
         ensures { result ≡ number 24 (replaced (bit old) self.shift self.width (bit value)) }
     {
         let above = power(self.end());
-        old % power(self.shift) + value % power(self.width) * power(self.shift) + old / above * above
+        old % power(self.shift)
+            + value % power(self.width) * power(self.shift)
+            + old / above * above
     }
 
     // The first bit above the field.

@@ -9,9 +9,7 @@ use Rattle.refusal.specs.Answers.{gives, test, first_failing}
 use Rattle.transport.specs.Answers.{Counted, Cut, count_told, cut_told, take_told}
 use Rattle.transport.specs.Cutting.{is_length, message_frames, count_of, cut_of}
 use Rattle.transport.specs.Reassembly.{Kind, single, first, next, other, kind_of, frame_pci, Leaves, step, fits, too_short, ignored, take_tests, kind_values, take_values}
-use Rattle.transport.specs.Reassembly.{kind_step, single_step, first_step, next_step, counter_due, continued, bytes_due, reached}
-use Rattle.transport.specs.Reassembly.{Taken}
-use Rattle.transport.specs.Reassembly.{State}
+use Rattle.transport.specs.Reassembly.{kind_step, single_step, first_step, next_step, counter_due, continued, bytes_due, reached, Taken, State}
 use Rattle.std.specs.Prelude.{None, Some}
 use Rattle.transport.proofs.Tests.{whether}
 

@@ -49,8 +49,8 @@ framed header m p at from n h f e q =
     let all : take (length m - from) (drop from m) ≡ drop from m = take_all (length m - from) (drop from m) (simp length-drop (omega arith)) in
     let k : n ≡ min (length m - at) (8 - length header) = e ∙ simp (all, length-drop) (omega arith) in
     let here : take n (drop from m) ≡ take n (drop at m) = order at (length m)
-      (λ low. let same : from ≡ at = omega arith in rw same)
-      (λ high. let none : n ≡ 0 = omega arith in rw none) in
+    (λ low. let same : from ≡ at = omega arith in rw same)
+    (λ high. let none : n ≡ 0 = omega arith in rw none) in
     rw (q, all, here, l, take-append_seam, drop-append_seam, drop-replicate, k)
     (ap (λ (ds : List ℕ). header ++ ds) (data_copied m at (8 - length header)))
 

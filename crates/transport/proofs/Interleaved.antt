@@ -10,9 +10,8 @@ use Rattle.transport.specs.Cutting.{is_length, message_frames, message_frame}
 use Rattle.transport.specs.Reassembly.{Step, fits, listens}
 use Rattle.transport.specs.Exchange.{Between, Foreign, answer_to, answer_due, after, after_all, after_frames, after_mixed}
 use Rattle.transport.specs.declared.reassembly.Assembly.{Assembly}
-use Rattle.std.specs.Prelude.{None, Some}
+use Rattle.std.specs.Prelude.{None, Some, Ok}
 use Rattle.transport.specs.declared.reassembly.Answer.TheVariants.{Ignored}
-use Rattle.std.specs.Prelude.{Ok}
 use Rattle.transport.proofs.Received.{midway}
 use Rattle.transport.proofs.RoundTrip.{between_frames, between_fits, answers_due, reassembled}
 use Rattle.transport.proofs.StepLaws.{foreign_ignored}

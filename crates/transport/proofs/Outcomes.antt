@@ -6,15 +6,12 @@ use borrow.Author.Tests.{lt-ltb, le-ltb, eq-eqb, ne_eqb}
 use lib.ListN.{length, take, drop}
 use Rattle.refusal.specs.Numbers.{refused, buffer}
 use Rattle.transport.specs.Reassembly.{Step, Leaves, written, step_to, frame_pci, first_length, kind_ignored, kind_step, single, first, single_step}
-use Rattle.transport.specs.Reassembly.{first_step, counter_due, continued, bytes_due, reached}
+use Rattle.transport.specs.Reassembly.{first_step, counter_due, continued, bytes_due, reached, State, Taken}
 use Rattle.transport.specs.Parts.{kind_outcome, message_outcome}
 use Rattle.transport.specs.declared.reassembly.Assembly.{Assembly}
-use Rattle.transport.specs.Reassembly.{State}
-use Rattle.std.specs.Prelude.{None, Some}
+use Rattle.std.specs.Prelude.{None, Some, Ok, Err}
 use Rattle.transport.specs.Answers.{Answered}
 use Rattle.transport.specs.declared.reassembly.Answer.TheVariants.{Ignored, Broken}
-use Rattle.std.specs.Prelude.{Ok, Err}
-use Rattle.transport.specs.Reassembly.{Taken}
 
 -- a step that delivers nothing leaves the buffer as it was
 pub leaves_plain : (st : Step) (b : List ℕ) (s : State) (a : Answered) (r : Taken) → st ≡ step_to s a → r ≡ (step_to s a).taken → Leaves st b r b

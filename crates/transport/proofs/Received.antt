@@ -8,14 +8,12 @@ use borrow.Author.Tests.{le-ltb, lt-ltb, eq-eqb, ne_eqb}
 use lib.ListN.{length, take, drop}
 use Rattle.transport.specs.Cutting.{data_bytes, single_frame, first_frame, next_frame}
 use Rattle.transport.specs.Reassembly.{Step, step, fits, listens, single, first, next, kind_ignored, kind_step, single_step, first_step, next_step}
-use Rattle.transport.specs.Reassembly.{counter_due, continued, reached, bytes_due}
+use Rattle.transport.specs.Reassembly.{counter_due, continued, reached, bytes_due, Taken}
 use Rattle.transport.specs.Exchange.{Between, answer_to, after}
 use Rattle.transport.specs.declared.reassembly.Assembly.{Assembly}
-use Rattle.std.specs.Prelude.{None, Some}
+use Rattle.std.specs.Prelude.{None, Some, Ok}
 use Rattle.transport.specs.Answers.{Answered}
 use Rattle.transport.specs.declared.reassembly.Answer.TheVariants.{Started, More, Done}
-use Rattle.std.specs.Prelude.{Ok}
-use Rattle.transport.specs.Reassembly.{Taken}
 use Rattle.transport.proofs.Filled.{filled, filled_none, filled_length, filled_on, data_take}
 use Rattle.transport.proofs.FitLaws.{fits_exactly}
 use Rattle.transport.proofs.KindLaws.{kind_single, kind_first, kind_next}

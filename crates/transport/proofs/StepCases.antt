@@ -9,13 +9,11 @@ use lib.Dec.{ltb, eqb}
 use lib.ListN.{length}
 use Rattle.refusal.specs.Numbers.{refused, buffer, state, frame}
 use Rattle.transport.specs.Reassembly.{Step, step_to, step, too_short, fits, listens, ignored, Kind, kind_of, kind_ignored, kind_step}
-use Rattle.transport.specs.Reassembly.{first, frame_nad, frame_pci, first_length, would_be_taken, counter_due}
+use Rattle.transport.specs.Reassembly.{first, frame_nad, frame_pci, first_length, would_be_taken, counter_due, State}
 use Rattle.transport.specs.declared.reassembly.Assembly.{Assembly}
-use Rattle.transport.specs.Reassembly.{State}
-use Rattle.std.specs.Prelude.{None, Some}
+use Rattle.std.specs.Prelude.{None, Some, Ok, Err}
 use Rattle.transport.specs.Answers.{Answered}
 use Rattle.transport.specs.declared.reassembly.Answer.TheVariants.{Ignored}
-use Rattle.std.specs.Prelude.{Ok, Err}
 use Rattle.transport.proofs.Tests.{whether, and_left, and_right, or_left, or_right}
 
 -- a NAD that is listened to is not 0

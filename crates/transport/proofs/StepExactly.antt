@@ -9,15 +9,12 @@ use native.Mathlib.Omega.{arith}
 use borrow.Author.Tests.{eq-eqb, ne_eqb, lt-ltb, le-ltb}
 use lib.ListN.{length, get_or, take, drop}
 use Rattle.refusal.specs.declared.Refusal.{Refusal}
-use Rattle.transport.specs.Reassembly.{step_to, step, fits, listens, single, first}
-use Rattle.transport.specs.Reassembly.{single_step, first_step, continued, reached, bytes_due}
+use Rattle.transport.specs.Reassembly.{step_to, step, fits, listens, single, first, single_step, first_step, continued, reached, bytes_due, State}
 use Rattle.transport.specs.Parts.{next_outcome, message_outcome}
 use Rattle.transport.specs.declared.reassembly.Assembly.{Assembly}
-use Rattle.transport.specs.Reassembly.{State}
-use Rattle.std.specs.Prelude.{None, Some}
+use Rattle.std.specs.Prelude.{None, Some, Ok, Err}
 use Rattle.transport.specs.Answers.{Answered}
 use Rattle.transport.specs.declared.reassembly.Answer.TheVariants.{Ignored, Started, More, Done, Broken}
-use Rattle.std.specs.Prelude.{Ok, Err}
 use Rattle.transport.proofs.FitLaws.{FitAssembly, fits_exactly}
 use Rattle.transport.proofs.KindLaws.{kind_single, kind_first, kind_next, kind_other}
 use Rattle.transport.proofs.Outcomes.{single_ignored, single_taken, first_low, first_high, first_taken, next_broken, next_short, next_taken}

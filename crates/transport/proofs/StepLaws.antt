@@ -10,14 +10,12 @@ use lib.ListN.{length, length-take}
 use Rattle.refusal.specs.declared.Refusal.{Refusal}
 use Rattle.transport.specs.Reassembly.{step_to, step, too_short, fits, listens, ignored, Kind, single, first, next, other}
 use Rattle.transport.specs.Reassembly.{frame_nad, frame_pci, kind_of, kind_ignored, kind_step, single_step, first_step, next_step}
-use Rattle.transport.specs.Reassembly.{would_be_taken, counter_due, continued, reached, bytes_due}
+use Rattle.transport.specs.Reassembly.{would_be_taken, counter_due, continued, reached, bytes_due, State}
 use Rattle.transport.specs.Exchange.{Foreign}
 use Rattle.transport.specs.declared.reassembly.Assembly.{Assembly}
-use Rattle.transport.specs.Reassembly.{State}
-use Rattle.std.specs.Prelude.{None, Some}
+use Rattle.std.specs.Prelude.{None, Some, Ok, Err}
 use Rattle.transport.specs.Answers.{Answered}
 use Rattle.transport.specs.declared.reassembly.Answer.TheVariants.{Ignored, Started, More, Done, Broken}
-use Rattle.std.specs.Prelude.{Ok, Err}
 use Rattle.transport.proofs.FitLaws.{open_fits}
 use Rattle.transport.proofs.KindLaws.{pci_of_kind}
 use Rattle.transport.proofs.StepCases.{other_pci_not_too_short, early_not_too_short, step_by_kind, step_cases, Accepted, accepted_room, first_room}

@@ -9,13 +9,11 @@ use lib.Dec.{ltb, eqb}
 use lib.ListN.{length}
 use Rattle.refusal.specs.Numbers.{refused, state, frame}
 use Rattle.transport.specs.Reassembly.{Kind, single, first, next, other, step_to, frame_pci, frame_nad, kind_of, step, fits, assembly_fits, listens}
-use Rattle.transport.specs.Reassembly.{counter_due, would_be_taken, too_short, kind_ignored, ignored, kind_step, next_step}
+use Rattle.transport.specs.Reassembly.{counter_due, would_be_taken, too_short, kind_ignored, ignored, kind_step, next_step, State}
 use Rattle.transport.specs.Parts.{kind_outcome, message_outcome, next_outcome}
 use Rattle.transport.specs.declared.reassembly.Assembly.{Assembly}
-use Rattle.transport.specs.Reassembly.{State}
-use Rattle.std.specs.Prelude.{None, Some}
+use Rattle.std.specs.Prelude.{None, Some, Ok, Err}
 use Rattle.transport.specs.declared.reassembly.Answer.TheVariants.{Ignored}
-use Rattle.std.specs.Prelude.{Ok, Err}
 use Rattle.transport.proofs.Fitting.{counter_below}
 use Rattle.transport.proofs.FitLaws.{fits_exactly}
 use Rattle.transport.proofs.KindLaws.{kind_next}

@@ -20,9 +20,9 @@ returns c =
 pub overflow_add-result-2 : goal.overflow_add-result-2
 overflow_add-result-2 c =
     let below :
-      c.args.old % c.power.result
-      + c.args.value % c.power-2.result * c.power-3.result
-      + c.args.old / c.power-above.result * c.power-above.result
-      < 2 ^ 24
+    c.args.old % c.power.result
+    + c.args.value % c.power-2.result * c.power-3.result
+    + c.args.old / c.power-above.result * c.power-above.result
+    < 2 ^ 24
     = rw (returns c) (number_below 24 _) in
     omega (arith, below)

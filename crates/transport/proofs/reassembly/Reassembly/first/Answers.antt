@@ -1,5 +1,5 @@
 -- A first frame is ignored or opens a message, by the tests of the length that it tells.
-use mathlib.Core.Path.{refl, ◌∙◌}
+use mathlib.Core.Path.{refl}
 use Rattle.transport.specs.Reassembly.{first_step}
 use Rattle.transport.proofs.Outcomes.{leaves_plain, leaves_written, first_low, first_high, first_taken}
 use Rattle.transport.proofs.reassembly.Reassembly.first.Goals as goal

@@ -7,7 +7,7 @@ use Rattle.transport.specs.Reassembly.{fits, assembly_fits}
 use Rattle.transport.specs.declared.reassembly.Assembly.{Assembly}
 use Rattle.std.specs.Prelude.{Option, Some}
 use Rattle.transport.proofs.Bytes.{part, part_length}
-use Rattle.transport.proofs.FitLaws.{fits_exactly, open_fits}
+use Rattle.transport.proofs.FitLaws.{fits_exactly}
 use Rattle.transport.proofs.Fitting.{counter_below, due_left}
 use Rattle.transport.proofs.Outcomes.{leaves_plain, next_broken, next_short, next_taken, leaves_continued}
 use Rattle.transport.proofs.reassembly.Reassembly.next.Goals as goal
@@ -36,8 +36,12 @@ returns-then-buffer-message c =
 
 pub deliver-requires : goal.deliver-requires
 deliver-requires c =
-    omega (arith, part_length c.args.frame.now 2 c.bytes_due-n.result (omega (arith, c.told-frame, c.bytes_due-n.ensures.few)),
-    c.bytes_due-n.ensures.value, due_left _ (fitting _ _ c.requires c.in-Some.is))
+    omega (
+      arith,
+      part_length c.args.frame.now 2 c.bytes_due-n.result (omega (arith, c.told-frame, c.bytes_due-n.ensures.few)),
+      c.bytes_due-n.ensures.value,
+      due_left _ (fitting _ _ c.requires c.in-Some.is),
+    )
 
 pub overflow_add-message-2 : goal.overflow_add-message-2
 overflow_add-message-2 c =
