@@ -43,9 +43,8 @@ pub(crate) fn take(line: &[u8], desk: &mut Desk, room: &mut [u8]) -> Reply {
 // The reassembler takes a frame.
 fn take_frame(desk: &mut Desk, frame: &[u8], room: &mut [u8]) -> Reply {
     let end = within(size(desk[ROOM_USED]), room);
-    let taken = assembly::take(desk).take(frame, &mut room[..end]);
-    let state = taken.state;
-    let answer = taken.answer;
-    assembly::put(desk, state);
+    let mut reassembly = assembly::take(desk);
+    let answer = reassembly.take(frame, &mut room[..end]);
+    assembly::put(desk, reassembly);
     Reply::take(answer)
 }

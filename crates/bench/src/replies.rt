@@ -129,14 +129,14 @@ impl Reply {
     }
 
     // A frame taken by the reassembler.
-    pub(crate) fn take(answer: Answer) -> Reply {
+    pub(crate) fn take(answer: Result<Answer, Refusal>) -> Reply {
         match answer {
-            Answer::Ignored => Reply::alone(Text::IGNORED),
-            Answer::Started => Reply::alone(Text::STARTED),
-            Answer::More => Reply::alone(Text::MORE),
-            Answer::Done(length) => Reply::of(Text::DONE, length as u32),
-            Answer::Broken => Reply::alone(Text::BROKEN),
-            Answer::Refused(refusal) => Reply::refused(refusal),
+            Ok(Answer::Ignored) => Reply::alone(Text::IGNORED),
+            Ok(Answer::Started) => Reply::alone(Text::STARTED),
+            Ok(Answer::More) => Reply::alone(Text::MORE),
+            Ok(Answer::Done(length)) => Reply::of(Text::DONE, length as u32),
+            Ok(Answer::Broken) => Reply::alone(Text::BROKEN),
+            Err(refusal) => Reply::refused(refusal),
         }
     }
 

@@ -1,5 +1,5 @@
 -- The desk with a state put on it. Places are those of src/lib.rt.
-use Rattle.std.specs.Prelude.{ℕ, zero, suc, ◌+◌, Bool, false, cond, List, get_or, set}
+use Rattle.std.specs.Prelude.{ℕ, zero, suc, ◌+◌, Bool, false, cond, List, get_or, set, Option, Some, None}
 use Rattle.master.specs.declared.state.State.{State}
 use Rattle.master.specs.declared.state.Plan.{Plan}
 use Rattle.master.specs.declared.state.Transfer.{Transfer}
@@ -13,8 +13,6 @@ use Rattle.master.specs.declared.state.Reception.{Reception}
 use Rattle.master.specs.Fresh.{never_received}
 use Rattle.transport.specs.declared.reassembly.Assembly.{Assembly}
 use Rattle.transport.specs.declared.reassembly.Reassembly.{Reassembly}
-use Rattle.transport.specs.declared.reassembly.Reassembly.TheVariants as reassembly
-use Rattle.std.specs.Prelude.{Some, None, Option}
 
 -- ---- the parts as numbers
 
@@ -84,6 +82,9 @@ with_state s d =
 abbrev pub with_assembly : Assembly → List ℕ → List ℕ
 with_assembly a d = set (set (set (set (set d 83 1) 84 a.nad) 85 a.length) 86 a.count) 87 a.counter
 
+abbrev pub with_open : Option Assembly → List ℕ → List ℕ
+with_open None d = set d 83 0
+with_open (Some a) d = with_assembly a d
+
 abbrev pub with_reassembly : Reassembly → List ℕ → List ℕ
-with_reassembly reassembly.Nothing d = set d 83 0
-with_reassembly (reassembly.Open a) d = with_assembly a d
+with_reassembly r d = with_open r.message d

@@ -1,5 +1,5 @@
 -- The states that stand on the desk. Places are those of src/lib.rt.
-use Rattle.std.specs.Prelude.{ℕ, zero, suc, ◌+◌, ◌%◌, Bool, cond, List, [], ◌∷◌, ◌++◌, eqb, get_or}
+use Rattle.std.specs.Prelude.{ℕ, zero, suc, ◌+◌, ◌%◌, Bool, cond, List, [], ◌∷◌, ◌++◌, eqb, get_or, Option, Some, None}
 use Rattle.master.specs.declared.state.State.{State}
 use Rattle.master.specs.declared.state.Plan.{Plan}
 use Rattle.master.specs.declared.state.Transfer.{Transfer}
@@ -11,8 +11,6 @@ use Rattle.master.specs.declared.state.Status.{Status}
 use Rattle.master.specs.declared.state.Reception.{Reception}
 use Rattle.master.specs.Fresh.{never_received}
 use Rattle.transport.specs.declared.reassembly.Reassembly.{Reassembly}
-use Rattle.transport.specs.declared.reassembly.Reassembly.TheVariants as reassembly
-use Rattle.std.specs.Prelude.{Some, None, Option}
 
 -- the number at a place, its low 16 bits, its low 8 bits, and whether it is 1
 abbrev pub at : List ℕ → ℕ → ℕ
@@ -89,5 +87,7 @@ state_on d =
 
 unfoldable pub reassembly_on : List ℕ → Reassembly
 reassembly_on d =
-    cond (eqb (at d 83) 0) reassembly.Nothing
-    (reassembly.Open (record { nad = byte_at d 84; length = word_at d 85; count = word_at d 86; counter = byte_at d 87 }))
+    record {
+      message = cond (eqb (at d 83) 0) None
+        (Some (record { nad = byte_at d 84; length = word_at d 85; count = word_at d 86; counter = byte_at d 87 }));
+    }

@@ -274,11 +274,12 @@ fn request_copy(t: &[u16], message: Message, lent: &[u8]) -> [u8; 9]
 fn request_data(message: Message, lent: &[u8]) -> [u8; 8]
     ensures { result ≡ request_data message lent.now }
 {
-    match message {
-        Message::None => [255; 8],
-        Message::Sending(sending) => cutting::frame(sending.nad, lent, sending.next).bytes,
-        Message::Completed => [255; 8],
-        Message::Failed => [255; 8],
+    let Message::Sending(sending) = message else {
+        return [255; 8];
+    };
+    match cutting::frame(sending.nad, lent, sending.next) {
+        Ok(Some(bytes)) => bytes,
+        _ => [255; 8],
     }
 }
 
