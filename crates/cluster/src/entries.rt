@@ -65,14 +65,12 @@ pub fn first(t: &[u16], n: u16) -> u16
     ensures { result ≡ first_entry t.now n }
 {
     let end = count(t);
-    let mut e: u16 = 0;
-    while e < end {
+    for e in 0..end {
         if schedule(t, e) == n {
             return e;
         }
-        e += 1;
     }
-    e
+    end
 }
 
 // The entry that follows an entry in its schedule, cyclically.

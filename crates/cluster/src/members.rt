@@ -49,14 +49,12 @@ pub fn next(t: &[u16], l: u16, m: u16) -> u16
     ensures { result ≡ next_member t.now l m }
 {
     let n = count(t);
-    let mut k = m;
-    while k < n {
+    for k in m..n {
         if list(t, k) == l {
             return k;
         }
-        k += 1;
     }
-    k
+    m.max(n)
 }
 
 // Whether a frame is in a list.
@@ -79,14 +77,12 @@ pub fn of_frame(t: &[u16], f: u16) -> u16
     ensures { result ≡ member_of t.now f }
 {
     let n = count(t);
-    let mut m: u16 = 0;
-    while m < n {
+    for m in 0..n {
         if frame(t, m) == f {
             return m;
         }
-        m += 1;
     }
-    m
+    n
 }
 
 // Checks the members' records, those that are there in whole, and then one that is cut off; the frames in a list so far are marked.

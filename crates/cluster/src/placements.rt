@@ -55,14 +55,12 @@ pub fn first(t: &[u16], s: u16) -> u16
     ensures { result ≡ first_placement t.now s }
 {
     let n = count(t);
-    let mut k: u16 = 0;
-    while k < n {
+    for k in 0..n {
         if signal(t, k) == s {
             return k;
         }
-        k += 1;
     }
-    k
+    n
 }
 
 // How many signals have placements.
