@@ -99,8 +99,7 @@ pub(crate) fn judge(t: &[u16]) -> Result<(), Refusal>
     let n = count(t) as usize;
     let whole = whole_records(t, first, Layout::ENTRY, n);
     let mut schedules: usize = 0;
-    let mut e: usize = 0;
-    while e < whole {
+    for e in 0..whole {
         let at = first + Layout::ENTRY * e;
         let words = read(t, at);
         let right = right_words(frames::count(t) as usize, lists, schedules, words);
@@ -108,10 +107,9 @@ pub(crate) fn judge(t: &[u16]) -> Result<(), Refusal>
             return fault(at + right);
         }
         schedules = words.schedule + 1;
-        e += 1;
     }
-    if e < n {
-        let at = first + Layout::ENTRY * e;
+    if whole < n {
+        let at = first + Layout::ENTRY * whole;
         let right = right_words(frames::count(t) as usize, lists, schedules, read_due(t, at));
         return fault(at + right);
     }

@@ -90,8 +90,7 @@ pub(crate) fn judge(t: &[u16]) -> Result<(), Refusal>
     let mut used = [false; Limits::IDENTIFIERS];
     let n = count(t) as usize;
     let whole = whole_records(t, Layout::HEADER, Layout::FRAME, n);
-    let mut f: usize = 0;
-    while f < whole {
+    for f in 0..whole {
         let at = frame_at(f);
         let words = read(t, at);
         let id = words.identifier;
@@ -100,10 +99,9 @@ pub(crate) fn judge(t: &[u16]) -> Result<(), Refusal>
             return fault(at + right);
         }
         used[id] = true;
-        f += 1;
     }
-    if f < n {
-        let at = frame_at(f);
+    if whole < n {
+        let at = frame_at(whole);
         return fault(at + right_words(&used, read_due(t, at)));
     }
     Ok(())

@@ -95,8 +95,7 @@ pub(crate) fn judge(t: &[u16]) -> Result<(), Refusal>
     let n = count(t) as usize;
     let whole = whole_records(t, first, Layout::MEMBER, n);
     let mut lists: usize = 0;
-    let mut m: usize = 0;
-    while m < whole {
+    for m in 0..whole {
         let at = first + Layout::MEMBER * m;
         let words = read(t, at);
         let f = words.frame;
@@ -106,10 +105,9 @@ pub(crate) fn judge(t: &[u16]) -> Result<(), Refusal>
         }
         listed[f] = true;
         lists = words.list + 1;
-        m += 1;
     }
-    if m < n {
-        let at = first + Layout::MEMBER * m;
+    if whole < n {
+        let at = first + Layout::MEMBER * whole;
         return fault(at + right_words(t, &listed, lists, read_due(t, at)));
     }
     Ok(())

@@ -82,17 +82,15 @@ pub(crate) fn judge(t: &[u16]) -> Result<(), Refusal>
     let first = signal_at(t, 0);
     let n = count(t) as usize;
     let whole = whole_records(t, first, Layout::SIGNAL, n);
-    let mut s: usize = 0;
-    while s < whole {
+    for s in 0..whole {
         let at = first + Layout::SIGNAL * s;
         let right = right_words(read(t, at));
         if right < Layout::SIGNAL {
             return fault(at + right);
         }
-        s += 1;
     }
-    if s < n {
-        let at = first + Layout::SIGNAL * s;
+    if whole < n {
+        let at = first + Layout::SIGNAL * whole;
         return fault(at + right_words(read_due(t, at)));
     }
     Ok(())
