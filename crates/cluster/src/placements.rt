@@ -94,11 +94,11 @@ pub(crate) fn judge(t: &[u16]) -> Result<(), Refusal>
     let mut occupied = [0u64; Limits::FRAMES];
     let mut last = [0u16; Limits::FRAMES];
     let first = placement_at(t, 0);
-    let end = first + Layout::PLACEMENT * (count(t) as usize);
     let mut placed: usize = 0;
     let mut frame: usize = 0;
-    let mut at = first;
-    while at < end {
+    let n = count(t) as usize;
+    for k in 0..n {
+        let at = first + Layout::PLACEMENT * k;
         let words = read(t, at);
         let f = words.frame;
         let right = right_words(t, &occupied, &last, Before { placed, frame }, words);
@@ -110,7 +110,6 @@ pub(crate) fn judge(t: &[u16]) -> Result<(), Refusal>
         last[f] = (words.signal + 1) as u16;
         placed = words.signal + 1;
         frame = f;
-        at += Layout::PLACEMENT;
     }
     Ok(())
 }
