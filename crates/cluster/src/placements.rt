@@ -94,9 +94,9 @@ pub(crate) fn judge(t: &[u16]) -> Result<(), Refusal>
     let mut occupied = [0u64; Limits::FRAMES];
     let mut last = [0u16; Limits::FRAMES];
     let first = placement_at(t, 0);
+    let n = count(t) as usize;
     let mut placed: usize = 0;
     let mut frame: usize = 0;
-    let n = count(t) as usize;
     for k in 0..n {
         let at = first + Layout::PLACEMENT * k;
         let words = read(t, at);
