@@ -58,10 +58,8 @@ fn sum(from: u8, data: &[u8]) -> u8
     ensures { result ≡ sum from «data».now }
 {
     let mut total = from;
-    let mut i: usize = 0;
-    while i < data.len() {
-        total = with_carry(total, data[i]);
-        i += 1;
+    for &byte in data {
+        total = with_carry(total, byte);
     }
     total
 }

@@ -51,8 +51,7 @@ pub(crate) fn protected_in(list: &[u8], id: u8) -> u8
     ensures { result ≡ protected_byte id }
 {
     let half = list.len() / 2;
-    let mut i: usize = 0;
-    while i < half {
+    for i in 0..half {
         let lower = list[i];
         if lower % 64 == id {
             return lower;
@@ -61,7 +60,6 @@ pub(crate) fn protected_in(list: &[u8], id: u8) -> u8
         if upper % 64 == id {
             return upper;
         }
-        i += 1;
     }
     0
 }
