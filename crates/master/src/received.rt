@@ -12,13 +12,10 @@ use cluster::{Limits, frames, placements, signals};
 pub(crate) fn received_fits(t: &[u16], received: [Reception; Limits::SIGNALS]) -> bool
     ensures { result ≡ received_fits t.now 0 received }
 {
-    let mut s: usize = 0;
-    while s < Limits::SIGNALS {
-        let reception = received[s];
-        if !reception.fits(t, s as u16) {
+    for s in 0..Limits::SIGNALS {
+        if !received[s].fits(t, s as u16) {
             return false;
         }
-        s += 1;
     }
     true
 }
@@ -79,15 +76,11 @@ fn received_in(
 {
     let n = placements::count(t);
     let mut next = received;
-    let mut k: u16 = 0;
-    while k < n {
+    for k in 0..n {
         let s = receiver(t, f, k);
         if s < Limits::SIGNALS {
-            next[s] = Reception {
-                last: Some(k),
-            };
+            next[s] = Reception { last: Some(k) };
         }
-        k += 1;
     }
     next
 }

@@ -64,10 +64,8 @@ impl Transfer {
         ensures { result ≡ rewritten_by t.now signals.now self }
     {
         let mut next = self;
-        let mut i: usize = 0;
-        while i < signals.len() {
-            next = next.rewritten(t, signals[i]);
-            i += 1;
+        for &s in signals {
+            next = next.rewritten(t, s);
         }
         next
     }
@@ -95,10 +93,8 @@ fn put_row(t: &[u16], bytes: &mut [u8], signals: &[u16], values: &[u32])
         × (first_bad t.now 0 (puts signals.now values.now) ≡ Ok tt) }
     ensures { bytes.new ≡ with_row t.now bytes.old (puts signals.now values.now) }
 {
-    let mut i: usize = 0;
-    while i < signals.len() {
+    for i in 0..signals.len() {
         placed::put_scalar(t, bytes, signals[i], values[i] as u16);
-        i += 1;
     }
 }
 
@@ -107,9 +103,7 @@ fn mark_row(t: &[u16], signals: &[u16], pending: &mut [bool])
     requires { RightTable t.now }
     ensures { pending.new ≡ marked_bits t.now signals.now pending.old }
 {
-    let mut i: usize = 0;
-    while i < signals.len() {
-        placed::mark(t, signals[i], pending);
-        i += 1;
+    for &s in signals {
+        placed::mark(t, s, pending);
     }
 }

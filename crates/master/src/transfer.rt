@@ -290,11 +290,7 @@ fn nine(bytes: &[u8], checksum: u8) -> [u8; 9]
 {
     let mut all = [255; 9];
     let n = bytes.len();
-    let mut i: usize = 0;
-    while i < n {
-        all[i] = bytes[i];
-        i += 1;
-    }
+    all[..n].copy_from_slice(bytes);
     all[n] = checksum;
     all
 }
@@ -336,11 +332,7 @@ pub(crate) fn fill(part: &mut [u8], nine: [u8; 9])
     requires { length part.old ≤ 9 }
     ensures { part.new ≡ take (length part.old) nine }
 {
-    let mut i: usize = 0;
-    while i < part.len() {
-        part[i] = nine[i];
-        i += 1;
-    }
+    part.copy_from_slice(&nine[..part.len()]);
 }
 
 // Whether an entry can open a frame: its own, or a member of its list.
