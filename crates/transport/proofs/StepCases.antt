@@ -1,7 +1,7 @@
 -- The cases of a step: refused, ignored, or taken by the frame's kind.
 use Prim.Native.Nat.{ℕ, ◌+◌, ◌≤◌, ◌<◌}
 use mathlib.Core.Path.{◌≡◌, refl}
-use mathlib.Core.Bool.{true, false, not, and-false}
+use mathlib.Core.Bool.{Bool, true, false, not, and-false}
 use mathlib.Core.List.{List}
 use native.Mathlib.Omega.{arith}
 use borrow.Author.Tests.{le-ltb, ltb-false, eq-eqb, ne_eqb, eqb-true, eqb-false, not-true}
@@ -11,10 +11,22 @@ use Rattle.refusal.specs.Numbers.{refused, buffer, state, frame}
 use Rattle.transport.specs.Reassembly.{Step, step_to, step, too_short, fits, listens, ignored, Kind, kind_of, kind_ignored, kind_step}
 use Rattle.transport.specs.Reassembly.{first, frame_nad, frame_pci, first_length, would_be_taken, counter_due, State}
 use Rattle.transport.specs.declared.reassembly.Assembly.{Assembly}
-use Rattle.std.specs.Prelude.{None, Some, Ok, Err}
+use Rattle.std.specs.Prelude.{None, Some, Ok, Err, MatchOption, IsTrue}
 use Rattle.transport.specs.Answers.{Answered}
 use Rattle.transport.specs.declared.reassembly.Answer.TheVariants.{Ignored}
 use Rattle.transport.proofs.Tests.{whether, and_left, and_right, or_left, or_right}
+
+-- a test of a state that holds with none open, and asks the open message otherwise
+pub none_or : (test : State → Bool) (s : State) (r : Bool) (P : Assembly → Type 0)
+    → test None ≡ true → ((m : Assembly) → P m → r ≡ test (Some m)) → MatchOption s (IsTrue r) P → r ≡ test s
+none_or test None r P none some h = rw none h
+none_or test (Some m) r P none some h = some m h
+
+-- no state listens to NAD 0
+pub deaf_0 : (s : State) (nad : ℕ) → nad ≡ 0 → listens s nad ≡ false
+unfolding listens
+deaf_0 None nad e = rw (eq-eqb nad 0 e)
+deaf_0 (Some m) nad e = rw (eq-eqb nad 0 e)
 
 -- a NAD that is listened to is not 0
 pub listens_known : (s : State) (nad : ℕ) → listens s nad ≡ true → nad ≡ 0 → ⊥

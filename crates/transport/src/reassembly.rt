@@ -97,20 +97,14 @@ impl Reassembly {
     fn fits(self) -> bool
         ensures { result ≡ fits self.message }
     {
-        match self.message {
-            None => true,
-            Some(message) => message.fits(),
-        }
+        self.message.is_none_or(|message| message.fits())
     }
 
     // A frame with this NAD is not ignored for its NAD.
     fn listens(self, nad: u8) -> bool
         ensures { result ≡ listens self.message nad }
     {
-        match self.message {
-            None => nad != 0,
-            Some(message) => nad != 0 && nad == message.nad,
-        }
+        nad != 0 && self.message.is_none_or(|message| nad == message.nad)
     }
 
     // Takes a single frame.
