@@ -1,7 +1,7 @@
 -- The cases of a step: refused, ignored, or taken by the frame's kind.
 use Prim.Native.Nat.{ℕ, ◌+◌, ◌≤◌, ◌<◌}
 use mathlib.Core.Path.{◌≡◌, refl}
-use mathlib.Core.Bool.{Bool, true, false, not, and-false}
+use mathlib.Core.Bool.{Bool, true, false, not, ◌&&◌, and-false, and_comm}
 use mathlib.Core.List.{List}
 use native.Mathlib.Omega.{arith}
 use borrow.Author.Tests.{le-ltb, ltb-false, eq-eqb, ne_eqb, eqb-true, eqb-false, not-true}
@@ -22,11 +22,12 @@ pub none_or : (test : State → Bool) (s : State) (r : Bool) (P : Assembly → T
 none_or test None r P none some h = rw none h
 none_or test (Some m) r P none some h = some m h
 
--- no state listens to NAD 0
-pub deaf_0 : (s : State) (nad : ℕ) → nad ≡ 0 → listens s nad ≡ false
+-- a NAD is listened to where an open message has it, and it is not 0
+pub listens_if : (s : State) (nad : ℕ) (r : Bool) (P : Assembly → Type 0)
+    → ((m : Assembly) → P m → r ≡ eqb nad m.nad) → MatchOption s (IsTrue r) P → (r && not (eqb nad 0)) ≡ listens s nad
 unfolding listens
-deaf_0 None nad e = rw (eq-eqb nad 0 e)
-deaf_0 (Some m) nad e = rw (eq-eqb nad 0 e)
+listens_if None nad r P own h = rw h
+listens_if (Some m) nad r P own h = rw (own m h) (and_comm (eqb nad m.nad) (not (eqb nad 0)))
 
 -- a NAD that is listened to is not 0
 pub listens_known : (s : State) (nad : ℕ) → listens s nad ≡ true → nad ≡ 0 → ⊥

@@ -18,7 +18,6 @@ use Rattle.transport.specs.declared.reassembly.Answer.TheVariants.{Ignored, Star
 use Rattle.transport.proofs.FitLaws.{FitAssembly, fits_exactly}
 use Rattle.transport.proofs.KindLaws.{kind_single, kind_first, kind_next, kind_other}
 use Rattle.transport.proofs.Outcomes.{single_ignored, single_taken, first_low, first_high, first_taken, next_broken, next_short, next_taken}
-use Rattle.transport.proofs.StepCases.{deaf_0}
 use Rattle.transport.proofs.Steps.{step_unfit, step_length, step_nad, step_kind, step_next, step_other}
 use Rattle.transport.proofs.Tests.{order, whether}
 
@@ -41,6 +40,11 @@ heard_yes : (s : State) (nad : ℕ) → Heard s nad → listens s nad ≡ true
 unfolding listens
 heard_yes None nad h = rw (ne_eqb nad 0 h)
 heard_yes (Some m) nad h = rw (ne_eqb nad 0 h.0, eq-eqb nad m.nad h.1)
+
+deaf_0 : (s : State) (nad : ℕ) → nad ≡ 0 → listens s nad ≡ false
+unfolding listens
+deaf_0 None nad e = rw (eq-eqb nad 0 e)
+deaf_0 (Some m) nad e = rw (eq-eqb nad 0 e)
 
 deaf_other : (m : Assembly) (nad : ℕ) → (nad ≡ m.nad → ⊥) → listens (Some m) nad ≡ false
 unfolding listens
