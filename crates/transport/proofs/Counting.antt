@@ -1,17 +1,17 @@
 -- What the number of frames of a length tells of a frame's number.
-use Prim.Native.Nat.{ℕ, zero, suc, ◌-◌, ◌<◌, ◌≤◌}
+use Prim.Native.Nat.{ℕ, zero, suc, ◌+◌, ◌-◌, ◌*◌, ◌%◌, ◌<◌, ◌≤◌}
 use native.Mathlib.Omega.{arith}
 use mathlib.Core.Path.{◌≡◌, refl, sym, ◌∙◌}
 use mathlib.Core.Bool.{Bool, true, false, cond, and-false}
 use mathlib.Core.Logic.{◌⊎◌, inl, inr}
-use mathlib.Core.List.{List}
+use mathlib.Core.List.{List, ◌∷◌}
 use borrow.Author.Tests.{lt-ltb, le-ltb, lt-leb, le-leb, leb-true}
 use lib.Dec.{leb}
 use lib.ListN.{length}
 use Rattle.refusal.specs.Numbers.{refused, message_length}
 use Rattle.refusal.specs.declared.Refusal.{Refusal}
 use Rattle.transport.specs.Answers.{Counted}
-use Rattle.transport.specs.Cutting.{is_length, longest, message_frames, message_frame, next_frame, count_of, cut_of}
+use Rattle.transport.specs.Cutting.{is_length, longest, message_frames, message_frame, next_frame, data_bytes, count_of, cut_of}
 use Rattle.std.specs.Prelude.{Some, None, Ok, Err}
 use Rattle.transport.proofs.CuttingLaws.{frame_next}
 use Rattle.transport.proofs.Tests.{and_right}
@@ -57,6 +57,11 @@ cut_missing nad k m f e h = let p = picked_frames (is_length (length m)) (messag
     let t : message_frames (length m) ≤ k = omega (arith, p.1) in rw (p.0, le-ltb _ _ t)
 
 -- a frame behind the first
-pub later_frame : (nad k : ℕ) (m bytes : List ℕ) → 0 < k → bytes ≡ next_frame nad m (k - 1) → bytes ≡ message_frame nad m k
+pub later_frame : (nad k : ℕ) (m bytes : List ℕ) → 0 < k
+    → bytes ≡ nad ∷ (32 + k % 16) ∷ data_bytes m (5 + 6 * (k - 1)) 6 → bytes ≡ message_frame nad m k
+unfolding next_frame
 later_frame nad zero m bytes h e = absurd (omega arith)
-later_frame nad (suc i) m bytes h e = let q : suc i - 1 ≡ i = omega arith in e ∙ rw q (sym (frame_next nad m i))
+later_frame nad (suc i) m bytes h e =
+    let q : suc i - 1 ≡ i = omega arith in
+    let c : suc i % 16 ≡ (1 + i) % 16 = omega arith in
+    e ∙ rw (q, c) (sym (frame_next nad m i))

@@ -6,9 +6,9 @@ use mathlib.Core.Logic.{◌↔◌, ◌⊎◌, inl, inr, ⊎_elim}
 use native.Mathlib.Omega.{arith}
 use borrow.Author.Tests.{le-leb, lt-leb, lt-ltb, le-ltb, ltb-true, ltb-false}
 use lib.Dec.{ltb}
-use lib.ListN.{length, get_or, length-append, get_or-eq_default, get_or-append}
+use lib.ListN.{length, get_or, replicate, length-append, get_or-eq_default, get_or-append}
 use lib.Seq.{ext_get_or, get_or-append-add}
-use Rattle.transport.specs.Cutting.{data_bytes, single_frame, first_frame, next_frame, message_frame, message_frames, is_length, count_of, cut_of}
+use Rattle.transport.specs.Cutting.{data_bytes, single_frame, first_frame, next_frame, message_frame, message_frames, is_length, count_of, cut_of, cut_bytes}
 use Rattle.std.specs.Prelude.{Some, None, Ok, Err}
 use Rattle.transport.proofs.Bytes.{any_default}
 use Rattle.transport.proofs.CuttingLaws.{frame_single, frame_first, frame_next, frames_one, frames_more}
@@ -174,3 +174,10 @@ module _ (nad : ℕ) (m : List ℕ) (k : ℕ) where
         (λ l. inl (omega arith))),
     ⊎_elim (λ h. rw h) (λ h. rw (le-leb 1 (length m) (omega arith), lt-leb (length m) 4095 h)),
   )
+
+  -- eight bytes of 255 stand for a frame that is not there, and for one that is refused
+  pub missing_bytes : ((r : ℕ) × (count_of (length m) ≡ Ok r) × (r ≤ k)) → cut_bytes (cut_of nad m k) ≡ replicate 8 255
+  missing_bytes h = rw (cut_missing_exactly.1 h)
+
+  pub refused_bytes : (length m ≡ 0) ⊎ (4096 ≤ length m) → cut_bytes (cut_of nad m k) ≡ replicate 8 255
+  refused_bytes h = rw (cut_refused_exactly.1 h)

@@ -1,7 +1,7 @@
 -- The cases of a step: refused, ignored, or taken by the frame's kind.
 use Prim.Native.Nat.{ℕ, ◌+◌, ◌≤◌, ◌<◌}
 use mathlib.Core.Path.{◌≡◌, refl}
-use mathlib.Core.Bool.{true, false, not, and-false}
+use mathlib.Core.Bool.{Bool, true, false, not, ◌&&◌, and-false, and_comm}
 use mathlib.Core.List.{List}
 use native.Mathlib.Omega.{arith}
 use borrow.Author.Tests.{le-ltb, ltb-false, eq-eqb, ne_eqb, eqb-true, eqb-false, not-true}
@@ -11,10 +11,23 @@ use Rattle.refusal.specs.Numbers.{refused, buffer, state, frame}
 use Rattle.transport.specs.Reassembly.{Step, step_to, step, too_short, fits, listens, ignored, Kind, kind_of, kind_ignored, kind_step}
 use Rattle.transport.specs.Reassembly.{first, frame_nad, frame_pci, first_length, would_be_taken, counter_due, State}
 use Rattle.transport.specs.declared.reassembly.Assembly.{Assembly}
-use Rattle.std.specs.Prelude.{None, Some, Ok, Err}
+use Rattle.std.specs.Prelude.{None, Some, Ok, Err, MatchOption, IsTrue}
 use Rattle.transport.specs.Answers.{Answered}
 use Rattle.transport.specs.declared.reassembly.Answer.TheVariants.{Ignored}
 use Rattle.transport.proofs.Tests.{whether, and_left, and_right, or_left, or_right}
+
+-- a test of a state that holds with none open, and asks the open message otherwise
+pub none_or : (test : State → Bool) (s : State) (r : Bool) (P : Assembly → Type 0)
+    → test None ≡ true → ((m : Assembly) → P m → r ≡ test (Some m)) → MatchOption s (IsTrue r) P → r ≡ test s
+none_or test None r P none some h = rw none h
+none_or test (Some m) r P none some h = some m h
+
+-- a NAD is listened to where an open message has it, and it is not 0
+pub listens_if : (s : State) (nad : ℕ) (r : Bool) (P : Assembly → Type 0)
+    → ((m : Assembly) → P m → r ≡ eqb nad m.nad) → MatchOption s (IsTrue r) P → (r && not (eqb nad 0)) ≡ listens s nad
+unfolding listens
+listens_if None nad r P own h = rw h
+listens_if (Some m) nad r P own h = rw (own m h) (and_comm (eqb nad m.nad) (not (eqb nad 0)))
 
 -- a NAD that is listened to is not 0
 pub listens_known : (s : State) (nad : ℕ) → listens s nad ≡ true → nad ≡ 0 → ⊥

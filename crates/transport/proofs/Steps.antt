@@ -1,5 +1,6 @@
 -- What a frame does, by the tests that the code makes in turn: the state, the length, the NAD, the kind.
-use Prim.Native.Nat.{ℕ}
+use Prim.Native.Nat.{ℕ, ◌≤◌, ◌<◌}
+use mathlib.Core.Logic.{inl, inr}
 use native.Mathlib.Omega.{arith}
 use mathlib.Core.Path.{◌≡◌, refl, sym, ◌∙◌}
 use mathlib.Core.Bool.{Bool, true, false, and-false}
@@ -8,7 +9,7 @@ use borrow.Author.Tests.{eq-eqb, ne_eqb, eqb-true}
 use lib.Dec.{ltb, eqb}
 use lib.ListN.{length}
 use Rattle.refusal.specs.Numbers.{refused, state, frame}
-use Rattle.transport.specs.Reassembly.{Kind, single, first, next, other, step_to, frame_pci, frame_nad, kind_of, step, fits, assembly_fits, listens}
+use Rattle.transport.specs.Reassembly.{Leaves, Kind, single, first, next, other, step_to, frame_pci, frame_nad, kind_of, step, fits, assembly_fits, listens}
 use Rattle.transport.specs.Reassembly.{counter_due, would_be_taken, too_short, kind_ignored, ignored, kind_step, next_step, State}
 use Rattle.transport.specs.Parts.{kind_outcome, message_outcome, next_outcome}
 use Rattle.transport.specs.declared.reassembly.Assembly.{Assembly}
@@ -16,7 +17,8 @@ use Rattle.std.specs.Prelude.{None, Some, Ok, Err}
 use Rattle.transport.specs.declared.reassembly.Answer.TheVariants.{Ignored}
 use Rattle.transport.proofs.Fitting.{counter_below}
 use Rattle.transport.proofs.FitLaws.{fits_exactly}
-use Rattle.transport.proofs.KindLaws.{kind_next}
+use Rattle.transport.proofs.KindLaws.{NoKind, kind_next, kind_other}
+use Rattle.transport.proofs.Outcomes.{leaves_plain}
 use Rattle.transport.proofs.StepCases.{listens_same, other_pci_not_too_short}
 use Rattle.transport.proofs.Tests.{whether}
 
@@ -107,3 +109,22 @@ pub step_other : (s : State) (f b : List ℕ) → fits s ≡ true → length f �
     → step s f b ≡ step_to s (Ok Ignored)
 unfolding kind_outcome kind_ignored
 step_other s f b e l h k = step_kind s f b e l h other k refl
+
+-- so it leaves all as it was
+pub no_kind : (s : State) (f b : List ℕ) → fits s ≡ true → length f ≡ 8 → listens s (frame_nad f) ≡ true → NoKind (frame_pci f)
+    → Leaves (step s f b) b (record { state = s; answer = Ok Ignored }) b
+no_kind s f b e l h k = leaves_plain _ _ _ _ _ (step_other s f b e l h (kind_other (frame_pci f) k)) refl
+
+pub no_kind_0 : (s : State) (f b : List ℕ) → fits s ≡ true → length f ≡ 8 → listens s (frame_nad f) ≡ true → frame_pci f < 1
+    → Leaves (step s f b) b (record { state = s; answer = Ok Ignored }) b
+no_kind_0 s f b e l h k = no_kind s f b e l h (inl (omega arith))
+
+pub no_kind_7 : (s : State) (f b : List ℕ) → fits s ≡ true → length f ≡ 8 → listens s (frame_nad f) ≡ true → 7 ≤ frame_pci f → frame_pci f < 16
+    → Leaves (step s f b) b (record { state = s; answer = Ok Ignored }) b
+no_kind_7 s f b e l h k j = no_kind s f b e l h (inr (inl (k, omega arith)))
+
+pub no_kind_48 : (s : State) (f b : List ℕ) → fits s ≡ true → length f ≡ 8 → listens s (frame_nad f) ≡ true → 48 ≤ frame_pci f
+    → Leaves (step s f b) b (record { state = s; answer = Ok Ignored }) b
+no_kind_48 s f b e l h k = no_kind s f b e l h (inr (inr k))
+
+pub ruleset no_kinds = (no_kind_0, no_kind_7, no_kind_48)

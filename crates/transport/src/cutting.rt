@@ -3,7 +3,7 @@ ghost use Rattle.std.specs.Prelude.{◌≡◌, [], ◌∷◌, ◌++◌, ◌-◌,
 ghost use Rattle.refusal.specs.Answers.{test, first_failing};
 ghost use Rattle.transport.specs.Answers.{count_told, cut_told};
 ghost use Rattle.transport.specs.Cutting.{longest, is_length, count_of, cut_of, message_frames};
-ghost use Rattle.transport.specs.Cutting.{message_frame, single_frame, first_frame, next_frame, data_bytes};
+ghost use Rattle.transport.specs.Cutting.{message_frame, data_bytes};
 
 use crate::reassembly::Assembly;
 use refusal::Refusal;
@@ -44,44 +44,24 @@ fn frames(length: usize) -> u16
     }
 }
 
-// The eight bytes of frame k.
+// The eight bytes of frame k: a next frame behind the first one, and else the only frame or the first of several.
 fn frame_bytes(nad: u8, message: &[u8], k: u16) -> [u8; 8]
     requires { length message.now ≤ longest }
     ensures { result ≡ message_frame nad message.now k }
 {
-    if 0 < k {
-        next_frame(nad, message, k - 1)
-    } else if message.len() <= 6 {
-        single_frame(nad, message)
-    } else {
-        first_frame(nad, message)
-    }
-}
-
-// The only frame of a message of at most six bytes.
-fn single_frame(nad: u8, message: &[u8]) -> [u8; 8]
-    requires { length message.now ≤ 6 }
-    ensures { result ≡ single_frame nad message.now }
-{
-    with_data(&[nad, message.len() as u8], message, 0)
-}
-
-// The first frame of a longer message.
-fn first_frame(nad: u8, message: &[u8]) -> [u8; 8]
-    requires { length message.now ≤ longest }
-    ensures { result ≡ first_frame nad message.now }
-{
     let n = message.len();
-    with_data(&[nad, (16 + n / 256) as u8, (n % 256) as u8], message, 0)
-}
-
-// Next frame i, counted from 0.
-fn next_frame(nad: u8, message: &[u8], i: u16) -> [u8; 8]
-    ensures { result ≡ next_frame nad message.now i }
-{
-    let i = i as usize;
-    let counter = (1 + i) % 16;
-    with_data(&[nad, (32 + counter) as u8], message, 5 + 6 * i)
+    if 0 < k {
+        let counter = k % 16;
+        with_data(
+            &[nad, (32 + counter) as u8],
+            message,
+            5 + 6 * (k as usize - 1),
+        )
+    } else if n <= 6 {
+        with_data(&[nad, n as u8], message, 0)
+    } else {
+        with_data(&[nad, (16 + n / 256) as u8, (n % 256) as u8], message, 0)
+    }
 }
 
 // A header, and behind it the message's bytes from a place on; unused bytes are 255.

@@ -80,6 +80,7 @@ impl Reassembly {
     }
 
     // Takes a frame of a NAD that is not ignored, by its kind.
+    #[tactic(auto, using(crate::proofs::Steps::no_kinds))]
     fn by_kind(&mut self, frame: &[u8; 8], buffer: &mut [u8]) -> Result<Answer, Refusal>
         requires { (fits self.old.message ≡ true) × (listens self.old.message (frame_nad frame.now) ≡ true) }
         ensures { Leaves (step self.old.message frame.now buffer.old) buffer.old
@@ -97,20 +98,14 @@ impl Reassembly {
     fn fits(self) -> bool
         ensures { result ≡ fits self.message }
     {
-        match self.message {
-            None => true,
-            Some(message) => message.fits(),
-        }
+        self.message.is_none_or(|message| message.fits())
     }
 
     // A frame with this NAD is not ignored for its NAD.
     fn listens(self, nad: u8) -> bool
         ensures { result ≡ listens self.message nad }
     {
-        match self.message {
-            None => nad != 0,
-            Some(message) => nad != 0 && nad == message.nad,
-        }
+        self.message.is_none_or(|message| nad == message.nad) && nad != 0
     }
 
     // Takes a single frame.

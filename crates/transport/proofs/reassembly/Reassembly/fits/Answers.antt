@@ -1,12 +1,10 @@
--- Each case of the state is one of the definition.
-use mathlib.Core.Path.{◌∙◌}
+-- With none open the state fits, and an open message is asked.
+use mathlib.Core.Path.{refl}
+use borrow.Author.Rules.{rules}
 use Rattle.transport.specs.Reassembly.{fits}
+use Rattle.transport.proofs.StepCases.{none_or}
 use Rattle.transport.proofs.reassembly.Reassembly.fits.Goals as goal
 
-pub returns-in-None : goal.returns-in-None
+pub returns : goal.returns
 unfolding fits
-returns-in-None c = rw c.in-None.is
-
-pub returns-in-Some : goal.returns-in-Some
-unfolding fits
-returns-in-Some c = c.fits.ensures ∙ rw c.in-Some.is
+returns c = none_or fits _ _ _ refl (λ m h. search rules) c.is_none_or.ensures
