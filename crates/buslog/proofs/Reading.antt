@@ -1,35 +1,39 @@
 -- What reading a line comes to, pair by pair.
-use Rattle.std.proofs.Common.{◌≡◌, ℕ, suc, ◌+◌, ◌*◌, ◌<◌, ◌≤◌, true, false, ltb, List, [], ◌∷◌, ◌++◌, length, get_or, take, drop, set, sym, refl, ◌∙◌, add-one, arith, length-drop, length-set, drop_of_length-le, drop-cons, take-suc-set, ltb-true, le-ltb, lt-ltb, eq-eqb, ne_eqb, le-leb}
+use Rattle.std.proofs.Common.{◌≡◌, ℕ, suc, ◌+◌, ◌*◌, ◌<◌, ◌≤◌, true, false, Option, Some, None, List, [], ◌∷◌, ◌++◌, length, get_or, take, drop, set, sym, refl, ◌∙◌, add-one, arith, length-drop, length-set, drop_of_length-le, drop-cons, take-suc-set, le-ltb, lt-ltb, eq-eqb, ne_eqb, le-leb}
 use mathlib.Core.Bool.{and-false}
 use borrow.Author.Tests.{lt-leb}
 use lib.Seq.{append_snoc}
-use Rattle.wire.proofs.Tests.{and_left, and_right, whether}
-use Rattle.buslog.specs.declared.pairs.Pairs.{Pairs}
-use Rattle.buslog.specs.Pairs.{digit_of, is_pair, pair_byte, are_pairs, pair_bytes, line_bytes}
-use Rattle.buslog.specs.Parts.{pair_at, Reads}
+use Rattle.wire.proofs.Tests.{whether}
+use Rattle.buslog.specs.Pairs.{digit_of, is_pair, byte_of, pair_byte, are_pairs, pair_bytes, line_bytes}
+use Rattle.buslog.specs.Parts.{Holds}
 
 -- ---- one pair
 
-module _ (line : List ℕ) (at : ℕ) where
-  pub no_high : 16 ≤ digit_of (get_or line at 0) → 256 ≡ pair_at line at
-  unfolding pair_at is_pair
-  no_high h = simp (le-ltb (digit_of (get_or line at 0)) 16 h)
+module _ (h l : ℕ) where
+  pub no_high : (digit_of h < 16 → ⊥) → byte_of h l ≡ None
+  unfolding byte_of is_pair
+  no_high n = simp (le-ltb (digit_of h) 16 (omega arith))
 
-  pub no_low : 16 ≤ digit_of (get_or line (at + 1) 0) → 256 ≡ pair_at line at
-  unfolding pair_at is_pair
-  no_low h = simp (le-ltb (digit_of (get_or line (at + 1) 0)) 16 h, and-false)
+  pub no_low : (digit_of l < 16 → ⊥) → byte_of h l ≡ None
+  unfolding byte_of is_pair
+  no_low n = simp (le-ltb (digit_of l) 16 (omega arith), and-false)
 
-  pub pair_there : {h l : ℕ} → h < 16 → l < 16 → h ≡ digit_of (get_or line at 0) → l ≡ digit_of (get_or line (at + 1) 0) → 16 * h + l ≡ pair_at line at
-  unfolding pair_at is_pair pair_byte
-  pair_there hh hl eh el = rw (eh, el) (simp (lt-ltb (digit_of (get_or line at 0)) 16 (omega arith), lt-ltb (digit_of (get_or line (at + 1) 0)) 16 (omega arith)))
+  pub pair_there : {a b : ℕ} → (digit_of h < 16) × (a ≡ digit_of h) → (digit_of l < 16) × (b ≡ digit_of l) → byte_of h l ≡ Some (16 * a + b)
+  unfolding byte_of is_pair pair_byte
+  pair_there p q = rw (p.1, q.1) (simp (lt-ltb (digit_of h) 16 p.0, lt-ltb (digit_of l) 16 q.0))
 
-pair_below : (h l : ℕ) → is_pair h l ≡ true → pair_byte h l < 256
-unfolding is_pair pair_byte
-pair_below h l e = omega (
-  arith,
-  ltb-true (digit_of h) 16 (and_left (ltb (digit_of h) 16) (ltb (digit_of l) 16) e),
-  ltb-true (digit_of l) 16 (and_right (ltb (digit_of h) 16) (ltb (digit_of l) 16) e),
-)
+  pub no_byte : byte_of h l ≡ None → is_pair h l ≡ false
+  unfolding byte_of
+  no_byte e = whether (is_pair h l) (λ t. let bad : ◌≡◌ {A = Option ℕ} (Some (pair_byte h l)) None = rw t at e in cc) (λ t. t)
+
+  module _ {b : ℕ} (e : byte_of h l ≡ Some b) where
+    pub is_pair_lem : is_pair h l ≡ true
+    unfolding byte_of
+    is_pair_lem = whether (is_pair h l) (λ t. t) (λ t. let bad : ◌≡◌ {A = Option ℕ} None (Some b) = rw t at e in cc)
+
+    pub is_byte : b ≡ pair_byte h l
+    unfolding byte_of
+    is_byte = let q : ◌≡◌ {A = Option ℕ} (Some (pair_byte h l)) (Some b) = rw is_pair_lem at e in cc
 
 -- ---- a line from a pair on
 
@@ -67,43 +71,28 @@ module _ (line : List ℕ) (at : ℕ) where
       rw (two_from (omega arith), drop-cons line (at + 2) 0 h, q)
 
   -- what a place of a line comes to, by the pair there and what follows it
-  module _ (pair : pair_at line at ≤ 255) where
-    pub is_pair_lem : is_pair (get_or line at 0) (get_or line (at + 1) 0) ≡ true
-    unfolding pair_at
-    is_pair_lem =
-        whether (is_pair (get_or line at 0) (get_or line (at + 1) 0)) (λ e. e)
-        (λ e. absurd (omega (arith, simp e at pair)))
-
-    pub is_byte : pair_at line at ≡ pair_byte (get_or line at 0) (get_or line (at + 1) 0)
-    unfolding pair_at
-    is_byte = simp is_pair_lem
-
+  module _ {b : ℕ} (pair : byte_of (get_or line at 0) (get_or line (at + 1) 0) ≡ Some b) where
     pub last_pairs : at + 2 ≡ length line → are_pairs (drop at line) ≡ true
     unfolding are_pairs
-    last_pairs h = rw (two_from (omega arith), drop_of_length-le line {i = at + 2} (omega arith)) is_pair_lem
+    last_pairs h = rw (two_from (omega arith), drop_of_length-le line {i = at + 2} (omega arith)) (is_pair_lem _ _ pair)
 
-    pub last_bytes : at + 2 ≡ length line → pair_bytes (drop at line) ≡ pair_at line at ∷ []
+    pub last_bytes : at + 2 ≡ length line → pair_bytes (drop at line) ≡ b ∷ []
     unfolding pair_bytes
-    last_bytes h = rw (two_from (omega arith), drop_of_length-le line {i = at + 2} (omega arith), is_byte)
+    last_bytes h = rw (two_from (omega arith), drop_of_length-le line {i = at + 2} (omega arith), is_byte _ _ pair)
 
     pub unspaced : at + 2 < length line → (get_or line (at + 2) 0 ≡ 32 → ⊥) → are_pairs (drop at line) ≡ false
     unspaced h e = rw (three_from h) (pairs_unspaced (get_or line at 0) (get_or line (at + 1) 0) (get_or line (at + 2) 0) (drop (at + 3) line) e)
 
     pub more_pairs : at + 2 < length line → get_or line (at + 2) 0 ≡ 32 → are_pairs (drop at line) ≡ are_pairs (drop (at + 3) line)
-    more_pairs h e = rw (three_from h) (pairs_more (get_or line at 0) (get_or line (at + 1) 0) (get_or line (at + 2) 0) (drop (at + 3) line) is_pair_lem e)
+    more_pairs h e = rw (three_from h) (pairs_more (get_or line at 0) (get_or line (at + 1) 0) (get_or line (at + 2) 0) (drop (at + 3) line) (is_pair_lem _ _ pair) e)
 
-    pub more_bytes : at + 2 < length line → pair_bytes (drop at line) ≡ pair_at line at ∷ pair_bytes (drop (at + 3) line)
+    pub more_bytes : at + 2 < length line → pair_bytes (drop at line) ≡ b ∷ pair_bytes (drop (at + 3) line)
     unfolding pair_bytes
-    more_bytes h = rw (three_from h, is_byte)
+    more_bytes h = rw (three_from h, is_byte _ _ pair)
 
-  pub no_pair : at + 1 < length line → 255 < pair_at line at → are_pairs (drop at line) ≡ false
-  unfolding pair_at
+  pub no_pair : at + 1 < length line → byte_of (get_or line at 0) (get_or line (at + 1) 0) ≡ None → are_pairs (drop at line) ≡ false
   no_pair h p =
-      rw (two_from h)
-      (pairs_wrong (get_or line at 0) (get_or line (at + 1) 0) (drop (at + 2) line)
-      (whether (is_pair (get_or line at 0) (get_or line (at + 1) 0))
-      (λ e. absurd (omega (arith, simp e at p, pair_below (get_or line at 0) (get_or line (at + 1) 0) e)))
-      (λ e. e)))
+      rw (two_from h) (pairs_wrong (get_or line at 0) (get_or line (at + 1) 0) (drop (at + 2) line) (no_byte _ _ p))
 
   pub no_more : length line ≤ at + 1 → are_pairs (drop at line) ≡ false
   no_more e = too_short_lem (drop at line) (simp length-drop (omega arith))
@@ -125,10 +114,6 @@ module _ (line : List ℕ) where
 
 -- ---- what the reader hands back
 
-module _ (line : List ℕ) (r : Pairs) where
-  pub reads_text : r.count ≡ 0 → line_bytes line ≡ [] → Reads line r
-  reads_text z e = record { within = omega arith; front = rw (z, e) }
-
 -- one byte more at the front
 module _ (bytes : List ℕ) (n b : ℕ) (h : n < length bytes) where
   one_more : take (n + 1) (set bytes n b) ≡ take n bytes ++ (b ∷ [])
@@ -137,15 +122,14 @@ module _ (bytes : List ℕ) (n b : ℕ) (h : n < length bytes) where
   pub turn : (all old rest : List ℕ) → all ≡ take n bytes ++ old → old ≡ b ∷ rest → all ≡ take (n + 1) (set bytes n b) ++ rest
   turn all old rest e q = e ∙ rw (q, one_more) (sym (append_snoc (take n bytes) b rest))
 
-  pub reads_last : (line : List ℕ) (at : ℕ) → length line ≤ 29 → b ≡ pair_at line at → b ≤ 255 → at + 2 ≡ length line
+  pub reads_last : (line : List ℕ) (at : ℕ) → length line ≤ 29 → byte_of (get_or line at 0) (get_or line (at + 1) 0) ≡ Some b → at + 2 ≡ length line
       → are_pairs line ≡ are_pairs (drop at line) → pair_bytes line ≡ take n bytes ++ pair_bytes (drop at line)
-      → Reads line (record { count = n + 1; bytes = set bytes n b })
-  reads_last line at short e q last ps bs =
-      let p : pair_at line at ≤ 255 = omega arith in
-      record {
-        within = simp length-set (omega arith);
-        front =
-            one_more
-            ∙ rw (e, ← last_bytes line at p last)
-            (sym bs ∙ sym (is_bytes_lem line short (ps ∙ last_pairs line at p last)));
-      }
+      → Holds line (record { count = n + 1; bytes = set bytes n b })
+  reads_last line at short p last ps bs = record {
+    within = simp length-set (omega arith);
+    some = omega arith;
+    front =
+        one_more
+        ∙ rw (← last_bytes line at p last)
+        (sym bs ∙ sym (is_bytes_lem line short (ps ∙ last_pairs line at p last)));
+  }
