@@ -4,10 +4,13 @@ use mathlib.Core.Path.{◌≡◌, refl, ◌∙◌}
 use mathlib.Core.Bool.{true, false}
 use mathlib.Core.List.{List, [], ◌∷◌}
 use native.Mathlib.Omega.{arith}
+use Rattle.std.proofs.Common.{Some, None}
 use lib.ListN.{length, take, drop}
 use Rattle.scan.specs.Bytes.{index_of, slice}
+use Rattle.script.specs.declared.fields.Field.{Field}
+use Rattle.script.specs.declared.forms.Reading.{Reading}
 use Rattle.script.specs.declared.forms.Numbers.{Numbers}
-use Rattle.script.specs.Fields.{fields_from, field_of, is_right}
+use Rattle.script.specs.Fields.{fields_from, field_of}
 use Rattle.script.specs.Forms.{no_numbers, with_field, is_list, unfit, fitting, formed, read_as, read_of, line_in, line_of}
 use Rattle.script.proofs.Splitting.{from_start, from_behind, field_at, field_length, end_within}
 
@@ -25,11 +28,11 @@ module _ (place : ℕ) (ns : Numbers) where
     line_over e = rw e
 
     module _ (l : List ℕ) (ls : List (List ℕ)) (none : is_list f ≡ false) where
-      field_wrong : is_right (field_of f l) ≡ false → read_as (f ∷ fs) (l ∷ ls) place ns ≡ unfit
+      field_wrong : field_of f l ≡ None → read_as (f ∷ fs) (l ∷ ls) place ns ≡ unfit
       unfolding read_as
       field_wrong e = rw (none, e)
 
-      field_right : is_right (field_of f l) ≡ true → read_as (f ∷ fs) (l ∷ ls) place ns ≡ read_as fs ls (place + length l + 1) (with_field (field_of f l) ns)
+      field_right : {v : Field} → field_of f l ≡ Some v → read_as (f ∷ fs) (l ∷ ls) place ns ≡ read_as fs ls (place + length l + 1) (with_field v ns)
       unfolding read_as
       field_right e = rw (none, e)
 
@@ -66,14 +69,13 @@ module _ (form line : List ℕ) where
         line_ends k = rw (field_at 32 form at end h e b, from_behind 32 line place k) (line_over place ns _ _ none)
 
         module _ (stop : ℕ) (k : place ≤ length line) (q : stop ≡ place + index_of 32 (slice place (length line) line)) (d : stop ≤ length line) where
-          pub wrong_at : is_right (field_of (take (end - at) (drop at form)) (take (stop - place) (drop place line))) ≡ false
+          pub wrong_at : field_of (take (end - at) (drop at form)) (take (stop - place) (drop place line)) ≡ None
               → read_as (fields_from 32 form at) (fields_from 32 line place) place ns ≡ unfit
           wrong_at t = rw (field_at 32 form at end h e b, field_at 32 line place stop k q d) (field_wrong place ns _ _ _ _ none t)
 
-          pub right_at : is_right (field_of (take (end - at) (drop at form)) (take (stop - place) (drop place line))) ≡ true
+          pub right_at : {v : Field} → field_of (take (end - at) (drop at form)) (take (stop - place) (drop place line)) ≡ Some v
               → read_as (fields_from 32 form at) (fields_from 32 line place) place ns
-              ≡ read_as (fields_from 32 form (end + 1)) (fields_from 32 line (stop + 1)) (stop + 1)
-              (with_field (field_of (take (end - at) (drop at form)) (take (stop - place) (drop place line))) ns)
+              ≡ read_as (fields_from 32 form (end + 1)) (fields_from 32 line (stop + 1)) (stop + 1) (with_field v ns)
           right_at t =
               let p : place + length (take (stop - place) (drop place line)) + 1 ≡ stop + 1
               = omega (arith, field_length 32 line place stop k q d) in
@@ -92,12 +94,11 @@ module _ (forms line : List ℕ) where
   no_form_left at k h = rw (from_behind 124 forms at h)
 
   module _ (at end k : ℕ) (h : at ≤ length forms) (e : end ≡ at + index_of 124 (slice at (length forms) forms)) (b : end ≤ length forms) where
-    pub this_form : (read_of (take (end - at) (drop at forms)) line).fits ≡ true
-        → line_in (fields_from 124 forms at) line k ≡ formed k (read_of (take (end - at) (drop at forms)) line)
+    pub this_form : {r : Reading} → read_of (take (end - at) (drop at forms)) line ≡ Some r → line_in (fields_from 124 forms at) line k ≡ formed k (Some r)
     unfolding line_in
     this_form t = rw (field_at 124 forms at end h e b, t)
 
-    pub other_form : (read_of (take (end - at) (drop at forms)) line).fits ≡ false
+    pub other_form : read_of (take (end - at) (drop at forms)) line ≡ None
         → line_in (fields_from 124 forms at) line k ≡ line_in (fields_from 124 forms (end + 1)) line (k + 1)
     unfolding line_in
     other_form t = rw (field_at 124 forms at end h e b, t)
