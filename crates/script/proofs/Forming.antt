@@ -4,15 +4,16 @@ use mathlib.Core.Path.{◌≡◌, refl, ◌∙◌}
 use mathlib.Core.Bool.{true, false}
 use mathlib.Core.List.{List, [], ◌∷◌}
 use native.Mathlib.Omega.{arith}
-use Rattle.std.proofs.Common.{Some, None}
+use Rattle.std.proofs.Common.{◌==◌, Some, None, get_or}
 use lib.ListN.{length, take, drop}
+use Rattle.std.specs.List.{slice_split}
 use Rattle.scan.specs.Bytes.{index_of, slice}
 use Rattle.script.specs.declared.fields.Field.{Field}
 use Rattle.script.specs.declared.forms.Reading.{Reading}
 use Rattle.script.specs.declared.forms.Numbers.{Numbers}
-use Rattle.script.specs.Fields.{fields_from, field_of}
+use Rattle.script.specs.Fields.{fields_of, fields_from, field_of}
 use Rattle.script.specs.Forms.{no_numbers, with_field, is_list, unfit, fitting, formed, read_as, read_of, line_in, line_of}
-use Rattle.script.proofs.Splitting.{from_start, from_behind, field_at, field_length, end_within}
+use Rattle.script.proofs.Splitting.{next_part, parts_over, from_start, from_behind, field_at, field_length, end_within}
 
 -- ---- one form, by the first of what is left of its fields and of the line's
 
@@ -85,20 +86,20 @@ module _ (form line : List ℕ) where
 -- ---- the first form that a line has
 
 module _ (forms line : List ℕ) where
-  pub forms_begin : line_of forms line ≡ line_in (fields_from 124 forms 0) line 0
+  pub forms_begin : line_of forms line ≡ line_in (fields_of 124 forms) line 0
   unfolding line_of
-  forms_begin = rw (from_start 124 forms)
+  forms_begin = refl
 
-  pub no_form_left : (at k : ℕ) → length forms < at → line_in (fields_from 124 forms at) line k ≡ formed k unfit
-  unfolding line_in
-  no_form_left at k h = rw (from_behind 124 forms at h)
-
-  module _ (at end k : ℕ) (h : at ≤ length forms) (e : end ≡ at + index_of 124 (slice at (length forms) forms)) (b : end ≤ length forms) where
-    pub this_form : {r : Reading} → read_of (take (end - at) (drop at forms)) line ≡ Some r → line_in (fields_from 124 forms at) line k ≡ formed k (Some r)
+  module _ (k n : ℕ) (e : k ≡ n) where
+    pub no_form_left : n ≡ length (slice_split (λ b. b == 124) forms) → line_in (drop k (fields_of 124 forms)) line k ≡ formed k unfit
     unfolding line_in
-    this_form t = rw (field_at 124 forms at end h e b, t)
+    no_form_left h = rw (parts_over 124 forms k n e h)
 
-    pub other_form : read_of (take (end - at) (drop at forms)) line ≡ None
-        → line_in (fields_from 124 forms at) line k ≡ line_in (fields_from 124 forms (end + 1)) line (k + 1)
-    unfolding line_in
-    other_form t = rw (field_at 124 forms at end h e b, t)
+    module _ {f : List ℕ} (t : (n < length (slice_split (λ b. b == 124) forms)) × (f ≡ get_or (slice_split (λ b. b == 124) forms) n f)) where
+      pub this_form : {r : Reading} → read_of f line ≡ Some r → line_in (drop k (fields_of 124 forms)) line k ≡ formed k (Some r)
+      unfolding line_in
+      this_form q = rw (next_part 124 forms k n f e t, q)
+
+      pub other_form : read_of f line ≡ None → line_in (drop k (fields_of 124 forms)) line k ≡ line_in (drop (k + 1) (fields_of 124 forms)) line (k + 1)
+      unfolding line_in
+      other_form q = rw (next_part 124 forms k n f e t, q)

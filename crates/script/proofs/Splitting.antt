@@ -6,12 +6,49 @@ use mathlib.Core.List.{List, [], ◌∷◌}
 use native.Mathlib.Omega.{arith}
 use borrow.Author.Tests.{le-leb, lt-leb}
 use lib.Dec.{eqb}
+use Rattle.std.proofs.Common.{Option, Some, None, ◌==◌, get_or, add-one, drop-cons, drop_of_length-le}
+use Rattle.std.specs.Iterator.{Yields}
+use Rattle.std.proofs.lemmas.Iterator.{YieldsList}
+use Rattle.std.proofs.lemmas.Iterator.Consumers.{YieldsList-turn, YieldsList-end}
+use Rattle.std.specs.List.{slice_split, onto_first}
 use lib.ListN.{length, take, drop, length-drop}
 use lib.Seq.{drop-drop, take-length, length-take-le}
 use Rattle.scan.specs.Bytes.{index_of, index_after, slice}
 use Rattle.wire.proofs.Tests.{whether}
 use Rattle.signal.proofs.Inside.{order}
 use Rattle.script.specs.Fields.{joined, fields_of, fields_from}
+
+onto_joined : (c : ℕ) (fs : List (List ℕ)) → onto_first c fs ≡ joined c fs
+unfolding joined
+onto_joined c [] = refl
+onto_joined c (f ∷ fs) = refl
+
+-- the fields of a text are the parts that a split at the separator gives
+pub split_fields : (s : ℕ) (text : List ℕ) → slice_split (λ b. b == s) text ≡ fields_of s text
+unfolding fields_of
+split_fields s [] = refl
+split_fields s (c ∷ cs) =
+    rw (split_fields s cs)
+    (whether (c == s) (λ e. rw e) (λ e. rw e (onto_joined c (fields_of s cs))))
+
+-- a turn of a loop over parts has the next of them, and its end has none
+module _ {S A B : Type 0} {steps : S → Option A → S → Type 0} {v : A → B} {s : S} {all : List B} (xs : List A) (t u : S) (r : Option A) where
+  pub part_turn : {x : A} → Yields steps s xs t → r ≡ Some x → steps t r u → YieldsList steps v s all → (length xs < length all) × (v x ≡ get_or all (length xs) (v x))
+  part_turn y q h e = YieldsList-turn e xs t y r u _ q h
+
+  pub parts_end : Yields steps s xs t → r ≡ None → steps t r u → YieldsList steps v s all → length xs ≡ length all
+  parts_end y q h e = let z = YieldsList-end e xs t y r u q h in z.1
+
+-- the next part that a split gives is the next field
+pub next_part : (s : ℕ) (text : List ℕ) (k n : ℕ) (f : List ℕ) → k ≡ n
+    → (n < length (slice_split (λ b. b == s) text)) × (f ≡ get_or (slice_split (λ b. b == s) text) n f)
+    → drop k (fields_of s text) ≡ f ∷ drop (k + 1) (fields_of s text)
+next_part s text k n f e t =
+    let u : (k < length (fields_of s text)) × (f ≡ get_or (fields_of s text) k f) = rw (split_fields s text, ← e) at t in
+    rw (add-one, drop-cons (fields_of s text) k f u.0, ← u.1)
+
+pub parts_over : (s : ℕ) (text : List ℕ) (k n : ℕ) → k ≡ n → n ≡ length (slice_split (λ b. b == s) text) → drop k (fields_of s text) ≡ []
+parts_over s text k n e h = drop_of_length-le (fields_of s text) {i = k} (let l : n ≡ length (fields_of s text) = rw (split_fields s text) at h in omega arith)
 
 module _ (s : ℕ) where
   module _ (c : ℕ) (rest : List ℕ) where

@@ -75,14 +75,11 @@ pub fn read(line: &[u8], forms: &[u8]) -> Line
     ensures { result ≡ line_of forms.now line.now }
 {
     let mut k: usize = 0;
-    let mut at: usize = 0;
-    while at <= forms.len() {
-        let end = scan::find(forms, at, forms.len(), b'|');
-        if let Some(read) = read_as(line, &forms[at..end]) {
+    for form in forms.split(|c| *c == b'|') {
+        if let Some(read) = read_as(line, form) {
             return with_form(k, read);
         }
         k += 1;
-        at = end + 1;
     }
     Line {
         form: k,
@@ -95,10 +92,10 @@ pub fn read(line: &[u8], forms: &[u8]) -> Line
 fn with_form(k: usize, read: Reading) -> Line
     ensures { result ≡ formed k (Some read) }
 {
-    let numbers = read.numbers;
+    let Reading { list, numbers } = read;
     Line {
         form: k,
-        list: read.list,
+        list,
         numbers,
     }
 }

@@ -23,17 +23,10 @@ pub fn by_number(
 ) -> usize
     ensures { Puts (text_by (get_or (fields_of 124 patterns.now) k []) (drop from numbers.now)) out.old at result out.new }
 {
-    let mut passed: usize = 0;
-    let mut start: usize = 0;
-    while start <= patterns.len() {
-        let end = scan::find(patterns, start, patterns.len(), b'|');
-        if passed == k {
-            return by_pattern(out, at, &patterns[start..end], numbers, from);
-        }
-        passed += 1;
-        start = end + 1;
-    }
-    at
+    let Some(pattern) = patterns.split(|c| *c == b'|').nth(k) else {
+        return at;
+    };
+    by_pattern(out, at, pattern, numbers, from)
 }
 
 // Puts a text by a pattern, with the numbers from a place on: `N` stands for the next number, `E` for the next number or `none`, `H` for
