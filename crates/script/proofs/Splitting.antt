@@ -6,10 +6,8 @@ use mathlib.Core.List.{List, [], ◌∷◌}
 use native.Mathlib.Omega.{arith}
 use borrow.Author.Tests.{le-leb, lt-leb}
 use lib.Dec.{eqb}
-use Rattle.std.proofs.Common.{Option, Some, None, ◌==◌, get_or, add-one, drop-cons, drop_of_length-le}
-use Rattle.std.specs.Iterator.{Yields}
+use Rattle.std.proofs.Common.{Option, Some, None, ◌==◌}
 use Rattle.std.proofs.lemmas.Iterator.{YieldsList}
-use Rattle.std.proofs.lemmas.Iterator.Consumers.{YieldsList-turn, YieldsList-end}
 use Rattle.std.specs.List.{slice_split, onto_first}
 use lib.ListN.{length, take, drop, length-drop}
 use lib.Seq.{drop-drop, take-length, length-take-le}
@@ -31,24 +29,37 @@ split_fields s (c ∷ cs) =
     rw (split_fields s cs)
     (whether (c == s) (λ e. rw e) (λ e. rw e (onto_joined c (fields_of s cs))))
 
--- a turn of a loop over parts has the next of them, and its end has none
-module _ {S A B : Type 0} {steps : S → Option A → S → Type 0} {v : A → B} {s : S} {all : List B} (xs : List A) (t u : S) (r : Option A) where
-  pub part_turn : {x : A} → Yields steps s xs t → r ≡ Some x → steps t r u → YieldsList steps v s all → (length xs < length all) × (v x ≡ get_or all (length xs) (v x))
-  part_turn y q h e = YieldsList-turn e xs t y r u _ q h
+-- how many characters some fields have, each with one behind it
+abbrev pub total : List (List ℕ) → ℕ
+total [] = 0
+total (f ∷ fs) = length f + 1 + total fs
 
-  pub parts_end : Yields steps s xs t → r ≡ None → steps t r u → YieldsList steps v s all → length xs ≡ length all
-  parts_end y q h e = let z = YieldsList-end e xs t y r u q h in z.1
+total_joined : (c : ℕ) (fs : List (List ℕ)) → 0 < total fs → total (joined c fs) ≡ total fs + 1
+unfolding joined
+total_joined c [] h = absurd (omega arith)
+total_joined c (f ∷ fs) h = omega arith
 
--- the next part that a split gives is the next field
-pub next_part : (s : ℕ) (text : List ℕ) (k n : ℕ) (f : List ℕ) → k ≡ n
-    → (n < length (slice_split (λ b. b == s) text)) × (f ≡ get_or (slice_split (λ b. b == s) text) n f)
-    → drop k (fields_of s text) ≡ f ∷ drop (k + 1) (fields_of s text)
-next_part s text k n f e t =
-    let u : (k < length (fields_of s text)) × (f ≡ get_or (fields_of s text) k f) = rw (split_fields s text, ← e) at t in
-    rw (add-one, drop-cons (fields_of s text) k f u.0, ← u.1)
+pub total_fields : (s : ℕ) (text : List ℕ) → total (fields_of s text) ≡ length text + 1
+unfolding fields_of
+total_fields s [] = refl
+total_fields s (c ∷ cs) =
+    whether (c == s)
+    (λ e. rw e (omega (arith, total_fields s cs)))
+    (λ e. rw e (omega (arith, total_fields s cs, total_joined c (fields_of s cs) (omega (arith, total_fields s cs)))))
 
-pub parts_over : (s : ℕ) (text : List ℕ) (k n : ℕ) → k ≡ n → n ≡ length (slice_split (λ b. b == s) text) → drop k (fields_of s text) ≡ []
-parts_over s text k n e h = drop_of_length-le (fields_of s text) {i = k} (let l : n ≡ length (fields_of s text) = rw (split_fields s text) at h in omega arith)
+pub few_fields : (fs : List (List ℕ)) → length fs ≤ total fs
+few_fields [] = omega arith
+few_fields (f ∷ fs) = omega (arith, few_fields fs)
+
+-- what an iterator that gives some parts gives next, and what it gives then
+module _ {S A B : Type 0} {steps : S → Option A → S → Type 0} {v : A → B} {s : S} (t : S) where
+  pub part_taken : (parts : List B) → YieldsList steps v s parts → {x : A} → steps s (Some x) t → (parts ≡ v x ∷ drop 1 parts) × YieldsList steps v t (drop 1 parts)
+  part_taken [] y h = absurd (y.runs _ t h)
+  part_taken (p ∷ parts) y h = let r = y.runs.1 _ t h in (rw r.0, record { runs = r.1 })
+
+  pub no_part : (parts : List B) → YieldsList steps v s parts → steps s None t → parts ≡ []
+  no_part [] y h = refl
+  no_part (p ∷ parts) y h = absurd (y.runs.0 t h)
 
 module _ (s : ℕ) where
   module _ (c : ℕ) (rest : List ℕ) where

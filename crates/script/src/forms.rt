@@ -106,22 +106,17 @@ fn read_as(line: &[u8], form: &[u8]) -> Option<Reading>
 {
     let mut numbers = Numbers::none();
     let mut place: usize = 0;
-    let mut at: usize = 0;
-    while at <= form.len() {
-        let end = scan::find(form, at, form.len(), b' ');
-        if is_list(&form[at..end]) {
+    let space = |c: &u8| *c == b' ';
+    let mut fields = line.split(space);
+    for part in form.split(space) {
+        if is_list(part) {
             return Some(fitting(place, numbers));
         }
-        if line.len() < place {
-            return None;
-        }
-        let stop = scan::find(line, place, line.len(), b' ');
-        let field = fields::read(&line[place..stop], &form[at..end])?;
-        numbers = numbers.with(field);
-        place = stop + 1;
-        at = end + 1;
+        let field = fields.next()?;
+        numbers = numbers.with(fields::read(field, part)?);
+        place += field.len() + 1;
     }
-    if place <= line.len() {
+    if fields.next().is_some() {
         return None;
     }
     Some(fitting(place, numbers))
