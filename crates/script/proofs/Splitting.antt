@@ -1,6 +1,6 @@
 -- The fields of a text, one after the other, as the search for the separator finds them.
 use Prim.Native.Nat.{ℕ, suc, ◌+◌, ◌-◌, ◌<◌, ◌≤◌}
-use mathlib.Core.Path.{◌≡◌, refl, ap, ◌∙◌}
+use mathlib.Core.Path.{◌≡◌, refl, sym, ap, ◌∙◌}
 use mathlib.Core.Bool.{true, false}
 use mathlib.Core.List.{List, [], ◌∷◌}
 use native.Mathlib.Omega.{arith}
@@ -119,7 +119,7 @@ module _ (s : ℕ) where
     unfolding fields_from
     from_behind at h = rw (lt-leb at (length text) h)
 
-    from_within : (at : ℕ) → at ≤ length text → fields_from s text at ≡ fields_of s (drop at text)
+    pub from_within : (at : ℕ) → at ≤ length text → fields_from s text at ≡ fields_of s (drop at text)
     unfolding fields_from
     from_within at h = rw (le-leb at (length text) h)
 
@@ -150,3 +150,19 @@ module _ (s : ℕ) where
     pub end_within : (at : ℕ) → at ≤ length text → at + index_of s (slice at (length text) text) ≤ length text
     unfolding slice
     end_within at h = rw take-length (omega (arith, index_within (drop at text), length-drop at text))
+
+-- the fields behind the one that begins at a place
+pub behind_field : (s : ℕ) (text : List ℕ) (at : ℕ) (f : List ℕ) (fs : List (List ℕ)) → fields_from s text at ≡ f ∷ fs
+    → (at + (length f + 1) ≤ length text + 1) × (fs ≡ fields_from s text (at + (length f + 1)))
+behind_field s text at f fs q =
+    order (length text) at
+    (λ h. let e : ◌≡◌ {A = List (List ℕ)} [] (f ∷ fs) = sym (from_behind s text at h) ∙ q in cc)
+    (λ h.
+    let end = at + index_of s (slice at (length text) text) in
+    let b = end_within s text at h in
+    let e = sym (field_at s text at end h refl b) ∙ q in
+    let n : take (end - at) (drop at text) ≡ f = cc in
+    let r : fields_from s text (end + 1) ≡ fs = cc in
+    let l : length f ≡ end - at = ap length (sym n) ∙ field_length s text at end h refl b in
+    let p : at + (length f + 1) ≡ end + 1 = omega arith in
+    (omega arith, rw p (sym r)))

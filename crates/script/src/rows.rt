@@ -32,23 +32,21 @@ pub fn read(
 fn first_row(line: &[u8], at: usize, words: &mut [u16]) -> Option<Row>
     ensures { ReadsFirst line.now 0 (fields_from 32 line.now at) words.old result words.new }
 {
+    if line.len() < at {
+        return None;
+    }
     let mut count: usize = 0;
-    let mut place = at;
-    while place <= line.len() {
-        let end = scan::find(line, place, line.len(), b' ');
-        let field = &line[place..end];
+    let mut next = at;
+    for field in line[at..].split(|c| *c == b' ') {
+        next += field.len() + 1;
         if is_colon(field) {
-            return Some(Row {
-                count,
-                next: end + 1,
-            });
+            return Some(Row { count, next });
         }
         if words.len() <= count {
             return None;
         }
         words[count] = u16::read(field)?;
         count += 1;
-        place = end + 1;
     }
     None
 }
