@@ -4,6 +4,7 @@ ghost use Rattle.buslog.specs.Pairs.{digit_of, byte_of, digit_character, pair_of
 ghost use Rattle.buslog.specs.Parts.{Reads};
 
 // The bytes of a line, one at least, at the front, and how many.
+// Kept: fixed memory; a Vec needs the heap.
 #[derive(Clone, Copy)]
 pub(crate) struct Pairs {
     pub(crate) count: usize,

@@ -25,6 +25,7 @@ fn index_of(bytes: &[u8], byte: u8) -> usize
 }
 
 // Copies bytes to the front of a buffer that has room for them, and tells how many there are; to any other it copies nothing, and tells 0.
+// Kept: it cannot fail, and its clause `no_room` says that 0 is told; an Option would be a failure.
 pub fn copy(from: &[u8], to: &mut [u8]) -> usize
     ensures count { length from.now ≤ length to.old → result ≡ length from.now }
     ensures left { length from.now ≤ length to.old → to.new ≡ take (length from.now) from.now ++ drop (length from.now) to.old }

@@ -11,6 +11,7 @@ pub const MOST: usize = 12;
 
 // A line by its form: the form's number, the place where its list begins, and its numbers with zeros behind them. The form's number is
 // that of all forms where the line has none.
+// Kept: `read` cannot fail, and every line gets a number; in an Option a line that has no form would be a failure.
 #[derive(Clone, Copy)]
 pub struct Line {
     pub form: usize,
@@ -26,6 +27,7 @@ pub(crate) struct Reading {
 }
 
 // The numbers that were read, and how many.
+// Kept: fixed memory; a Vec needs the heap.
 #[derive(Clone, Copy)]
 pub(crate) struct Numbers {
     pub(crate) values: [u32; MOST],

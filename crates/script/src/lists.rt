@@ -28,7 +28,7 @@ impl Element for u16 {
     ghost reads = { decimal_field 65535 };
 
     fn read(field: &[u8]) -> Option<u16> {
-        let number = fields::decimal(field, 65535)?;
+        let number = fields::decimal(field, u16::MAX as u32)?;
         Some(number as u16)
     }
 }
@@ -38,7 +38,7 @@ impl Element for u32 {
     ghost reads = { decimal_field 4294967295 };
 
     fn read(field: &[u8]) -> Option<u32> {
-        fields::decimal(field, 4294967295)
+        fields::decimal(field, u32::MAX)
     }
 }
 
@@ -48,6 +48,7 @@ pub fn read<T: Element>(line: &[u8], at: usize, list: &mut [T]) -> Option<usize>
 {
     let mut n: usize = 0;
     let mut place = at;
+    // Kept: a `for` over a split was tried; in a generic function the check's own text of it (`iterator-loop-field`) is refused.
     while place <= line.len() {
         let end = scan::find(line, place, line.len(), b' ');
         if list.len() <= n {

@@ -9,6 +9,7 @@ use buslog::pairs::pair;
 use buslog::row;
 
 // In the place of a number: none.
+// Kept: `by_number` and `by_pattern` take plain numbers, of which this is one; an Option in the place of each would ask more of callers.
 pub const NONE: u32 = 65536;
 
 // Puts a text by one of some patterns, with the numbers from a place on; `|` stands between patterns. Nothing is put where there is no such
