@@ -1,5 +1,6 @@
 -- What reading a line comes to, pair by pair.
-use Rattle.std.proofs.Common.{◌≡◌, ℕ, suc, ◌+◌, ◌*◌, ◌<◌, ◌≤◌, true, false, Option, Some, None, List, [], ◌∷◌, ◌++◌, length, get_or, take, drop, set, sym, refl, ◌∙◌, add-one, arith, length-drop, length-set, drop_of_length-le, drop-cons, take-suc-set, le-ltb, lt-ltb, eq-eqb, ne_eqb, le-leb}
+use Rattle.std.proofs.Common.{◌≡◌, ℕ, suc, ◌+◌, ◌*◌, ◌<◌, ◌≤◌, true, false, Option, Some, None, List, [], ◌∷◌, ◌++◌, length, get_or, take, set, sym, refl, ◌∙◌, add-one, arith, length-set, take-suc-set, le-ltb, lt-ltb, eq-eqb, ne_eqb, le-leb}
+use Rattle.std.proofs.Common.{Bool, ◌%◌, min, ap, append-nil}
 use mathlib.Core.Bool.{and-false}
 use borrow.Author.Tests.{lt-leb}
 use lib.Seq.{append_snoc}
@@ -57,45 +58,13 @@ too_short_lem [] h = refl
 too_short_lem (x ∷ []) h = refl
 too_short_lem (x ∷ y ∷ xs) h = absurd (omega arith)
 
--- the characters from a place on: two, and what stands behind them
-module _ (line : List ℕ) (at : ℕ) where
-  two_from : at + 1 < length line → drop at line ≡ get_or line at 0 ∷ get_or line (at + 1) 0 ∷ drop (at + 2) line
-  two_from h =
-      let p : suc at ≡ at + 1 = sym (add-one at) in
-      let q : suc (at + 1) ≡ at + 2 = omega arith in
-      rw (drop-cons line at 0 (omega arith), p, drop-cons line (at + 1) 0 h, q)
-
-  three_from : at + 2 < length line → drop at line ≡ get_or line at 0 ∷ get_or line (at + 1) 0 ∷ get_or line (at + 2) 0 ∷ drop (at + 3) line
-  three_from h =
-      let q : suc (at + 2) ≡ at + 3 = omega arith in
-      rw (two_from (omega arith), drop-cons line (at + 2) 0 h, q)
-
-  -- what a place of a line comes to, by the pair there and what follows it
-  module _ {b : ℕ} (pair : byte_of (get_or line at 0) (get_or line (at + 1) 0) ≡ Some b) where
-    pub last_pairs : at + 2 ≡ length line → are_pairs (drop at line) ≡ true
-    unfolding are_pairs
-    last_pairs h = rw (two_from (omega arith), drop_of_length-le line {i = at + 2} (omega arith)) (is_pair_lem _ _ pair)
-
-    pub last_bytes : at + 2 ≡ length line → pair_bytes (drop at line) ≡ b ∷ []
-    unfolding pair_bytes
-    last_bytes h = rw (two_from (omega arith), drop_of_length-le line {i = at + 2} (omega arith), is_byte _ _ pair)
-
-    pub unspaced : at + 2 < length line → (get_or line (at + 2) 0 ≡ 32 → ⊥) → are_pairs (drop at line) ≡ false
-    unspaced h e = rw (three_from h) (pairs_unspaced (get_or line at 0) (get_or line (at + 1) 0) (get_or line (at + 2) 0) (drop (at + 3) line) e)
-
-    pub more_pairs : at + 2 < length line → get_or line (at + 2) 0 ≡ 32 → are_pairs (drop at line) ≡ are_pairs (drop (at + 3) line)
-    more_pairs h e = rw (three_from h) (pairs_more (get_or line at 0) (get_or line (at + 1) 0) (get_or line (at + 2) 0) (drop (at + 3) line) (is_pair_lem _ _ pair) e)
-
-    pub more_bytes : at + 2 < length line → pair_bytes (drop at line) ≡ b ∷ pair_bytes (drop (at + 3) line)
-    unfolding pair_bytes
-    more_bytes h = rw (three_from h, is_byte _ _ pair)
-
-  pub no_pair : at + 1 < length line → byte_of (get_or line at 0) (get_or line (at + 1) 0) ≡ None → are_pairs (drop at line) ≡ false
-  no_pair h p =
-      rw (two_from h) (pairs_wrong (get_or line at 0) (get_or line (at + 1) 0) (drop (at + 2) line) (no_byte _ _ p))
-
-  pub no_more : length line ≤ at + 1 → are_pairs (drop at line) ≡ false
-  no_more e = too_short_lem (drop at line) (simp length-drop (omega arith))
+-- each pair but the last takes three characters, and the last one two
+pub uneven : (xs : List ℕ) → (length xs % 3 ≡ 2 → ⊥) → are_pairs xs ≡ false
+unfolding are_pairs
+uneven [] n = refl
+uneven (h ∷ []) n = refl
+uneven (h ∷ l ∷ []) n = absurd (n refl)
+uneven (h ∷ l ∷ s ∷ rest) n = rw (uneven rest (λ e. n (omega arith)), and-false, and-false)
 
 -- ---- the whole line
 
@@ -112,24 +81,124 @@ module _ (line : List ℕ) where
   unfolding line_bytes
   is_bytes_lem h e = rw (le-leb (length line) 29 h, e)
 
--- ---- what the reader hands back
+-- ---- what is left of a line, three characters at a time
+
+-- none at all is left, or pairs that go on
+abbrev pub go_on : List ℕ → Bool
+go_on [] = true
+go_on (c ∷ cs) = are_pairs (c ∷ cs)
+
+more : (xs : List ℕ) → 0 < length xs → go_on xs ≡ are_pairs xs
+more [] h = absurd (omega arith)
+more (x ∷ xs) h = refl
+
+-- the bytes of the pairs passed are at the front, and the line is what they and the rest make of it
+pub record LeftPairs (line rest : List ℕ) (size n : ℕ) (bytes : List ℕ) : Type 0 where
+  pub three : size ≡ 3
+  pub whole : 0 < length rest → length rest % 3 ≡ 2
+  pub room : 3 * n + length rest ≤ 30
+  pub some : length rest ≡ 0 → 1 ≤ n
+  pub ten : length bytes ≡ 10
+  pub pairs : are_pairs line ≡ go_on rest
+  pub front : pair_bytes line ≡ take n bytes ++ pair_bytes rest
+
+pub pairs_begin : (line bytes : List ℕ) → length line ≤ 29 → length line % 3 ≡ 2 → length bytes ≡ 10 → LeftPairs line line 3 0 bytes
+pairs_begin line bytes h e t = record {
+  three = refl;
+  whole = λ k. e;
+  room = omega arith;
+  some = λ k. absurd (omega arith);
+  ten = t;
+  pairs = sym (more line (omega arith));
+  front = refl;
+}
 
 -- one byte more at the front
 module _ (bytes : List ℕ) (n b : ℕ) (h : n < length bytes) where
   one_more : take (n + 1) (set bytes n b) ≡ take n bytes ++ (b ∷ [])
   one_more = rw add-one (take-suc-set bytes n b h)
 
-  pub turn : (all old rest : List ℕ) → all ≡ take n bytes ++ old → old ≡ b ∷ rest → all ≡ take (n + 1) (set bytes n b) ++ rest
+  turn : (all old rest : List ℕ) → all ≡ take n bytes ++ old → old ≡ b ∷ rest → all ≡ take (n + 1) (set bytes n b) ++ rest
   turn all old rest e q = e ∙ rw (q, one_more) (sym (append_snoc (take n bytes) b rest))
 
-  pub reads_last : (line : List ℕ) (at : ℕ) → length line ≤ 29 → byte_of (get_or line at 0) (get_or line (at + 1) 0) ≡ Some b → at + 2 ≡ length line
-      → are_pairs line ≡ are_pairs (drop at line) → pair_bytes line ≡ take n bytes ++ pair_bytes (drop at line)
-      → Holds line (record { count = n + 1; bytes = set bytes n b })
-  reads_last line at short p last ps bs = record {
-    within = simp length-set (omega arith);
-    some = omega arith;
-    front =
-        one_more
-        ∙ rw (← last_bytes line at p last)
-        (sym bs ∙ sym (is_bytes_lem line short (ps ∙ last_pairs line at p last)));
+-- the next three characters, or the last two
+module _ (line : List ℕ) (n : ℕ) (bytes : List ℕ) where
+  by_byte : (x rest : List ℕ) → LeftPairs line (x ++ rest) 3 n bytes → length x ≡ min 3 (length (x ++ rest)) → 0 < length (x ++ rest)
+      → byte_of (get_or x 0 0) (get_or x 1 0) ≡ None → are_pairs line ≡ false
+  by_byte [] rest l e h q = absurd (omega arith)
+  by_byte (a ∷ []) rest l e h q =
+      let p : 0 < suc (length rest) = omega arith in
+      let w : suc (length rest) % 3 ≡ 2 = l.whole p in
+      let m : 1 ≡ min 3 (suc (length rest)) = e in
+      absurd (omega arith)
+  by_byte (a ∷ b ∷ x) rest l e h q = l.pairs ∙ pairs_wrong a b (x ++ rest) (no_byte a b q)
+
+  by_space : (x rest : List ℕ) → LeftPairs line (x ++ rest) 3 n bytes → length x ≡ 3 → (get_or x 2 0 ≡ 32 → ⊥) → are_pairs line ≡ false
+  by_space [] rest l e q = absurd (omega arith)
+  by_space (a ∷ []) rest l e q = absurd (omega arith)
+  by_space (a ∷ b ∷ []) rest l e q = absurd (omega arith)
+  by_space (a ∷ b ∷ s ∷ x) rest l e q = l.pairs ∙ pairs_unspaced a b s (x ++ rest) q
+
+  by_pair : (x rest : List ℕ) (b : ℕ) → LeftPairs line (x ++ rest) 3 n bytes → length x ≡ min 3 (length (x ++ rest)) → 0 < length (x ++ rest)
+      → byte_of (get_or x 0 0) (get_or x 1 0) ≡ Some b → (length x ≡ 3 → get_or x 2 0 ≡ 32) → LeftPairs line rest 3 (n + 1) (set bytes n b)
+  unfolding are_pairs pair_bytes
+  by_pair [] rest b l e h q s = absurd (omega arith)
+  by_pair (a ∷ []) rest b l e h q s =
+      let p : 0 < suc (length rest) = omega arith in
+      let w : suc (length rest) % 3 ≡ 2 = l.whole p in
+      let m : 1 ≡ min 3 (suc (length rest)) = e in
+      absurd (omega arith)
+  by_pair (a ∷ c ∷ []) [] b l e h q s = record {
+    three = refl;
+    whole = λ k. absurd (omega arith);
+    room = omega (arith, l.room);
+    some = λ k. omega arith;
+    ten = simp length-set l.ten;
+    pairs = l.pairs ∙ is_pair_lem a c q;
+    front = turn bytes n b (omega (arith, l.room, l.ten)) _ _ _ l.front (ap (λ (k : ℕ). k ∷ []) (sym (is_byte a c q)));
   }
+  by_pair (a ∷ c ∷ []) (d ∷ rest) b l e h q s = absurd (omega arith)
+  by_pair (a ∷ c ∷ d ∷ []) rest b l e h q s =
+      let p : 0 < suc (suc (suc (length rest))) = omega arith in
+      let v : suc (suc (suc (length rest))) % 3 ≡ 2 = l.whole p in
+      let w : length rest % 3 ≡ 2 = omega arith in
+      let o : 3 * n + suc (suc (suc (length rest))) ≤ 30 = l.room in
+      record {
+        three = refl;
+        whole = λ k. w;
+        room = omega (arith, l.room);
+        some = λ k. omega arith;
+        ten = simp length-set l.ten;
+        pairs = l.pairs ∙ pairs_more a c d rest (is_pair_lem a c q) (s refl) ∙ sym (more rest (omega arith));
+        front = turn bytes n b (omega (arith, l.room, l.ten)) _ _ _ l.front (ap (λ (k : ℕ). k ∷ pair_bytes rest) (sym (is_byte a c q)));
+      }
+  by_pair (a ∷ c ∷ d ∷ f ∷ x) rest b l e h q s = absurd (omega arith)
+
+  module _ {rest : List ℕ} {size : ℕ} (l : LeftPairs line rest size n bytes) (x after : List ℕ) (size2 : ℕ)
+      (step : (size2 ≡ size) × ((rest ≡ x ++ after) × (length x ≡ min size (length rest)) × (0 < length rest))) where
+    here : LeftPairs line (x ++ after) 3 n bytes
+    here = rw (step.1.0, l.three) at l
+
+    taken : length x ≡ min 3 (length (x ++ after))
+    taken = rw (step.1.0, l.three) at step.1.1
+
+    left : 0 < length (x ++ after)
+    left = rw step.1.0 at step.1.2
+
+    pub no_pair : None ≡ byte_of (get_or x 0 0) (get_or x 1 0) → line_bytes line ≡ []
+    no_pair q = is_text line (by_byte x after here taken left (sym q))
+
+    pub no_space : length x ≡ 3 → (get_or x 2 0 ≡ 32 → ⊥) → line_bytes line ≡ []
+    no_space e q = is_text line (by_space x after here e q)
+
+    pub next_pair : {b : ℕ} → Some b ≡ byte_of (get_or x 0 0) (get_or x 1 0) → (length x ≡ 3 → get_or x 2 0 ≡ 32) → LeftPairs line after size2 (n + 1) (set bytes n b)
+    next_pair {b} q s = let z : size2 ≡ 3 = step.0 ∙ l.three in rw z (by_pair x after b here taken left (sym q) s)
+
+  pub all_pairs : (rest : List ℕ) {size : ℕ} → LeftPairs line rest size n bytes → length line ≤ 29 → length rest ≡ 0 → Holds line (record { count = n; bytes = bytes })
+  unfolding pair_bytes
+  all_pairs [] l h e = record {
+    within = omega (arith, l.room, l.ten);
+    some = l.some refl;
+    front = sym (is_bytes_lem line h l.pairs ∙ l.front ∙ append-nil (take n bytes));
+  }
+  all_pairs (c ∷ cs) l h e = absurd (omega arith)

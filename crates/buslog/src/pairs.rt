@@ -15,25 +15,19 @@ pub(crate) struct Pairs {
 pub(crate) fn read(line: &[u8]) -> Option<Pairs>
     ensures { Reads line.now result }
 {
-    if 29 < line.len() {
+    if 29 < line.len() || line.len() % 3 != 2 {
         return None;
     }
     let mut bytes = [255; 10];
     let mut count = 0;
-    let mut at = 0;
-    while at + 1 < line.len() {
-        let byte = byte(line[at], line[at + 1])?;
-        bytes[count] = byte;
+    for part in line.chunks(3) {
+        match part {
+            [high, low] | [high, low, b' '] => bytes[count] = byte(*high, *low)?,
+            _ => return None,
+        }
         count += 1;
-        if at + 2 == line.len() {
-            return Some(Pairs { count, bytes });
-        }
-        if line[at + 2] != b' ' {
-            return None;
-        }
-        at += 3;
     }
-    None
+    Some(Pairs { count, bytes })
 }
 
 // The byte that two characters are the pair of, if they are one.

@@ -1,41 +1,38 @@
 -- A line of pairs is read to its end, and any other is text.
-use Rattle.std.proofs.Common.{◌≡◌, ◌∙◌, Some, sym, get_or, ◌+◌, arith, length-set}
-use Rattle.buslog.specs.Pairs.{byte_of}
-use Rattle.buslog.proofs.Reading.{reads_last, is_text, too_long, no_pair, no_more, unspaced, more_pairs, more_bytes, turn}
+use Rattle.std.proofs.Common.{arith}
+use Rattle.buslog.proofs.Reading.{is_text, uneven, too_long, pairs_begin, no_pair, no_space, next_pair, all_pairs}
 use Rattle.buslog.proofs.pairs.read.Goals as goal
+use Rattle.buslog.proofs.pairs.read.Goals.{then-line-gt29-via-then-line-gt29, then-line-gt29-via-else-line-gt29+then-line-ne2}
 
 pub returns-then-line-gt29 : goal.returns-then-line-gt29
-returns-then-line-gt29 c = too_long _ c.if-line-gt29.true
+returns-then-line-gt29 c =
+    elim c.then-line-gt29.branch [
+      | then-line-gt29-via-then-line-gt29 w ↦ too_long c.args.line.now w.if-line-gt29.true
+      | then-line-gt29-via-else-line-gt29+then-line-ne2 w ↦ is_text c.args.line.now (uneven c.args.line.now w.if-line-ne2.true)
+    ]
 
-pub returns-in_err-byte : goal.returns-in_err-byte
-returns-in_err-byte c =
-    let line = c.args.line.now in
+pub loop-part-init : goal.loop-part-init
+loop-part-init c =
+    rw (c.into_iter-part-iterator.ensures.into_iter_gives, c.chunks-part-items.ensures.rest, c.chunks-part-items.ensures.size)
+    (pairs_begin c.args.line.now _ c.if-line-gt29.false c.if-line-ne2.false (omega arith))
+
+pub returns-in_err-bytes-in-len2 : goal.returns-in_err-bytes-in-len2
+returns-in_err-bytes-in-len2 c =
     rw c.from_residual.ensures
-    (is_text line (c.loop-at.invariant.pairs ∙ no_pair line c.loop-at.at c.loop-at-test.true (sym c.in_err-byte.ensures)))
+    (no_pair c.args.line.now c.loop-part.count c.loop-part.bytes c.loop-part.invariant c.in-Some.part.now c.next.new.self.rest.now c.next.new.self.size
+    c.in-Some.ensures.steps c.in_err-bytes-in-len2.ensures)
 
-pub returns-then-at-line : goal.returns-then-at-line
-returns-then-at-line c =
-    let i = c.loop-at.invariant in
-    reads_last _ _ _ (omega arith) _ _ (omega arith) (sym c.in_ok-byte.ensures) c.if-at-line.true i.pairs i.front
+pub returns-in_default-2 : goal.returns-in_default-2
+returns-in_default-2 c =
+    no_space c.args.line.now c.loop-part.count c.loop-part.bytes c.loop-part.invariant c.in-Some.part.now c.next.new.self.rest.now c.next.new.self.size
+    c.in-Some.ensures.steps (omega arith) (λ e. omega arith)
 
-pub returns-then-line-at-ne32 : goal.returns-then-line-at-ne32
-returns-then-line-at-ne32 c =
-    let line = c.args.line.now in
-    is_text line (c.loop-at.invariant.pairs ∙ unspaced line c.loop-at.at (sym c.in_ok-byte.ensures) (omega arith) c.if-line-at-ne32.true)
-
-pub loop-at-preserved : goal.loop-at-preserved
-loop-at-preserved c =
-    let i = c.loop-at.invariant in
-    let line = c.args.line.now in
-    let at = c.loop-at.at in
-    let e : byte_of (get_or line at 0) (get_or line (at + 1) 0) ≡ Some c.in_ok-byte.byte = sym c.in_ok-byte.ensures in
-    record {
-      thrice = omega arith;
-      within = omega arith;
-      size = simp length-set i.size;
-      pairs = i.pairs ∙ more_pairs line at e (omega arith) c.if-line-at-ne32.false;
-      front = turn c.loop-at.bytes c.loop-at.count _ (omega arith) _ _ _ i.front (more_bytes line at e (omega arith));
-    }
+pub loop-part-preserved : goal.loop-part-preserved
+loop-part-preserved c =
+    next_pair c.args.line.now c.loop-part.count c.loop-part.bytes c.loop-part.invariant c.in-Some.part.now c.next.new.self.rest.now c.next.new.self.size
+    c.in-Some.ensures.steps c.in_ok-bytes-in-len2.ensures (λ k. grind arith)
 
 pub returns : goal.returns
-returns c = is_text _ (c.loop-at.invariant.pairs ∙ no_more c.args.line.now c.loop-at.at (omega arith))
+returns c =
+    all_pairs c.args.line.now c.loop-part.count c.loop-part.bytes c.loop-part.part-iterator.rest.now c.loop-part.invariant c.if-line-gt29.false
+    c.in-None.ensures.steps.1.0
