@@ -52,12 +52,6 @@ module _ (h l : ℕ) where
   unfolding are_pairs
   pairs_more s rest e q = rw (e, eq-eqb s 32 q)
 
-too_short_lem : (xs : List ℕ) → length xs ≤ 1 → are_pairs xs ≡ false
-unfolding are_pairs
-too_short_lem [] h = refl
-too_short_lem (x ∷ []) h = refl
-too_short_lem (x ∷ y ∷ xs) h = absurd (omega arith)
-
 -- each pair but the last takes three characters, and the last one two
 pub uneven : (xs : List ℕ) → (length xs % 3 ≡ 2 → ⊥) → are_pairs xs ≡ false
 unfolding are_pairs

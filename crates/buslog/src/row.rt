@@ -31,12 +31,12 @@ pub fn decimal(number: u64, digits: &mut [u8; 20]) -> &[u8]
     ensures { result.now ≡ decimal_of number }
 {
     let mut first: usize = 19;
-    digits[19] = (48 + number % 10) as u8;
+    digits[19] = b'0' + (number % 10) as u8;
     let mut rest = number / 10;
     // Kept: what is left of the number ends the loop, and not a place; a `for` over the places would need a break.
     while 0 < rest {
         first -= 1;
-        digits[first] = (48 + rest % 10) as u8;
+        digits[first] = b'0' + (rest % 10) as u8;
         rest = rest / 10;
     }
     &digits[first..]

@@ -111,10 +111,6 @@ module _ (s : ℕ) where
   -- ---- from a place of a text on
 
   module _ (text : List ℕ) where
-    pub from_start : fields_from s text 0 ≡ fields_of s text
-    unfolding fields_from
-    from_start = rw (le-leb 0 (length text) (omega arith))
-
     pub from_behind : (at : ℕ) → length text < at → fields_from s text at ≡ []
     unfolding fields_from
     from_behind at h = rw (lt-leb at (length text) h)
