@@ -1,5 +1,5 @@
 // The fields of a line, each read as its form says.
-ghost use Rattle.std.specs.Prelude.{◌≡◌, List, ℕ, Option};
+ghost use Rattle.std.specs.Prelude.{◌≡◌};
 ghost use Rattle.script.specs.Fields.{field_of, decimal_field, pair_field};
 
 use buslog::pairs;
