@@ -5,7 +5,6 @@ use crate::replies::Reply;
 use crate::texts::Text;
 use desk::{Desk, FORM, LIST, NUMBERS, ROOM_USED, assembly, byte, size};
 use script::lists;
-use script::lists::Count;
 use wire::checksum::Model;
 use wire::{checksum, identifier};
 
@@ -23,7 +22,7 @@ pub(crate) fn answer(line: &[u8], desk: &Desk) -> Reply {
 // Makes the checksum of the bytes that end the line under an identifier.
 fn sum(id: u8, model: Model, line: &[u8], list: usize) -> Reply {
     let mut data = [0u8; LINE_BYTES];
-    let Count::Of(count) = lists::bytes(line, list, &mut data) else {
+    let Some(count) = lists::read(line, list, &mut data) else {
         return Reply::malformed();
     };
     let n = within(count, &data);
@@ -33,7 +32,7 @@ fn sum(id: u8, model: Model, line: &[u8], list: usize) -> Reply {
 // The reassembler takes a frame, the bytes that end the line.
 pub(crate) fn take(line: &[u8], desk: &mut Desk, room: &mut [u8]) -> Reply {
     let mut frame = [0u8; LINE_BYTES];
-    let Count::Of(count) = lists::bytes(line, size(desk[LIST]), &mut frame) else {
+    let Some(count) = lists::read(line, size(desk[LIST]), &mut frame) else {
         return Reply::malformed();
     };
     let n = within(count, &frame);

@@ -6,8 +6,6 @@ use crate::texts::Text;
 use desk::{ANSWER, Desk, FORM, LIST, NUMBERS, byte as byte_of, size, state, word};
 use master::byte::ByteAnswer;
 use master::state::State;
-use script::lists::Count;
-use script::rows::Rows;
 use script::{lists, rows};
 
 // Makes the call that the line at hand is, on what is in use of each buffer.
@@ -62,7 +60,7 @@ fn write(desk: &mut Desk, t: &[u16], frames: &mut [u8]) -> Reply {
 // Writes an array, the bytes that end the line.
 fn writes(line: &[u8], desk: &mut Desk, t: &[u16], frames: &mut [u8]) -> Reply {
     let mut values = [0u8; LINE_BYTES];
-    let Count::Of(count) = lists::bytes(line, size(desk[LIST]), &mut values) else {
+    let Some(count) = lists::read(line, size(desk[LIST]), &mut values) else {
         return Reply::malformed();
     };
     let n = within(count, &values);
@@ -81,7 +79,7 @@ fn write_array(desk: &mut Desk, t: &[u16], frames: &mut [u8], values: &[u8]) -> 
 fn row(line: &[u8], desk: &mut Desk, t: &[u16], frames: &mut [u8]) -> Reply {
     let mut signals = [0u16; LINE_WORDS];
     let mut values = [0u32; LINE_WORDS];
-    let Rows::Of(signals_read, values_read) = rows::read(
+    let Some((signals_read, values_read)) = rows::read(
         line,
         size(desk[LIST]),
         &mut signals,

@@ -41,8 +41,8 @@ unfoldable pub characters_of : List (List ℕ) → ℕ
 characters_of [] = 0
 characters_of (l ∷ ls) = length l + 1 + characters_of ls
 
--- some characters at the front of a buffer, and behind them what was there
-unfoldable pub fronted : List ℕ → List ℕ → List ℕ
+-- some characters, or other things, at the front of a buffer, and behind them what was there
+unfoldable pub fronted : {A : Type 0} → List A → List A → List A
 fronted cs buffer = cs ++ drop (length cs) buffer
 
 -- some characters were put at the front of a buffer, and their number is told

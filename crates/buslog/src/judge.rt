@@ -37,13 +37,10 @@ pub(crate) fn of_line(t: &[u16], line: &[u8]) -> Verdict
     requires { RightTable t.now }
     ensures { result ≡ line_verdict t.now line.now }
 {
-    let read = pairs::read(line);
-    let n = read.count;
-    let bytes = read.bytes;
-    if n == 0 {
+    let Some(read) = pairs::read(line) else {
         return Verdict::Text;
-    }
-    of_bytes(t, &bytes[..n])
+    };
+    of_bytes(t, &read.bytes[..read.count])
 }
 
 // The verdict on one byte or more: protected identifier, data, checksum.
