@@ -1,5 +1,6 @@
 // The verdict on a line.
-ghost use Rattle.std.specs.Prelude.{◌≡◌, ◌≤◌, length};
+ghost use Rattle.cluster.specs.Table.{frame_count};
+ghost use Rattle.std.specs.Prelude.{SomeIff, ◌<◌, ◌≡◌, ◌≤◌, length};
 ghost use Rattle.refusal.specs.Answers.{gives};
 ghost use Rattle.cluster.specs.Check.{RightTable, taken_of};
 ghost use Rattle.cluster.specs.Answers.{behind_table};
@@ -62,11 +63,10 @@ fn of_identifier(t: &[u16], id: u8, rest: &[u8]) -> Verdict
     if id == 60 || id == 61 {
         return of_known(id, 8, Model::Classic, rest);
     }
-    let f = frame_with(t, id);
-    if f < frames::count(t) {
-        return of_known(id, frames::length(t, f), frames::model(t, f), rest);
+    match frame_with(t, id) {
+        Some(f) => of_known(id, frames::length(t, f), frames::model(t, f), rest),
+        None => Verdict::Unknown(id),
     }
-    Verdict::Unknown(id)
 }
 
 // The verdict on the data and the checksum of a known identifier.
@@ -84,17 +84,14 @@ fn of_known(id: u8, length: u16, wish: Model, rest: &[u8]) -> Verdict
     }
 }
 
-// The frame with an identifier; the number of frames where there is none.
-fn frame_with(t: &[u16], id: u8) -> u16
-    ensures { result ≡ frame_with t.now id }
+// The frame with an identifier.
+fn frame_with(t: &[u16], id: u8) -> Option<u16>
+    ensures { SomeIff result (frame_with t.now id < frame_count t.now) (frame_with t.now id) }
 {
-    let n = frames::count(t);
-    let mut f: u16 = 0;
-    while f < n {
+    for f in 0..frames::count(t) {
         if frames::identifier(t, f) == id as u16 {
-            return f;
+            return Some(f);
         }
-        f += 1;
     }
-    f
+    None
 }
