@@ -121,83 +121,41 @@ impl State {
     pub(crate) fn with_pending(self, pending: [bool; Limits::FRAMES]) -> State
         ensures { result ≡ with_pending self pending }
     {
-        let plan = self.plan;
-        let transfer = self.transfer;
-        let message = self.message;
-        let status = self.status;
-        let received = self.received;
-        State {
-            pending,
-            plan,
-            transfer,
-            message,
-            status,
-            received,
-        }
+        State { pending, ..self }
     }
 
     // The state with another plan.
     pub(crate) fn with_plan(self, plan: Plan) -> State
         ensures { result ≡ with_plan self plan }
     {
-        let mut next = self;
-        next.plan = plan;
-        next
+        State { plan, ..self }
     }
 
     // The state with another transfer record.
     pub(crate) fn with_transfer(self, transfer: Transfer) -> State
         ensures { result ≡ with_transfer self transfer }
     {
-        let mut next = self;
-        next.transfer = transfer;
-        next
+        State { transfer, ..self }
     }
 
     // The state with another message.
     pub(crate) fn with_message(self, message: Message) -> State
         ensures { result ≡ with_message self message }
     {
-        let pending = self.pending;
-        let plan = self.plan;
-        let transfer = self.transfer;
-        let status = self.status;
-        let received = self.received;
-        State {
-            pending,
-            plan,
-            transfer,
-            message,
-            status,
-            received,
-        }
+        State { message, ..self }
     }
 
     // The state with another status.
     pub(crate) fn with_status(self, status: Status) -> State
         ensures { result ≡ with_status self status }
     {
-        let mut next = self;
-        next.status = status;
-        next
+        State { status, ..self }
     }
 
     // The state with other receptions.
     pub(crate) fn with_received(self, received: [Reception; Limits::SIGNALS]) -> State
         ensures { result ≡ with_received self received }
     {
-        let pending = self.pending;
-        let plan = self.plan;
-        let transfer = self.transfer;
-        let message = self.message;
-        let status = self.status;
-        State {
-            pending,
-            plan,
-            transfer,
-            message,
-            status,
-            received,
-        }
+        State { received, ..self }
     }
 }
