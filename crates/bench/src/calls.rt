@@ -108,7 +108,10 @@ fn write_row(
 
 // Reads a scalar.
 fn read(desk: &Desk, t: &[u16], frames: &[u8]) -> Reply {
-    Reply::number(Text::VALUE, state::take(desk).read(t, frames, word(desk[NUMBERS])))
+    Reply::number(
+        Text::VALUE,
+        state::take(desk).read(t, frames, word(desk[NUMBERS])),
+    )
 }
 
 // Reads an array.
@@ -170,7 +173,10 @@ fn message(desk: &Desk, t: &[u16]) -> Reply {
 
 // Tells the number of pending members ahead of a frame.
 fn ahead(desk: &Desk, t: &[u16]) -> Reply {
-    Reply::number(Text::AHEAD, state::take(desk).number_ahead(t, word(desk[NUMBERS])))
+    Reply::number(
+        Text::AHEAD,
+        state::take(desk).number_ahead(t, word(desk[NUMBERS])),
+    )
 }
 
 // Puts the bytes of an answer.

@@ -1,11 +1,11 @@
 -- The frame buffer as it is filled, byte by byte and placement by placement.
-use Prim.Native.Nat.{ℕ, zero, suc, ◌+◌, ◌%◌, ◌<◌, ◌≤◌}
+use Prim.Native.Nat.{ℕ, zero, suc, ◌+◌, ◌%◌, ◌≤◌}
 use mathlib.Core.Path.{◌≡◌, refl, sym, ◌∙◌, ap}
 use mathlib.Core.Bool.{Bool, true, false}
-use mathlib.Core.List.{List, ◌∷◌, ◌++◌, append-nil}
+use mathlib.Core.List.{List, ◌∷◌}
 use native.Mathlib.Numerals.{add-one}
 use native.Mathlib.Omega.{arith}
-use lib.ListN.{length, set, take, drop, replicate, length-replicate, drop_of_length-le}
+use lib.ListN.{length, take, replicate, length-replicate}
 use Rattle.signal.specs.Signal.{put_scalar, put_array}
 use Rattle.cluster.specs.Table.{signal_width, signal_start, is_array, placement_count}
 use Rattle.cluster.specs.Fresh.{array_length, start_at, put_start, filled}

@@ -7,8 +7,8 @@ ghost use Rattle.cluster.specs.Read.{SignalRead, leading};
 ghost use Rattle.cluster.specs.Table.{most_frames, most_signals, signal_at, frame_count, signal_count};
 ghost use Rattle.cluster.specs.Table.{signal_kind, signal_width, signal_start, is_array};
 
-use crate::table::{Layout, due, signal_at, whole_records, word};
 use crate::fault;
+use crate::table::{Layout, due, signal_at, whole_records, word};
 use refusal::Refusal;
 
 // How many signals there are.

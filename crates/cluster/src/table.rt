@@ -145,11 +145,7 @@ pub(crate) fn surplus(t: &[u16]) -> Result<(), Refusal>
     ensures { result ≡ surplusOf t.now }
 {
     let end = entry_at(t, word(t, 3) as usize);
-    if end < t.len() {
-        fault(end)
-    } else {
-        Ok(())
-    }
+    if end < t.len() { fault(end) } else { Ok(()) }
 }
 
 // Whether a signal, list or schedule number may follow those before it; `count` is one more than the previous one.

@@ -89,5 +89,5 @@ unfoldable pub reassembly_on : List ℕ → Reassembly
 reassembly_on d =
     record {
       message = cond (eqb (at d 83) 0) None
-        (Some (record { nad = byte_at d 84; length = word_at d 85; count = word_at d 86; counter = byte_at d 87 }));
+          (Some (record { nad = byte_at d 84; length = word_at d 85; count = word_at d 86; counter = byte_at d 87 }));
     }

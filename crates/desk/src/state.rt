@@ -10,9 +10,7 @@ use crate::{
     NONE, OPEN, OPEN_REQUEST, OPEN_RESPONSE, OVERRUN, RECEIVED, REQUEST, SENDING, SIGNALS, SUCCESS,
     WAIT, WRITTEN, byte, word,
 };
-use master::state::{
-    Message, Opened, Plan, Reception, Sending, State, Status, Transfer,
-};
+use master::state::{Message, Opened, Plan, Reception, Sending, State, Status, Transfer};
 
 // Takes the state.
 pub fn take(desk: &Desk) -> State
@@ -54,22 +52,14 @@ fn plan(desk: &Desk) -> Plan
 fn current(n: u32) -> Option<u16>
     ensures { result ≡ current_of n }
 {
-    if n == NONE {
-        None
-    } else {
-        Some(word(n))
-    }
+    if n == NONE { None } else { Some(word(n)) }
 }
 
 // The requested schedule.
 fn requested(n: u32) -> Option<u16>
     ensures { result ≡ requested_of n }
 {
-    if n == NONE {
-        None
-    } else {
-        Some(word(n))
-    }
+    if n == NONE { None } else { Some(word(n)) }
 }
 
 // The transfer record.

@@ -14,7 +14,6 @@ use Rattle.cluster.proofs.Accepted.{then_first}
 use Rattle.master.specs.declared.state.Opened.{Opened}
 use Rattle.master.specs.declared.state.Opened.TheVariants.{Nothing, Frame, Request, Response}
 use Rattle.master.specs.declared.state.State.{State}
-use Rattle.master.specs.declared.byte.ByteAnswer.TheVariants as answer
 use Rattle.master.specs.Answers.{Took}
 use Rattle.master.specs.Admit.{admitted, answered, buffer_size, Step}
 use Rattle.master.specs.Answers.{successful}

@@ -26,11 +26,8 @@ use Rattle.master.specs.Answers.{ArrayAnswer}
 use Rattle.master.specs.Answers.{StatusRead}
 use Rattle.master.specs.Answers.{Chosen}
 use Rattle.master.specs.Answers.{Ticked}
-use Rattle.master.specs.declared.tick.TickAnswer.TheVariants as tick
 use Rattle.master.specs.Answers.{Took}
-use Rattle.master.specs.declared.byte.ByteAnswer.TheVariants as byte
 use Rattle.master.specs.Answers.{Sent}
-use Rattle.master.specs.declared.send.MessageAnswer.TheVariants as tells
 use Rattle.master.specs.Fits.{state_fits}
 use Rattle.master.specs.Transfers.{opening}
 use Rattle.master.specs.Admit.{Step, admitted, answered, buffer_size}

@@ -1,6 +1,6 @@
 -- What each call answers, by the table and the history before it alone. Document 01, demand 3 and "Histories". Nothing here is taken from the
 -- definitions of the calls.
-use Rattle.std.specs.Prelude.{ℕ, suc, ◌≡◌, Bool, true, false, cond, not, ◌&&◌, ltb, leb, eqb, length, get_or, replicate}
+use Rattle.std.specs.Prelude.{ℕ, suc, ◌≡◌, Bool, true, false, cond, not, ◌&&◌, ltb, leb, eqb, length, get_or}
 use Rattle.std.specs.Bool.{beq}
 use mathlib.Core.List.{List, [], ◌∷◌, ◌++◌, Memᴰ}
 use Rattle.refusal.specs.Numbers.{refused}

@@ -4,9 +4,6 @@ use Rattle.std.specs.Prelude.{ℕ, true, false, List, length}
 use Rattle.refusal.specs.declared.Refusal.{Refusal}
 use Rattle.refusal.specs.Answers.{Told}
 use Rattle.master.specs.declared.state.Message.TheVariants.{Sending}
-use Rattle.master.specs.declared.tick.TickAnswer.TheVariants as tick
-use Rattle.master.specs.declared.byte.ByteAnswer.TheVariants as byte
-use Rattle.master.specs.declared.send.MessageAnswer.TheVariants as message
 use Rattle.master.specs.Fresh.{no_status}
 use Rattle.master.specs.State.{with_plan, with_message, with_status}
 use Rattle.master.specs.Admit.{admitted, buffer_size}

@@ -34,7 +34,13 @@ impl State {
     }
 
     // The verdict on a row.
-    fn judge_row(self, t: &[u16], size: usize, signals: &[u16], values: &[u32]) -> Result<(), Refusal>
+    fn judge_row(
+        self,
+        t: &[u16],
+        size: usize,
+        signals: &[u16],
+        values: &[u32],
+    ) -> Result<(), Refusal>
         ensures { result ≡ row_verdict t.now size self signals.now values.now }
     {
         self.admit(t, size)?;

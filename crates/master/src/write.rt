@@ -28,7 +28,13 @@ impl State {
     }
 
     // Writes an array and marks its frame as written.
-    pub fn write_array(&mut self, t: &[u16], bytes: &mut [u8], s: u16, values: &[u8]) -> Result<(), Refusal>
+    pub fn write_array(
+        &mut self,
+        t: &[u16],
+        bytes: &mut [u8],
+        s: u16,
+        values: &[u8],
+    ) -> Result<(), Refusal>
         ensures leaves { Leaves (write_of t.now self.old bytes.old (put s (array values.now))) (handed self.new result) bytes.new }
         ensures told { write_told result ≡ call_told t.now (held self.old bytes.old) (call.write (put s (array values.now))) }
     {

@@ -4,7 +4,7 @@ use mathlib.Core.Path.{◌≡◌, refl, sym, ◌∙◌, ap}
 use mathlib.Core.Bool.{Bool, true, false}
 use mathlib.Core.List.{List}
 use native.Mathlib.Omega.{arith}
-use lib.ListN.{length, replicate}
+use lib.ListN.{length}
 use Rattle.refusal.specs.declared.Refusal.{Refusal}
 use Rattle.refusal.specs.Numbers as number
 use Rattle.cluster.specs.Check.{TakenTable, RightTable, Verdict}
@@ -13,9 +13,7 @@ use Rattle.transport.proofs.Tests.{whether}
 use Rattle.master.specs.declared.state.State.{State}
 use Rattle.master.specs.Answers.{Wrote}
 use Rattle.master.specs.Answers.{Chosen}
-use Rattle.master.specs.declared.tick.TickAnswer.TheVariants as tick
 use Rattle.master.specs.Answers.{Ticked}
-use Rattle.master.specs.declared.byte.ByteAnswer.TheVariants as byte
 use Rattle.master.specs.Answers.{Took}
 use Rattle.master.specs.Answers.{StatusRead}
 use Rattle.master.specs.Answers.{Sent}

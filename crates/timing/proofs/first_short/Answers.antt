@@ -1,11 +1,11 @@
 -- An entry that is passed is not short, and the first that is short is the answer.
-use Rattle.std.proofs.Common.{◌≡◌, ◌<◌, ◌≤◌, not, ap, ◌∙◌, arith}
+use Rattle.std.proofs.Common.{◌<◌, ◌≤◌, not, ap, ◌∙◌, arith}
 use native.Mathlib.Nat.{sub-zero}
 use borrow.Author.Tests.{lt-ltb, le-ltb}
 use Rattle.cluster.proofs.Searching.{right, wrong, ended}
 use Rattle.cluster.specs.Table.{entry_count}
 use Rattle.timing.specs.Judge.{found_of}
-use Rattle.timing.specs.Slots.{entry_holds, first_short}
+use Rattle.timing.specs.Slots.{first_short}
 use Rattle.timing.proofs.Steps.{short_by}
 use Rattle.timing.proofs.first_short.Goals as goal
 

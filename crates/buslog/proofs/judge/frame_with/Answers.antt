@@ -1,5 +1,5 @@
 -- A frame that is passed has another identifier, and the first that has this one is the answer.
-use Rattle.std.proofs.Common.{◌≡◌, ◌<◌, ◌≤◌, refl, sym, ◌∙◌, arith, eq-eqb, ne_eqb}
+use Rattle.std.proofs.Common.{◌<◌, ◌≤◌, refl, sym, ◌∙◌, arith, eq-eqb, ne_eqb}
 use native.Mathlib.Nat.{sub-zero}
 use Rattle.cluster.specs.Table.{frame_count}
 use Rattle.cluster.proofs.Searching.{right, wrong, ended}

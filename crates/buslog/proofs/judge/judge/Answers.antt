@@ -1,5 +1,5 @@
 -- The table is taken, and the verdict on the line is the answer.
-use Rattle.std.proofs.Common.{sym, ◌∙◌, refl}
+use Rattle.std.proofs.Common.{sym, ◌∙◌}
 use Rattle.std.specs.declared.result.Result.TheVariants as result
 use Rattle.refusal.proofs.PassedOn.{passed_on}
 use Rattle.cluster.proofs.TakenLaws.{taken_right}

@@ -1,5 +1,5 @@
 -- Each way out has the tests that led to it, and what the calls answer is put in.
-use Rattle.std.proofs.Common.{◌<◌, ◌≤◌, ◌∙◌, refl, sym, ⊎_elim, arith, eq-eqb, ne_eqb}
+use Rattle.std.proofs.Common.{◌<◌, ◌∙◌, refl, ⊎_elim, arith, eq-eqb, ne_eqb}
 use Rattle.cluster.specs.Table.{frame_count}
 use Rattle.cluster.proofs.FrameLaws.{frame_length_low, frame_length_high}
 use Rattle.buslog.proofs.Judging.{diagnostic, listed, unlisted}

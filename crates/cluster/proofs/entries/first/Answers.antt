@@ -1,10 +1,10 @@
 -- An entry that is passed is not the one, and the first that is the one is the answer.
-use Rattle.std.proofs.Common.{◌≡◌, ◌<◌, ◌≤◌, sym, ◌∙◌, refl, arith}
+use Rattle.std.proofs.Common.{◌<◌, ◌≤◌, sym, ◌∙◌, arith}
 use native.Mathlib.Nat.{sub-zero}
 use borrow.Author.Tests.{eq-eqb, ne_eqb}
 use Rattle.cluster.proofs.Searching.{right, wrong, ended}
 use Rattle.cluster.specs.Lists.{first_entry}
-use Rattle.cluster.specs.Table.{entry_count, entry_schedule}
+use Rattle.cluster.specs.Table.{entry_count}
 use Rattle.cluster.proofs.entries.first.Goals as goal
 
 pub loop-e-init : goal.loop-e-init

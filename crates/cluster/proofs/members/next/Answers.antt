@@ -1,9 +1,9 @@
 -- A member that is passed is not the one, and the first that is the one is the answer.
-use Rattle.std.proofs.Common.{◌≡◌, ◌<◌, ◌≤◌, sym, ◌∙◌, refl, arith}
+use Rattle.std.proofs.Common.{◌<◌, ◌≤◌, sym, ◌∙◌, refl, arith}
 use borrow.Author.Tests.{eq-eqb, ne_eqb}
 use Rattle.cluster.proofs.Searching.{right, wrong, ended}
 use Rattle.cluster.specs.Lists.{next_member}
-use Rattle.cluster.specs.Table.{member_count, member_list}
+use Rattle.cluster.specs.Table.{member_count}
 use Rattle.cluster.proofs.members.next.Goals as goal
 
 pub loop-k-init : goal.loop-k-init

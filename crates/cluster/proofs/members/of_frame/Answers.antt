@@ -1,10 +1,10 @@
 -- A member that is passed is not the one, and the first that is the one is the answer.
-use Rattle.std.proofs.Common.{◌≡◌, ◌<◌, ◌≤◌, sym, ◌∙◌, refl, arith}
+use Rattle.std.proofs.Common.{◌<◌, ◌≤◌, sym, ◌∙◌, arith}
 use native.Mathlib.Nat.{sub-zero}
 use borrow.Author.Tests.{eq-eqb, ne_eqb}
 use Rattle.cluster.proofs.Searching.{right, wrong, ended}
 use Rattle.cluster.specs.Lists.{member_of}
-use Rattle.cluster.specs.Table.{member_count, member_frame}
+use Rattle.cluster.specs.Table.{member_count}
 use Rattle.cluster.proofs.members.of_frame.Goals as goal
 
 pub loop-m-init : goal.loop-m-init

@@ -1,9 +1,8 @@
 -- A placement that is passed is not the one, and the first that is the one is the answer.
-use Rattle.std.proofs.Common.{◌≡◌, ◌<◌, ◌≤◌, sym, ◌∙◌, refl, arith}
+use Rattle.std.proofs.Common.{◌<◌, ◌≤◌, sym, ◌∙◌, arith}
 use native.Mathlib.Nat.{sub-zero}
 use borrow.Author.Tests.{eq-eqb, ne_eqb}
 use Rattle.cluster.proofs.Searching.{right, wrong, ended}
-use Rattle.cluster.specs.Places.{places}
 use Rattle.cluster.specs.Values.{first_placement}
 use Rattle.cluster.specs.Table.{placement_count}
 use Rattle.cluster.proofs.placements.first.Goals as goal

@@ -1,9 +1,9 @@
 -- So many bytes were taken.
-use Prim.Native.Nat.{◌+◌, ◌≤◌, ◌-◌}
-use mathlib.Core.Path.{◌≡◌, refl}
+use Prim.Native.Nat.{◌+◌}
+use mathlib.Core.Path.{refl}
 use native.Mathlib.Omega.{arith}
-use lib.ListN.{length, length-set, take}
-use Rattle.desk.specs.Taken.{byte_at, each, nine_on}
+use lib.ListN.{length-set}
+use Rattle.desk.specs.Taken.{byte_at, nine_on}
 use Rattle.desk.proofs.Filling.{taken_none, taken_next, taken_all}
 use Rattle.desk.proofs.state.nine.Goals as goal
 

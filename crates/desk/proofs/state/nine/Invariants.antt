@@ -1,10 +1,8 @@
 -- So many bytes were taken.
-use Prim.Native.Nat.{◌+◌, ◌≤◌, ◌-◌}
-use mathlib.Core.Path.{◌≡◌, refl}
-use native.Mathlib.Omega.{arith}
-use lib.ListN.{length, length-set, take}
-use Rattle.desk.specs.Taken.{byte_at, each, nine_on}
-use Rattle.desk.proofs.Filling.{taken_none, taken_next, taken_all}
+use Prim.Native.Nat.{◌+◌}
+use mathlib.Core.Path.{◌≡◌}
+use lib.ListN.{length, take}
+use Rattle.desk.specs.Taken.{byte_at, each}
 use Rattle.desk.proofs.state.nine.Given as goal
 
 abbrev pub invariant-loop-i : goal.invariant-loop-i

@@ -1,9 +1,8 @@
 -- So many bits were taken.
-use Prim.Native.Nat.{◌≤◌, ◌-◌}
-use mathlib.Core.Path.{◌≡◌, refl}
+use mathlib.Core.Path.{refl}
 use native.Mathlib.Omega.{arith}
-use lib.ListN.{length, length-set, take}
-use Rattle.desk.specs.Taken.{is_set, each, pending_on}
+use lib.ListN.{length-set}
+use Rattle.desk.specs.Taken.{is_set, pending_on}
 use Rattle.desk.proofs.Filling.{taken_none, taken_next, taken_all}
 use Rattle.desk.proofs.state.pending.Goals as goal
 

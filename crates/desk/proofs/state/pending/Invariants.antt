@@ -1,10 +1,7 @@
 -- So many bits were taken.
-use Prim.Native.Nat.{◌≤◌, ◌-◌}
-use mathlib.Core.Path.{◌≡◌, refl}
-use native.Mathlib.Omega.{arith}
-use lib.ListN.{length, length-set, take}
-use Rattle.desk.specs.Taken.{is_set, each, pending_on}
-use Rattle.desk.proofs.Filling.{taken_none, taken_next, taken_all}
+use mathlib.Core.Path.{◌≡◌}
+use lib.ListN.{length, take}
+use Rattle.desk.specs.Taken.{is_set, each}
 use Rattle.desk.proofs.state.pending.Given as goal
 
 abbrev pub invariant-loop-f : goal.invariant-loop-f

@@ -1,10 +1,8 @@
 -- So many were put.
-use Prim.Native.Nat.{◌≤◌, ◌-◌}
-use mathlib.Core.Path.{◌≡◌}
 use native.Mathlib.Omega.{arith}
 use lib.ListN.{get_or}
 use Rattle.master.specs.Fresh.{never_received}
-use Rattle.desk.specs.Put.{reception_number, with_each, with_received}
+use Rattle.desk.specs.Put.{reception_number, with_received}
 use Rattle.desk.proofs.Filling.{put_none, put_next, put_all}
 use Rattle.desk.proofs.state.put_received.Goals as goal
 

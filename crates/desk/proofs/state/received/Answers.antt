@@ -1,11 +1,7 @@
 -- So many were taken.
-use Prim.Native.Nat.{ℕ, ◌+◌, ◌≤◌, ◌-◌}
-use mathlib.Core.Path.{◌≡◌}
-use mathlib.Core.List.{List}
 use native.Mathlib.Omega.{arith}
-use lib.ListN.{length, length-set, take}
-use Rattle.master.specs.declared.state.Reception.{Reception}
-use Rattle.desk.specs.Taken.{at, each, reception_of, received_on}
+use lib.ListN.{length-set}
+use Rattle.desk.specs.Taken.{received_on}
 use Rattle.desk.proofs.Filling.{taken_none, taken_next, taken_all}
 use borrow.Author.Rules.{rules}
 use Rattle.desk.proofs.state.received.Invariants.{on}

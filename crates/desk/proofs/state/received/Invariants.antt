@@ -1,12 +1,10 @@
 -- So many were taken.
-use Prim.Native.Nat.{ℕ, ◌+◌, ◌≤◌, ◌-◌}
+use Prim.Native.Nat.{ℕ, ◌+◌}
 use mathlib.Core.Path.{◌≡◌}
 use mathlib.Core.List.{List}
-use native.Mathlib.Omega.{arith}
-use lib.ListN.{length, length-set, take}
+use lib.ListN.{length, take}
 use Rattle.master.specs.declared.state.Reception.{Reception}
-use Rattle.desk.specs.Taken.{at, each, reception_of, received_on}
-use Rattle.desk.proofs.Filling.{taken_none, taken_next, taken_all}
+use Rattle.desk.specs.Taken.{at, each, reception_of}
 use Rattle.desk.proofs.state.received.Given as goal
 
 -- the reception of signal i on the desk

@@ -1,12 +1,10 @@
 -- The bits before fit, so the whole fits where those left do.
-use Prim.Native.Nat.{◌-◌, ◌≤◌}
 use borrow.Author.Rules.{rules}
 use borrow.Author.Tests.{not-false, not-true}
-use lib.ListN.{drop, length}
+use lib.ListN.{length}
 use mathlib.Core.Path.{◌∙◌, ◌≡◌, refl, sym}
 use native.Mathlib.Omega.{arith}
 use Rattle.master.proofs.Bits.{bits_end, bits_right, bits_wrong}
-use Rattle.master.specs.Fits.{pending_fits}
 use Rattle.master.proofs.pending.pending_fits.Goals as goal
 
 pub loop-f-init : goal.loop-f-init
@@ -27,7 +25,7 @@ loop-f-preserved c =
     let test = c.loop-f-test in
     let l : length a.pending ≡ 60 = search rules in
     at.invariant ∙ bits_right a.t.now at.f a.pending (omega (arith, l, test.true))
-          (sym c.bit_fits.ensures ∙ not-false c.bit_fits.result c.if-not-bit_fits.false-raw)
+    (sym c.bit_fits.ensures ∙ not-false c.bit_fits.result c.if-not-bit_fits.false-raw)
 
 pub returns : goal.returns
 returns c =

@@ -1,5 +1,5 @@
 -- One bit more is set, up to the first placement that is none of the signal.
-use Rattle.std.proofs.Common.{◌<◌, sym, ◌∙◌, arith}
+use Rattle.std.proofs.Common.{sym, ◌∙◌, arith}
 use Rattle.master.proofs.Marking.{marks_begin, marks_on, marks_end}
 use Rattle.master.proofs.placed.mark.Goals as goal
 

@@ -1,5 +1,5 @@
 -- One placement more is put, up to the first that is none of the signal.
-use Rattle.std.proofs.Common.{◌<◌, sym, ◌∙◌, refl, arith}
+use Rattle.std.proofs.Common.{sym, ◌∙◌, refl, arith}
 use Rattle.cluster.specs.Values.{with_array}
 use Rattle.master.proofs.PlacedTurns.{each_begins, each_on, each_ends}
 use Rattle.master.proofs.placed.put_array.Goals as goal

@@ -1,5 +1,5 @@
 -- A placement in the frame is met, or none is up to the first that is none of the signal.
-use Rattle.std.proofs.Common.{◌<◌, sym, ◌∙◌, arith}
+use Rattle.std.proofs.Common.{sym, ◌∙◌, arith}
 use Rattle.master.proofs.PlacedTurns.{touch_begins, touch_on, touch_ends, touch_found}
 use Rattle.master.proofs.placed.touches.Goals as goal
 

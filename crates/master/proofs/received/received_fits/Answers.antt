@@ -1,12 +1,10 @@
 -- Those before fit, so the whole fits where those left do.
-use Prim.Native.Nat.{◌-◌, ◌≤◌}
 use borrow.Author.Rules.{rules}
 use borrow.Author.Tests.{not-false, not-true}
-use lib.ListN.{drop, length}
+use lib.ListN.{length}
 use mathlib.Core.Path.{◌∙◌, ◌≡◌, refl, sym}
 use native.Mathlib.Omega.{arith}
 use Rattle.master.proofs.ReceivedSteps.{receptions_end, receptions_right, receptions_wrong}
-use Rattle.master.specs.Received.{received_fits}
 use Rattle.master.proofs.received.received_fits.Goals as goal
 
 pub loop-s-init : goal.loop-s-init
@@ -27,7 +25,7 @@ loop-s-preserved c =
     let test = c.loop-s-test in
     let l : length a.received ≡ 256 = search rules in
     at.invariant ∙ receptions_right a.t.now at.s a.received (omega (arith, l, test.true))
-          (sym c.fits.ensures ∙ not-false c.fits.result c.if-not-fits.false-raw)
+    (sym c.fits.ensures ∙ not-false c.fits.result c.if-not-fits.false-raw)
 
 pub returns : goal.returns
 returns c =

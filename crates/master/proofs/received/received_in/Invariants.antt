@@ -1,13 +1,9 @@
 -- The placements before are received.
-use Prim.Native.Nat.{◌-◌, ◌≤◌}
-use mathlib.Core.Path.{◌≡◌, refl, ◌∙◌, ap}
-use native.Mathlib.Omega.{arith}
-use borrow.Author.Rules.{rules}
-use lib.ListN.{length, length-set}
+use Prim.Native.Nat.{◌≤◌}
+use mathlib.Core.Path.{◌≡◌}
+use lib.ListN.{length}
 use Rattle.cluster.specs.Table.{placement_count}
 use Rattle.master.specs.Received.{received_up_to}
-use Rattle.master.proofs.ReceivedSteps.{up_to_here, up_to_not}
-use Rattle.master.proofs.received.received_in.Lts.{then-s-lt-SIGNALS, else-s-lt-SIGNALS}
 use Rattle.master.proofs.received.received_in.Given as goal
 
 abbrev pub invariant-loop-k : goal.invariant-loop-k

@@ -1,9 +1,6 @@
 -- The bits so far, with the later signals of the row marked, are what is wanted.
-use Prim.Native.Nat.{◌-◌, ◌≤◌}
-use mathlib.Core.Path.{◌≡◌, refl, sym, ◌∙◌}
+use mathlib.Core.Path.{refl, sym, ◌∙◌}
 use native.Mathlib.Omega.{arith}
-use lib.ListN.{length, drop}
-use Rattle.master.specs.WriteRow.{marked_bits}
 use Rattle.master.proofs.PendingLength.{marked_length}
 use Rattle.master.proofs.RowTurns.{marks_turn, marks_end}
 use Rattle.master.proofs.row.mark_row.Goals as goal
@@ -16,8 +13,10 @@ loop-s-preserved c =
     let a = c.args in
     let at = c.loop-s in
     let below = c.loop-s-test.true in
-    let marked = c.mark.ensures in (at.invariant.0 ∙ marks_turn a.t.now a.signals.now at.s-index below at.pending ∙ rw marked,
-      rw marked (marked_length a.t.now _ 0 at.pending) ∙ at.invariant.1)
+    let marked = c.mark.ensures in (
+      at.invariant.0 ∙ marks_turn a.t.now a.signals.now at.s-index below at.pending ∙ rw marked,
+      rw marked (marked_length a.t.now _ 0 at.pending) ∙ at.invariant.1,
+    )
 
 pub shape_of-pending : goal.shape_of-pending
 shape_of-pending c = c.loop-s.invariant.1

@@ -1,11 +1,7 @@
 -- The bits so far, with the later signals of the row marked, are what is wanted.
-use Prim.Native.Nat.{◌-◌, ◌≤◌}
-use mathlib.Core.Path.{◌≡◌, refl, sym, ◌∙◌}
-use native.Mathlib.Omega.{arith}
+use mathlib.Core.Path.{◌≡◌}
 use lib.ListN.{length, drop}
 use Rattle.master.specs.WriteRow.{marked_bits}
-use Rattle.master.proofs.PendingLength.{marked_length}
-use Rattle.master.proofs.RowTurns.{marks_turn, marks_end}
 use Rattle.master.proofs.row.mark_row.Given as goal
 
 abbrev pub invariant-loop-s : goal.invariant-loop-s

@@ -1,12 +1,10 @@
 -- The bytes so far, with the later pairs of the row put in, are what is wanted.
-use Prim.Native.Nat.{◌-◌, ◌≤◌}
-use mathlib.Core.Path.{◌≡◌, refl, sym, ◌∙◌}
-use native.Mathlib.Omega.{arith}
+use Prim.Native.Nat.{◌≤◌}
+use mathlib.Core.Path.{◌≡◌}
 use lib.ListN.{length}
-use Rattle.master.specs.Put.{scalar, puts}
+use Rattle.master.specs.Put.{puts}
 use Rattle.master.specs.WriteRow.{first_bad, with_row}
-use Rattle.master.proofs.ReadBack.{value_length}
-use Rattle.master.proofs.RowTurns.{puts_from, put_turn, put_end, good_turn, good_value}
+use Rattle.master.proofs.RowTurns.{puts_from}
 use Rattle.std.specs.Prelude.{Ok}
 use Rattle.master.proofs.row.put_row.Given as goal
 

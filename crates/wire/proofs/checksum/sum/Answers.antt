@@ -1,6 +1,5 @@
 -- One byte more is added, and at the end none is left.
-use Rattle.std.proofs.Common.{sym, ◌∙◌, ap}
-use Rattle.wire.specs.Checksum.{sum}
+use Rattle.std.proofs.Common.{sym, ◌∙◌}
 use Rattle.wire.proofs.Sums.{sum_step, sum_end}
 use Rattle.wire.proofs.checksum.sum.Goals as goal
 

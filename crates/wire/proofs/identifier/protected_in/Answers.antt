@@ -1,5 +1,4 @@
 -- The line of the identifier, in its half of the list, is not passed.
-use Prim.Native.Nat.{◌-◌, ◌%◌, ◌≤◌}
 use native.Mathlib.Omega.{arith}
 use Rattle.wire.proofs.ListLaws.{found, passed}
 use Rattle.wire.proofs.identifier.protected_in.Goals as goal

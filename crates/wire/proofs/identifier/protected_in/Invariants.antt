@@ -1,7 +1,5 @@
 -- The line of the identifier, in its half of the list, is not passed.
-use Prim.Native.Nat.{◌-◌, ◌%◌, ◌≤◌}
-use native.Mathlib.Omega.{arith}
-use Rattle.wire.proofs.ListLaws.{found, passed}
+use Prim.Native.Nat.{◌%◌, ◌≤◌}
 use Rattle.wire.proofs.identifier.protected_in.Given as goal
 
 abbrev pub invariant-loop-i : goal.invariant-loop-i

@@ -1,6 +1,5 @@
 -- By cases of what is open.
 use Rattle.std.proofs.Common.{◌∙◌, sym, refl, length, arith}
-use Rattle.master.specs.Answers.{handed}
 use Rattle.master.specs.Byte.{last_byte}
 use Rattle.master.proofs.LastByte.{last_frame, last_other, last_response}
 use Rattle.master.proofs.Parts.{frame_end}

@@ -1,6 +1,5 @@
 -- Each way out has the tests that led to it, and what the calls answer is put in.
 use Rattle.std.proofs.Common.{length}
-use Rattle.master.specs.Answers.{handed}
 use Rattle.master.specs.Byte.{received_byte}
 use Rattle.master.proofs.Verdicts.{byte_count_high}
 use Rattle.master.proofs.state.State.received_byte.Goals as goal

@@ -1,5 +1,5 @@
 -- Each way out has the tests that led to it, and what the calls answer is put in.
-use Rattle.std.proofs.Common.{◌∙◌, sym, ap, length, arith, Ok}
+use Rattle.std.proofs.Common.{◌∙◌, sym, ap, arith, Ok}
 use Rattle.refusal.proofs.PassedOn.{passed_on}
 use Rattle.master.specs.Answers.{handed}
 use Rattle.master.specs.declared.state.Message.TheVariants.{Sending}

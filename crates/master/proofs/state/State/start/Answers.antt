@@ -1,7 +1,6 @@
 -- Each way out has the tests that led to it, and what the calls answer is put in.
 use Rattle.std.proofs.Common.{◌∙◌, sym, ap, Ok}
 use Rattle.refusal.proofs.PassedOn.{passed_on}
-use Rattle.master.specs.Answers.{handed}
 use Rattle.master.specs.Start.{fresh_of, started}
 use Rattle.master.proofs.Filling.{filled_fresh}
 use Rattle.master.proofs.ToldLaws.{start_told}

@@ -1,9 +1,6 @@
 -- The transfer so far, rewritten by the later signals of the row, is what is wanted.
-use Prim.Native.Nat.{◌-◌, ◌≤◌}
-use mathlib.Core.Path.{◌≡◌, refl, sym, ◌∙◌}
+use mathlib.Core.Path.{refl, sym, ◌∙◌}
 use native.Mathlib.Omega.{arith}
-use lib.ListN.{length, drop}
-use Rattle.master.specs.WriteRow.{rewritten_by}
 use Rattle.master.proofs.RowTurns.{rewrites_turn, rewrites_end}
 use Rattle.master.proofs.state.Transfer.rewritten_by.Goals as goal
 

@@ -1,10 +1,7 @@
 -- The transfer so far, rewritten by the later signals of the row, is what is wanted.
-use Prim.Native.Nat.{◌-◌, ◌≤◌}
-use mathlib.Core.Path.{◌≡◌, refl, sym, ◌∙◌}
-use native.Mathlib.Omega.{arith}
-use lib.ListN.{length, drop}
+use mathlib.Core.Path.{◌≡◌}
+use lib.ListN.{drop}
 use Rattle.master.specs.WriteRow.{rewritten_by}
-use Rattle.master.proofs.RowTurns.{rewrites_turn, rewrites_end}
 use Rattle.master.proofs.state.Transfer.rewritten_by.Given as goal
 
 abbrev pub invariant-loop-s : goal.invariant-loop-s
