@@ -29,44 +29,24 @@ impl State {
     }
 
     // Whether the state fits the table.
+    #[tactic(auto, unfolding(crate::specs::Fits::state_fits))]
     pub fn fits(self, t: &[u16]) -> bool
         ensures { result ≡ state_fits t.now self }
     {
-        if !self.base_fits(t) {
-            return false;
-        }
-        let received = self.received;
-        received_fits(t, received)
+        self.base_fits(t) && received_fits(t, self.received)
     }
 
     // Whether all but the receptions fits.
     fn base_fits(self, t: &[u16]) -> bool
         ensures { result ≡ base_fits t.now self }
     {
-        let plan = self.plan;
-        let transfer = self.transfer;
-        let opened = transfer.opened;
-        let message = self.message;
-        let pending = self.pending;
-        if !plan.is_there(t) {
-            return false;
-        }
-        if !opened.is_there(t) {
-            return false;
-        }
-        if !plan.wait_fits(t) {
-            return false;
-        }
-        if !pending_fits(t, pending) {
-            return false;
-        }
-        if !plan.can_open(t, message, opened) {
-            return false;
-        }
-        if !transfer.count_fits(t) {
-            return false;
-        }
-        message.fits()
+        self.plan.is_there(t)
+            && self.transfer.opened.is_there(t)
+            && self.plan.wait_fits(t)
+            && pending_fits(t, self.pending)
+            && self.plan.can_open(t, self.message, self.transfer.opened)
+            && self.transfer.count_fits(t)
+            && self.message.fits()
     }
 }
 

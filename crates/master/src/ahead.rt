@@ -19,10 +19,9 @@ impl State {
         ensures told { ahead_told result ≡ call_told t.now (held self []) (call.number_ahead f) }
     {
         self.judge_ahead(t, f)?;
-        let pending = self.pending;
         let m = members::of_frame(t, f);
         let l = members::list(t, m);
-        Ok(count_pending(t, pending, l, m))
+        Ok(count_pending(t, self.pending, l, m))
     }
 
     // The verdict on number ahead.

@@ -52,13 +52,12 @@ impl State {
         requires { byte_verdict t.now (buffer_size t.now) self.old ≡ Ok tt }
         ensures { handed self.new (Ok result) ≡ sent_byte t.now self.old b }
     {
-        let transfer = self.transfer;
-        if transfer.bytes[transfer.count as usize] != b {
+        if self.transfer.bytes[self.transfer.count as usize] != b {
             *self = self.failed(t, true);
             return ByteAnswer::Failure;
         }
-        if transfer.early(t) {
-            *self = self.passed(transfer.bytes);
+        if self.transfer.early(t) {
+            *self = self.passed(self.transfer.bytes);
             return ByteAnswer::More;
         }
         *self = self.sent(t);
@@ -104,15 +103,11 @@ impl State {
         requires { self.transfer.count ≤ 8 }
         ensures { result ≡ passedOf self nine }
     {
-        let transfer = self.transfer;
-        let opened = transfer.opened;
-        let passed = Transfer {
-            opened,
-            count: transfer.count + 1,
+        self.with_transfer(Transfer {
+            count: self.transfer.count + 1,
             bytes: nine,
-            written: transfer.written,
-        };
-        self.with_transfer(passed)
+            ..self.transfer
+        })
     }
 }
 

@@ -13,49 +13,42 @@ impl State {
         requires { open_identifier t.now self.transfer.opened < 64 }
         ensures { result ≡ closedOf t.now self counts success }
     {
-        let transfer = self.transfer;
-        let opened = transfer.opened;
-        let status = self.status;
+        let last = self.transfer.opened.protected(t);
         self.with_transfer(Transfer::none())
-            .with_status(status.after(counts, success, opened.protected(t)))
+            .with_status(self.status.after(counts, success, last))
     }
 
     // It failed.
+    #[tactic(auto, unfolding(crate::specs::Closing::failed))]
     pub(crate) fn failed(self, t: &[u16], counts: bool) -> State
         requires { open_identifier t.now self.transfer.opened < 64 }
         ensures { result ≡ failedOf t.now self counts }
     {
-        let transfer = self.transfer;
-        let opened = transfer.opened;
-        let message = self.message;
+        let opened = self.transfer.opened;
         self.closed(t, counts, false)
-            .with_message(message.failed(opened))
+            .with_message(self.message.failed(opened))
     }
 
     // The master sent it with success: its frame is no longer pending unless it was written since, or the message moves on.
+    #[tactic(auto, unfolding(crate::specs::Closing::sent))]
     pub(crate) fn sent(self, t: &[u16]) -> State
         requires { RightTable t.now × (frame_there t.now self.transfer.opened ≡ true) × (message_fits self.message ≡ true) }
         ensures { result ≡ sentOf t.now self }
     {
-        let pending = self.pending;
-        let transfer = self.transfer;
-        let opened = transfer.opened;
-        let message = self.message;
-        let cleared = opened.sent_pending(t, transfer.written, pending);
+        let opened = self.transfer.opened;
+        let cleared = opened.sent_pending(t, self.transfer.written, self.pending);
         self.closed(t, true, true)
-            .with_message(message.sent(opened))
+            .with_message(self.message.sent(opened))
             .with_pending(cleared)
     }
 
     // The master received it with success: its placements are those received last.
+    #[tactic(auto, unfolding(crate::specs::Closing::received))]
     pub(crate) fn received(self, t: &[u16]) -> State
         requires { open_identifier t.now self.transfer.opened < 64 }
         ensures { result ≡ receivedOf t.now self }
     {
-        let transfer = self.transfer;
-        let opened = transfer.opened;
-        let received = self.received;
-        self.closed(t, true, true)
-            .with_received(opened.received_by(t, received))
+        let received = self.transfer.opened.received_by(t, self.received);
+        self.closed(t, true, true).with_received(received)
     }
 }

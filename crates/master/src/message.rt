@@ -15,12 +15,7 @@ impl Message {
     pub fn is_sending(self) -> bool
         ensures { result ≡ is_sending self }
     {
-        match self {
-            Message::None => false,
-            Message::Sending(sending) => true,
-            Message::Completed => false,
-            Message::Failed => false,
-        }
+        matches!(self, Message::Sending(_))
     }
 
     // The message state.
@@ -29,7 +24,7 @@ impl Message {
     {
         match self {
             Message::None => MessageAnswer::None,
-            Message::Sending(sending) => MessageAnswer::Sending,
+            Message::Sending(_) => MessageAnswer::Sending,
             Message::Completed => MessageAnswer::Completed,
             Message::Failed => MessageAnswer::Failed,
         }
@@ -41,10 +36,8 @@ impl Message {
         ensures { result ≡ message_sent opened self }
     {
         match opened {
-            Opened::Nothing => self,
-            Opened::Frame(f) => self,
             Opened::Request => self.moved(),
-            Opened::Response => self,
+            _ => self,
         }
     }
 
@@ -53,35 +46,31 @@ impl Message {
         ensures { result ≡ message_failed opened self }
     {
         match opened {
-            Opened::Nothing => self,
-            Opened::Frame(f) => self,
             Opened::Request => Message::Failed,
-            Opened::Response => self,
+            _ => self,
         }
     }
 
     // One frame further, or completed.
+    #[tactic(auto, unfolding(crate::specs::Message::moved))]
     fn moved(self) -> Message
         requires { message_fits self ≡ true }
         ensures { result ≡ movedOn self }
     {
         match self {
-            Message::None => Message::None,
             Message::Sending(sending) => sending.moved(),
-            Message::Completed => Message::Completed,
-            Message::Failed => Message::Failed,
+            _ => self,
         }
     }
 
     // Whether a message being sent has a length, and a frame left to send.
+    #[tactic(auto, unfolding(crate::specs::Fits::message_fits))]
     pub(crate) fn fits(self) -> bool
         ensures { result ≡ message_fits self }
     {
         match self {
-            Message::None => true,
             Message::Sending(sending) => sending.fits(),
-            Message::Completed => true,
-            Message::Failed => true,
+            _ => true,
         }
     }
 
@@ -90,10 +79,8 @@ impl Message {
         ensures { result ≡ lent_fits self size }
     {
         match self {
-            Message::None => true,
             Message::Sending(sending) => size == sending.length as usize,
-            Message::Completed => true,
-            Message::Failed => true,
+            _ => true,
         }
     }
 }
@@ -116,11 +103,7 @@ impl Sending {
         ensures { result ≡ sending_at self next frames }
     {
         if next < frames {
-            Message::Sending(Sending {
-                nad: self.nad,
-                length: self.length,
-                next,
-            })
+            Message::Sending(Sending { next, ..self })
         } else {
             Message::Completed
         }

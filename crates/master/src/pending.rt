@@ -25,20 +25,16 @@ pub(crate) fn pending_fits(t: &[u16], pending: [bool; Limits::FRAMES]) -> bool
 }
 
 // Whether a pending bit may stand at a frame: it is not set, or the frame is there and published.
+#[tactic(auto, unfolding(crate::specs::Fits::bit_fits))]
 fn bit_fits(t: &[u16], f: u16, bit: bool) -> bool
     ensures { result ≡ bit_fits t.now f bit }
 {
-    if !bit {
-        return true;
-    }
-    if frames::count(t) <= f {
-        return false;
-    }
-    frames::published(t, f)
+    !bit || f < frames::count(t) && frames::published(t, f)
 }
 
 impl Opened {
     // The pending bits after a success: a frame that was not written since is no longer pending.
+    #[tactic(auto, unfolding(crate::specs::Closing::pending_sent))]
     pub(crate) fn sent_pending(
         self,
         t: &[u16],
@@ -49,10 +45,8 @@ impl Opened {
         ensures { result ≡ pending_sent self written pending }
     {
         match self {
-            Opened::Nothing => pending,
             Opened::Frame(f) => cleared(f, written, pending),
-            Opened::Request => pending,
-            Opened::Response => pending,
+            _ => pending,
         }
     }
 }
@@ -104,10 +98,7 @@ fn is_pending_member(t: &[u16], pending: [bool; Limits::FRAMES], l: u16, m: u16)
     requires { RightTable t.now × (m < member_count t.now) }
     ensures { result ≡ (eqb (member_list t.now m) l && get_or pending (member_frame t.now m) false) }
 {
-    if members::list(t, m) == l {
-        return pending[members::frame(t, m) as usize];
-    }
-    false
+    members::list(t, m) == l && pending[members::frame(t, m) as usize]
 }
 
 // One for a yes.

@@ -98,20 +98,14 @@ impl Plan {
 fn entry_there(t: &[u16], current: Option<u16>) -> bool
     ensures { result ≡ entry_there t.now current }
 {
-    match current {
-        None => true,
-        Some(e) => e < entries::count(t),
-    }
+    current.is_none_or(|e| e < entries::count(t))
 }
 
 // Whether the table has the requested schedule.
 fn schedule_there(t: &[u16], requested: Option<u16>) -> bool
     ensures { result ≡ schedule_there t.now requested }
 {
-    match requested {
-        None => true,
-        Some(n) => (n as usize) < entries::schedules(t),
-    }
+    requested.is_none_or(|n| (n as usize) < entries::schedules(t))
 }
 
 // The delay of the current entry.

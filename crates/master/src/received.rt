@@ -33,23 +33,19 @@ impl Reception {
 }
 
 // Whether a placement is there, one of a signal of the table, and in a frame that is not published.
+#[tactic(auto, unfolding(crate::specs::Received::last_fits))]
 fn placed(t: &[u16], s: u16, k: u16) -> bool
     ensures { result ≡ last_fits t.now s (Some k) }
 {
-    if signals::count(t) <= s {
-        return false;
-    }
-    if placements::count(t) <= k {
-        return false;
-    }
-    if placements::signal(t, k) != s {
-        return false;
-    }
-    !frames::published(t, placements::frame(t, k))
+    s < signals::count(t)
+        && k < placements::count(t)
+        && placements::signal(t, k) == s
+        && !frames::published(t, placements::frame(t, k))
 }
 
 impl Opened {
     // The receptions after a success: each placement in a received frame is the one received last of its signal.
+    #[tactic(auto, unfolding(crate::specs::Received::received_by))]
     pub(crate) fn received_by(
         self,
         t: &[u16],
@@ -58,10 +54,8 @@ impl Opened {
         ensures { result ≡ received_by t.now self received }
     {
         match self {
-            Opened::Nothing => received,
             Opened::Frame(f) => received_in(t, f, received),
-            Opened::Request => received,
-            Opened::Response => received,
+            _ => received,
         }
     }
 }
@@ -105,8 +99,7 @@ impl State {
         if placed::published(t, s) {
             return Some(placed::first(t, s));
         }
-        let received = self.received;
-        last_of(received, s)
+        last_of(self.received, s)
     }
 }
 

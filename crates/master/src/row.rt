@@ -55,11 +55,10 @@ impl State {
         requires { RightTable t.now }
         ensures { result ≡ markedRowOf t.now signals.now self }
     {
-        let transfer = self.transfer;
         let mut pending = self.pending;
         mark_row(t, signals, &mut pending);
         self.with_pending(pending)
-            .with_transfer(transfer.rewritten_by(t, signals))
+            .with_transfer(self.transfer.rewritten_by(t, signals))
     }
 }
 

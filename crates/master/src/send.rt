@@ -49,14 +49,10 @@ impl State {
         ensures { result ≡ send_verdict t.now self size }
     {
         self.admit(t, buffer_size(t))?;
-        if size < 1 {
+        if size < 1 || (Assembly::LONGEST as u32) < size {
             return refused(Refusal::MESSAGE_LENGTH);
         }
-        if (Assembly::LONGEST as u32) < size {
-            return refused(Refusal::MESSAGE_LENGTH);
-        }
-        let message = self.message;
-        if message.is_sending() {
+        if self.message.is_sending() {
             return refused(Refusal::SENDING);
         }
         Ok(())

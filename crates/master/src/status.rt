@@ -31,23 +31,15 @@ impl Status {
     }
 
     // The status after a transfer that counts.
+    #[tactic(auto, unfolding(crate::specs::Status::with_counted))]
     pub fn counted(self, success: bool, last: u8) -> Status
         ensures { result ≡ countedOf self success last }
     {
-        if success {
-            Status {
-                error: self.error,
-                success: true,
-                overrun: self.overruns(),
-                last,
-            }
-        } else {
-            Status {
-                error: true,
-                success: self.success,
-                overrun: self.overruns(),
-                last,
-            }
+        Status {
+            error: self.error || !success,
+            success: self.success || success,
+            overrun: self.overruns(),
+            last,
         }
     }
 
@@ -55,13 +47,7 @@ impl Status {
     fn overruns(self) -> bool
         ensures { result ≡ (self.overrun || (self.error || self.success)) }
     {
-        if self.overrun {
-            return true;
-        }
-        if self.error {
-            return true;
-        }
-        self.success
+        self.overrun || self.error || self.success
     }
 
     // The word: bits 0 to 2, and the protected identifier in bits 8 to 15.

@@ -45,8 +45,7 @@ impl State {
         ensures { result ≡ tick_verdict t.now size lent self }
     {
         self.admit(t, size)?;
-        let message = self.message;
-        if !message.lent_fits(lent) {
+        if !self.message.lent_fits(lent) {
             return refused(Refusal::STATE);
         }
         Ok(())
@@ -74,10 +73,8 @@ impl State {
         requires { open_identifier t.now self.transfer.opened < 64 }
         ensures { result ≡ abandonedOf t.now self }
     {
-        let transfer = self.transfer;
-        let opened = transfer.opened;
-        if opened.is_open() {
-            return self.failed(t, 0 < transfer.count);
+        if self.transfer.opened.is_open() {
+            return self.failed(t, 0 < self.transfer.count);
         }
         self
     }
@@ -96,22 +93,18 @@ impl State {
 }
 
 // What a slot opens.
+#[tactic(auto, unfolding(crate::specs::Tick::slot_opens))]
 fn slot_opens(t: &[u16], pending: [bool; Limits::FRAMES], message: Message, e: u16) -> Opened
     requires { RightTable t.now }
     ensures { result ≡ slot_opens t.now pending message e }
 {
-    let kind = entries::kind(t, e);
     let target = entries::target(t, e);
-    if kind == 0 {
-        return Opened::Frame(target);
+    match entries::kind(t, e) {
+        0 => Opened::Frame(target),
+        1 => first_pending(t, pending, target),
+        2 => request_slot(message),
+        _ => Opened::Response,
     }
-    if kind == 1 {
-        return first_pending(t, pending, target);
-    }
-    if kind == 2 {
-        return request_slot(message);
-    }
-    Opened::Response
 }
 
 // What a request slot opens.

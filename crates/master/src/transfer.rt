@@ -38,12 +38,7 @@ impl Opened {
     pub fn is_open(self) -> bool
         ensures { result ≡ is_open self }
     {
-        match self {
-            Opened::Nothing => false,
-            Opened::Frame(f) => true,
-            Opened::Request => true,
-            Opened::Response => true,
-        }
+        !matches!(self, Opened::Nothing)
     }
 
     // Its format.
@@ -78,6 +73,7 @@ impl Opened {
     }
 
     // Its protected identifier.
+    #[tactic(auto, unfolding(crate::specs::Transfers::open_protected))]
     pub(crate) fn protected(self, t: &[u16]) -> u8
         requires { open_identifier t.now self < 64 }
         ensures { result ≡ open_protected t.now self }
@@ -86,16 +82,17 @@ impl Opened {
     }
 
     // Its checksum over some data.
+    #[tactic(auto, unfolding(crate::specs::Transfers::open_checksum))]
     pub(crate) fn checksum(self, t: &[u16], bytes: &[u8]) -> u8
         requires { (open_identifier t.now self < 64) × (1 ≤ length bytes.now) × (length bytes.now ≤ 8) }
         ensures { result ≡ open_checksum t.now self bytes.now }
     {
         let format = self.format(t);
-        let model = format.model;
-        checksum_byte(format.identifier as u8, model, bytes)
+        checksum_byte(format.identifier as u8, format.model, bytes)
     }
 
     // Data and checksum, the unused ones of the nine bytes 255.
+    #[tactic(auto, unfolding(crate::specs::Transfers::copied))]
     pub(crate) fn copied(self, t: &[u16], bytes: &[u8]) -> [u8; 9]
         requires { (open_identifier t.now self < 64) × (1 ≤ length bytes.now) × (length bytes.now ≤ 8) }
         ensures { result ≡ copied t.now self bytes.now }
@@ -104,6 +101,7 @@ impl Opened {
     }
 
     // The transfer record at the opening.
+    #[tactic(auto, unfolding(crate::specs::Transfers::opening))]
     pub(crate) fn opening(self, t: &[u16], bytes: &[u8], message: Message, lent: &[u8]) -> Transfer
         requires { RightTable t.now × (length bytes.now ≡ buffer_size t.now) × (frame_there t.now self ≡ true) }
         ensures { result ≡ opening t.now bytes.now message lent.now self }
@@ -117,19 +115,20 @@ impl Opened {
     }
 
     // The nine bytes at the opening: a copy where the master sends, and 255 where it receives.
+    #[tactic(auto, unfolding(crate::specs::Transfers::opening, crate::specs::Transfers::sent_data, crate::specs::Transfers::format_of))]
     fn first_bytes(self, t: &[u16], bytes: &[u8], message: Message, lent: &[u8]) -> [u8; 9]
         requires { RightTable t.now × (length bytes.now ≡ buffer_size t.now) × (frame_there t.now self ≡ true) }
         ensures { result ≡ (opening t.now bytes.now message lent.now self).bytes }
     {
         match self {
-            Opened::Nothing => [255; 9],
             Opened::Frame(f) => frame_copy(t, bytes, f),
             Opened::Request => request_copy(t, message, lent),
-            Opened::Response => [255; 9],
+            _ => [255; 9],
         }
     }
 
     // Whether the byte behind the data is their checksum.
+    #[tactic(auto, unfolding(crate::specs::Byte::checksum_right))]
     pub(crate) fn checksum_right(self, t: &[u16], nine: [u8; 9]) -> bool
         requires { (open_identifier t.now self < 64) × (1 ≤ open_length t.now self) × (open_length t.now self ≤ 8) }
         ensures { result ≡ checksum_right t.now self nine }
@@ -144,10 +143,8 @@ impl Opened {
         ensures { result ≡ touches_open t.now s self }
     {
         match self {
-            Opened::Nothing => false,
             Opened::Frame(f) => placed::touches(t, s, f),
-            Opened::Request => false,
-            Opened::Response => false,
+            _ => false,
         }
     }
 
@@ -156,10 +153,8 @@ impl Opened {
         ensures { result ≡ frame_there t.now self }
     {
         match self {
-            Opened::Nothing => true,
             Opened::Frame(f) => f < frames::count(t),
-            Opened::Request => true,
-            Opened::Response => true,
+            _ => true,
         }
     }
 
@@ -207,8 +202,7 @@ impl Transfer {
     pub(crate) fn early(self, t: &[u16]) -> bool
         ensures { result ≡ earlyOf t.now self }
     {
-        let opened = self.opened;
-        (self.count as u16) < opened.length(t)
+        (self.count as u16) < self.opened.length(t)
     }
 
     // The nine bytes with one more.
@@ -222,30 +216,26 @@ impl Transfer {
     }
 
     // Written since its opening, where a signal touches its frame; where it was written before, that is not asked.
+    #[tactic(auto, unfolding(crate::specs::Write::rewritten))]
     pub(crate) fn rewritten(self, t: &[u16], s: u16) -> Transfer
         requires { RightTable t.now }
         ensures { result ≡ rewrittenOf t.now s self }
     {
-        if self.written {
+        if self.written || !self.opened.touched(t, s) {
             return self;
         }
-        let opened = self.opened;
-        let mut next = self;
-        if opened.touched(t, s) {
-            next.written = true;
+        Transfer {
+            written: true,
+            ..self
         }
-        next
     }
 
     // Whether an open transfer has fewer bytes than close it.
+    #[tactic(auto, unfolding(crate::specs::Fits::count_fits))]
     pub(crate) fn count_fits(self, t: &[u16]) -> bool
         ensures { result ≡ count_fits t.now self }
     {
-        let opened = self.opened;
-        if opened.is_open() {
-            return self.count as u16 <= opened.length(t);
-        }
-        true
+        !self.opened.is_open() || self.count as u16 <= self.opened.length(t)
     }
 }
 
@@ -300,10 +290,7 @@ fn protected_byte(id: u8) -> u8
     requires { id < 64 }
     ensures { result ≡ protected_byte id }
 {
-    match identifier::build(id) {
-        Ok(byte) => byte,
-        Err(_) => 0,
-    }
+    identifier::build(id).unwrap_or(0)
 }
 
 // The checksum of 1 to 8 data bytes.
@@ -311,10 +298,7 @@ fn checksum_byte(id: u8, wish: Model, bytes: &[u8]) -> u8
     requires { (id < 64) × (1 ≤ length bytes.now) × (length bytes.now ≤ 8) }
     ensures { result ≡ checksum_byte id wish bytes.now }
 {
-    match checksum::of(id, wish, bytes) {
-        Ok(byte) => byte,
-        Err(_) => 0,
-    }
+    checksum::of(id, wish, bytes).unwrap_or(0)
 }
 
 // Stores the data of a frame in its eight bytes of the buffer.
@@ -336,26 +320,22 @@ pub(crate) fn fill(part: &mut [u8], nine: [u8; 9])
 }
 
 // Whether an entry can open a frame: its own, or a member of its list.
+#[tactic(auto, unfolding(crate::specs::Fits::entry_opens))]
 fn opens_frame(t: &[u16], e: u16, f: u16) -> bool
     ensures { result ≡ entry_opens t.now None e (Frame f) }
 {
-    let kind = entries::kind(t, e);
     let target = entries::target(t, e);
-    if kind == 0 {
-        return target == f;
+    match entries::kind(t, e) {
+        0 => target == f,
+        1 => members::has(t, target, f),
+        _ => false,
     }
-    if kind == 1 {
-        return members::has(t, target, f);
-    }
-    false
 }
 
 // Whether an entry can open the request.
+#[tactic(auto, unfolding(crate::specs::Fits::entry_opens))]
 fn opens_request(t: &[u16], message: Message, e: u16) -> bool
     ensures { result ≡ entry_opens t.now message e Request }
 {
-    if entries::kind(t, e) == 2 {
-        return message.is_sending();
-    }
-    false
+    entries::kind(t, e) == 2 && message.is_sending()
 }

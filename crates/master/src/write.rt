@@ -65,11 +65,10 @@ impl State {
         requires { RightTable t.now }
         ensures { result ≡ markedOf t.now s self }
     {
-        let transfer = self.transfer;
         let mut pending = self.pending;
         placed::mark(t, s, &mut pending);
         self.with_pending(pending)
-            .with_transfer(transfer.rewritten(t, s))
+            .with_transfer(self.transfer.rewritten(t, s))
     }
 }
 

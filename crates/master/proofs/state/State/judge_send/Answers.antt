@@ -3,6 +3,7 @@ use Rattle.std.proofs.Common.{◌∙◌}
 use borrow.Author.Tests.{le-leb, lt-leb}
 use Rattle.refusal.proofs.PassedOn.{passed_on}
 use Rattle.master.specs.Message.{send_verdict}
+use Rattle.master.proofs.state.State.judge_send.Goals.{then-size-lt1-via-then-size-lt1, then-size-lt1-via-else-size-lt1+then-size}
 use Rattle.master.proofs.state.State.judge_send.Goals as goal
 
 pub returns-in_err-admit : goal.returns-in_err-admit
@@ -13,12 +14,13 @@ returns-in_err-admit c =
 pub returns-then-size-lt1 : goal.returns-then-size-lt1
 unfolding send_verdict
 returns-then-size-lt1 c =
-    rw (← c.buffer_size.ensures, ← c.in_ok-admit.ensures.value, lt-leb _ _ c.if-size-lt1.true) c.refused.ensures
-
-pub returns-then-size : goal.returns-then-size
-unfolding send_verdict
-returns-then-size c =
-    rw (← c.buffer_size.ensures, ← c.in_ok-admit.ensures.value, le-leb _ _ c.if-size-lt1.false, lt-leb _ _ c.if-size.true) c.refused-then-size.ensures
+    elim c.then-size-lt1.branch [
+      then-size-lt1-via-then-size-lt1 w ↦
+        rw (← c.buffer_size.ensures, ← c.in_ok-admit.ensures.value, lt-leb _ _ w.if-size-lt1.true) c.refused.ensures
+    | then-size-lt1-via-else-size-lt1+then-size w ↦
+        rw (← c.buffer_size.ensures, ← c.in_ok-admit.ensures.value, le-leb _ _ w.if-size-lt1.false, lt-leb _ _ w.if-size.true)
+        c.refused.ensures
+    ]
 
 pub returns-then-is_sending : goal.returns-then-is_sending
 unfolding send_verdict

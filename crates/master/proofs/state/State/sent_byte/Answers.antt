@@ -6,27 +6,27 @@ use Rattle.master.specs.Byte.{sent_byte}
 use Rattle.master.proofs.Verdicts.{byte_count_high, byte_fits, byte_identifier, byte_table}
 use Rattle.master.proofs.state.State.sent_byte.Goals as goal
 
-pub overflow_cast-transfer : goal.overflow_cast-transfer
-overflow_cast-transfer c =
+pub overflow_cast-self : goal.overflow_cast-self
+overflow_cast-self c =
     record { fits = omega (arith, byte_count_high c.args.t.now (buffer_size c.args.t.now) c.args.self.now c.requires) }
 
-pub bounds-transfer-transfer : goal.bounds-transfer-transfer
-bounds-transfer-transfer c =
+pub bounds-self-self : goal.bounds-self-self
+bounds-self-self c =
     omega (arith, byte_count_high c.args.t.now (buffer_size c.args.t.now) c.args.self.now c.requires)
 
 pub failed-requires : goal.failed-requires
 failed-requires c = byte_identifier c.args.t.now (buffer_size c.args.t.now) c.args.self.now c.requires
 
-pub returns-then-transfer-b : goal.returns-then-transfer-b
+pub returns-then-self-b : goal.returns-then-self-b
 unfolding sent_byte
-returns-then-transfer-b c = rw (ne_eqb _ _ c.if-transfer-b.true, c.failed.ensures)
+returns-then-self-b c = rw (ne_eqb _ _ c.if-self-b.true, c.failed.ensures)
 
 pub passed-requires : goal.passed-requires
 passed-requires c = byte_count_high c.args.t.now (buffer_size c.args.t.now) c.args.self.now c.requires
 
 pub returns-then-early : goal.returns-then-early
 unfolding sent_byte
-returns-then-early c = rw (eq-eqb _ _ c.if-transfer-b.false, ← c.early.ensures, c.if-early.true, c.passed.ensures)
+returns-then-early c = rw (eq-eqb _ _ c.if-self-b.false, ← c.early.ensures, c.if-early.true, c.passed.ensures)
 
 pub sent-requires : goal.sent-requires
 sent-requires c =
@@ -35,4 +35,4 @@ sent-requires c =
 
 pub returns : goal.returns
 unfolding sent_byte
-returns c = rw (eq-eqb _ _ c.if-transfer-b.false, ← c.early.ensures, c.if-early.false, c.sent.ensures)
+returns c = rw (eq-eqb _ _ c.if-self-b.false, ← c.early.ensures, c.if-early.false, c.sent.ensures)
