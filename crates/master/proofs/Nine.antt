@@ -24,10 +24,8 @@ nine_bytes ds x now i e h q =
     rw (q, e, take-length ds, p) (set_at ds 255 (replicate (8 - length ds) 255) x (length ds) refl)
 
 -- the part of the buffer that was lent to take a frame's data, put back
-pub stored : (b nine ys : List ℕ) (at n : ℕ) → at + n ≤ length b → n ≤ length nine → ys ≡ take (length (take (at + n - at) (drop at b))) nine
+pub stored : (b nine ys : List ℕ) (at n : ℕ) → at + n ≤ length b → n ≤ length nine → ys ≡ take n nine
     → put_mid at (at + n - at) b ys ≡ written b at (take n nine)
 stored b nine ys at n h k e =
-    let p : at + n - at ≡ n = omega arith in
     let q : 0 + n - 0 ≡ n = omega arith in
-    let l : length (take n (drop at b)) ≡ n = length-take-le n (drop at b) (simp length-drop (omega arith)) in
-    delivered b nine ys at 0 n (omega arith) (rw (e, p, l, q))
+    delivered b nine ys at 0 n (omega arith) (rw (e, q))

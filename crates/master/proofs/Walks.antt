@@ -1,6 +1,7 @@
 -- The walks over the members of a table: what one member does to the search in a list and to the count of its pending frames.
 use Prim.Native.Nat.{ℕ, suc, ◌+◌, ◌-◌, ◌≤◌, ◌<◌}
-use mathlib.Core.Path.{◌≡◌}
+use mathlib.Core.Path.{◌≡◌, refl}
+use mir.Val.{bool_byte}
 use mathlib.Core.Bool.{Bool, true, false, cond, ◌&&◌}
 use mathlib.Core.List.{List, [], ◌∷◌}
 use native.Mathlib.Numerals.{add-one}
@@ -68,3 +69,12 @@ pub count_end : (t : List ℕ) (l m n : ℕ) (bits : List Bool) (k : ℕ) → n 
     → k ≡ pending_count bits (members_from t l 0 n)
 unfolding pending_count
 count_end t l m n bits k h q = let p = rw (members_end t l m n h) at q in omega (arith, p)
+
+-- a yes counts as one, a no as none
+pub counted_as : (b : Bool) → bool_byte b ≡ cond b 1 0
+counted_as true = refl
+counted_as false = refl
+
+pub at_most_one : (b : Bool) → bool_byte b ≤ 1
+at_most_one true = omega arith
+at_most_one false = omega arith

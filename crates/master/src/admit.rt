@@ -51,6 +51,7 @@ impl State {
 }
 
 // The frame bytes that a table has.
+#[tactic(auto, unfolding(crate::specs::Admit::buffer_size))]
 pub fn buffer_size(t: &[u16]) -> usize
     ensures { result ≡ buffer_size t.now }
 {

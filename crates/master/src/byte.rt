@@ -11,7 +11,7 @@ ghost use Rattle.master.specs.Told.{call_told};
 
 use crate::admit::refused;
 use crate::state::{Opened, State, Transfer};
-use crate::transfer::{fill, store};
+use crate::transfer::store;
 use refusal::Refusal;
 
 // What a byte in answers; a successful response has its eight bytes.
@@ -99,6 +99,7 @@ impl State {
     }
 
     // One more byte has passed.
+    #[tactic(auto, unfolding(crate::specs::Byte::passed))]
     fn passed(self, nine: [u8; 9]) -> State
         requires { self.transfer.count ≤ 8 }
         ensures { result ≡ passedOf self nine }
@@ -116,6 +117,6 @@ fn responding(nine: [u8; 9]) -> ByteAnswer
     ensures { result ≡ Response (take 8 nine) }
 {
     let mut response = [255; 8];
-    fill(&mut response, nine);
+    response.copy_from_slice(&nine[..8]);
     ByteAnswer::Response(response)
 }

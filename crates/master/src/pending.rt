@@ -52,6 +52,7 @@ impl Opened {
 }
 
 // The pending bits without that of a frame, unless it was written since.
+#[tactic(auto, unfolding(crate::specs::Closing::cleared_bit))]
 fn cleared(f: u16, written: bool, pending: [bool; Limits::FRAMES]) -> [bool; Limits::FRAMES]
     requires { f < most_frames }
     ensures { result ≡ cleared_bit f written pending }
@@ -88,7 +89,7 @@ pub(crate) fn count_pending(t: &[u16], pending: [bool; Limits::FRAMES], l: u16, 
 {
     let mut n: u16 = 0;
     for m in 0..end {
-        n += one_if(is_pending_member(t, pending, l, m));
+        n += is_pending_member(t, pending, l, m) as u16;
     }
     n
 }
@@ -99,12 +100,4 @@ fn is_pending_member(t: &[u16], pending: [bool; Limits::FRAMES], l: u16, m: u16)
     ensures { result ≡ (eqb (member_list t.now m) l && get_or pending (member_frame t.now m) false) }
 {
     members::list(t, m) == l && pending[members::frame(t, m) as usize]
-}
-
-// One for a yes.
-fn one_if(yes: bool) -> u16
-    ensures value { result ≡ cond yes 1 0 }
-    ensures upper_bound { result ≤ 1 }
-{
-    if yes { 1 } else { 0 }
 }

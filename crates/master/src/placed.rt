@@ -27,6 +27,7 @@ pub(crate) fn first(t: &[u16], s: u16) -> u16
 }
 
 // Whether the master publishes a signal.
+#[tactic(auto, unfolding(cluster::specs::Values::signal_published))]
 pub(crate) fn published(t: &[u16], s: u16) -> bool
     requires { RightTable t.now }
     ensures { result ≡ signal_published t.now s }
@@ -74,6 +75,7 @@ pub(crate) fn mark(t: &[u16], s: u16, pending: &mut [bool])
 }
 
 // Sets the bit of a frame, where it has one.
+#[tactic(auto, using(crate::proofs::Marking::set_none))]
 fn set(pending: &mut [bool], f: usize)
     ensures { pending.new ≡ set_to pending.old f true }
 {

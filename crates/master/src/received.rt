@@ -92,6 +92,7 @@ fn receiver(t: &[u16], f: u16, k: u16) -> usize
 
 impl State {
     // Where a read of a signal takes its value: of a published one the first placement, of a received one that received last.
+    #[tactic(auto, unfolding(crate::specs::Received::source_of))]
     pub(crate) fn source(self, t: &[u16], s: u16) -> Option<u16>
         requires { RightTable t.now }
         ensures { result ≡ source_of t.now self.received s }

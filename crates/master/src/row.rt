@@ -51,6 +51,7 @@ impl State {
     }
 
     // The frames of a row's signals are pending, and an open transfer of one of them was written since.
+    #[tactic(auto, unfolding(crate::specs::WriteRow::marked_row))]
     fn marked_row(self, t: &[u16], signals: &[u16]) -> State
         requires { RightTable t.now }
         ensures { result ≡ markedRowOf t.now signals.now self }

@@ -93,6 +93,7 @@ impl Reception {
 
 impl State {
     // Nothing pending, no schedule, no transfer, no message, status 0, nothing received.
+    #[tactic(auto, unfolding(crate::specs::Fresh::fresh))]
     pub fn fresh() -> State
         ensures { result ≡ freshState }
     {

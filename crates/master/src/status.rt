@@ -51,20 +51,13 @@ impl Status {
     }
 
     // The word: bits 0 to 2, and the protected identifier in bits 8 to 15.
+    #[tactic(auto, unfolding(crate::specs::Status::status_word))]
     pub fn word(self) -> u16
         ensures { result ≡ status_word self }
     {
-        digit(self.error)
-            + 2 * digit(self.success)
-            + 4 * digit(self.overrun)
+        self.error as u16
+            + 2 * (self.success as u16)
+            + 4 * (self.overrun as u16)
             + 256 * (self.last as u16)
     }
-}
-
-// A bit as a number.
-fn digit(bit: bool) -> u16
-    ensures value { result ≡ digit bit }
-    ensures upper_bound { result ≤ 1 }
-{
-    if bit { 1 } else { 0 }
 }

@@ -42,6 +42,7 @@ impl Opened {
     }
 
     // Its format.
+    #[tactic(auto, unfolding(crate::specs::Transfers::format_of))]
     pub fn format(self, t: &[u16]) -> Format
         ensures { result ≡ format_of t.now self }
     {
@@ -159,6 +160,7 @@ impl Opened {
     }
 
     // Whether an entry can have opened it.
+    #[tactic(auto, unfolding(crate::specs::Fits::entry_opens))]
     pub(crate) fn of_entry(self, t: &[u16], message: Message, e: u16) -> bool
         ensures { result ≡ entry_opens t.now message e self }
     {
@@ -308,15 +310,7 @@ pub(crate) fn store(bytes: &mut [u8], f: u16, n: u16, nine: [u8; 9])
 {
     let at = 8 * (f as usize);
     let end = at + n as usize;
-    fill(&mut bytes[at..end], nine);
-}
-
-// Fills at most nine bytes with those of an array.
-pub(crate) fn fill(part: &mut [u8], nine: [u8; 9])
-    requires { length part.old ≤ 9 }
-    ensures { part.new ≡ take (length part.old) nine }
-{
-    part.copy_from_slice(&nine[..part.len()]);
+    bytes[at..end].copy_from_slice(&nine[..n as usize]);
 }
 
 // Whether an entry can open a frame: its own, or a member of its list.

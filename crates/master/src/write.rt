@@ -61,6 +61,7 @@ impl State {
     }
 
     // The frames of a signal are pending, and an open transfer of one of them was written since.
+    #[tactic(auto, unfolding(crate::specs::Write::marked))]
     fn marked(self, t: &[u16], s: u16) -> State
         requires { RightTable t.now }
         ensures { result ≡ markedOf t.now s self }
@@ -73,6 +74,7 @@ impl State {
 }
 
 // Refusals 4 to 7 of a write.
+#[tactic(auto, unfolding(crate::specs::Write::writable))]
 pub(crate) fn writable(t: &[u16], s: u16, array: bool, fits: bool) -> Result<(), Refusal>
     requires { RightTable t.now }
     ensures { result ≡ writableOf t.now s array fits }

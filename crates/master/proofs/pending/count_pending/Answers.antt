@@ -3,7 +3,7 @@ use mathlib.Core.Path.{ap}
 use native.Mathlib.Nat.{zero-add}
 use native.Mathlib.Omega.{arith}
 use Rattle.cluster.proofs.HeaderLaws.{member_count_lem}
-use Rattle.master.proofs.Walks.{count_end, count_on, members_start}
+use Rattle.master.proofs.Walks.{count_end, at_most_one, count_on, counted_as, members_start}
 use Rattle.master.specs.Ahead.{pending_count}
 use Rattle.master.proofs.pending.count_pending.Goals as goal
 
@@ -17,16 +17,16 @@ pub overflow_add-n : goal.overflow_add-n
 overflow_add-n c =
     let asked = c.requires in
     let a = c.args in
-    omega (arith, c.one_if-n.ensures.upper_bound, c.loop-m.invariant.0, c.loop-m-test.true, asked.1, member_count_lem a.t.now asked.0)
+    omega (arith, at_most_one c.is_pending_member.result, c.loop-m.invariant.0, c.loop-m-test.true, asked.1, member_count_lem a.t.now asked.0)
 
 pub loop-m-preserved : goal.loop-m-preserved
 loop-m-preserved c =
     let a = c.args in
     let at = c.loop-m in
     let i = at.invariant in (
-      omega (arith, c.one_if-n.ensures.upper_bound, i.0),
+      omega (arith, at_most_one c.is_pending_member.result, i.0),
       count_on a.t.now a.l at.m a.end
-          c.loop-m-test.true a.pending at.n _ (rw (c.one_if-n.ensures.value, c.is_pending_member.ensures)) i.1,
+          c.loop-m-test.true a.pending at.n _ (rw (counted_as c.is_pending_member.result, c.is_pending_member.ensures)) i.1,
     )
 
 pub returns : goal.returns
