@@ -3,12 +3,12 @@ use Prim.Native.Nat.{ℕ, suc, ◌+◌, ◌-◌, ◌≤◌}
 use mathlib.Core.Path.{◌≡◌, refl, ◌∙◌}
 use mathlib.Core.List.{List, ◌∷◌, ◌++◌, append-nil}
 use native.Mathlib.Omega.{arith}
-use lib.ListN.{length, set, take, drop, replicate, drop_of_length-le, length-drop}
+use lib.ListN.{length, set, take, drop, replicate, drop_of_length-le}
 use borrow.Rule.Slice.PartMut.{put_mid}
 use Rattle.transport.specs.Reassembly.{written}
 use Rattle.transport.proofs.Bytes.{delivered}
 use Rattle.cluster.proofs.ValueSteps.{drop_replicate}
-use lib.Seq.{set_at, length-take-le, take-length}
+use lib.Seq.{set_at, take-length}
 
 -- a part that is filled to its end has the first bytes
 pub filled_nine : (part nine now : List ℕ) (i : ℕ) → i ≡ length part → now ≡ take i nine ++ drop i part → now ≡ take (length part) nine

@@ -15,11 +15,11 @@ pub returns-then-size-lt1 : goal.returns-then-size-lt1
 unfolding send_verdict
 returns-then-size-lt1 c =
     elim c.then-size-lt1.branch [
-      then-size-lt1-via-then-size-lt1 w ↦
-        rw (← c.buffer_size.ensures, ← c.in_ok-admit.ensures.value, lt-leb _ _ w.if-size-lt1.true) c.refused.ensures
-    | then-size-lt1-via-else-size-lt1+then-size w ↦
-        rw (← c.buffer_size.ensures, ← c.in_ok-admit.ensures.value, le-leb _ _ w.if-size-lt1.false, lt-leb _ _ w.if-size.true)
-        c.refused.ensures
+      | then-size-lt1-via-then-size-lt1 w ↦
+          rw (← c.buffer_size.ensures, ← c.in_ok-admit.ensures.value, lt-leb _ _ w.if-size-lt1.true) c.refused.ensures
+      | then-size-lt1-via-else-size-lt1+then-size w ↦
+          rw (← c.buffer_size.ensures, ← c.in_ok-admit.ensures.value, le-leb _ _ w.if-size-lt1.false, lt-leb _ _ w.if-size.true)
+          c.refused.ensures
     ]
 
 pub returns-then-is_sending : goal.returns-then-is_sending
