@@ -1,43 +1,37 @@
 // The calls of the master: each takes the state from the desk, makes the call, and puts the state back that it hands on.
-use crate::buffers::{LINE_BYTES, LINE_WORDS, numbers_within, within, words_within};
-use crate::forms::Form;
+use crate::buffers::{LINE_BYTES, LINE_WORDS, within};
+use crate::forms::Call;
 use crate::replies::Reply;
-use desk::{ANSWER, Desk, FORM, LIST, NUMBERS, byte as byte_of, size, state, word};
+use desk::{ANSWER, Desk, LIST, NUMBERS, byte as byte_of, size, state, word};
 use master::start::FreshAnswer;
 use master::state::State;
 use script::lists::Count;
 use script::rows::Rows;
 use script::{lists, rows};
 
-// Makes the call that the line at hand is, on what is in use of each buffer.
+// Makes a call, on what is in use of each buffer.
 pub(crate) fn make(
+    call: Call,
     line: &[u8],
     desk: &mut Desk,
     t: &[u16],
     frames: &mut [u8],
     lent: &[u8],
 ) -> Reply {
-    match desk[FORM] {
-        Form::TICK => tick(desk, t, frames, lent),
-        Form::BYTE => byte(desk, t, frames),
-        Form::WRITE => write(desk, t, frames),
-        Form::WRITES => writes(line, desk, t, frames),
-        Form::ROW => row(line, desk, t, frames),
-        Form::READ => read(desk, t, frames),
-        Form::READS => reads(desk, t, frames),
-        Form::FRESH => fresh(desk, t, frames),
-        _ => make_unlent(desk, t),
-    }
-}
-
-// Makes a call that is lent no frame bytes.
-fn make_unlent(desk: &mut Desk, t: &[u16]) -> Reply {
-    match desk[FORM] {
-        Form::AHEAD => ahead(desk, t),
-        Form::SELECT => select(desk, t),
-        Form::STATUS => status(desk, t),
-        Form::SEND => send(desk, t),
-        _ => message(desk, t),
+    match call {
+        Call::Tick => tick(desk, t, frames, lent),
+        Call::Byte => byte(desk, t, frames),
+        Call::Write => write(desk, t, frames),
+        Call::Writes => writes(line, desk, t, frames),
+        Call::Row => row(line, desk, t, frames),
+        Call::Read => read(desk, t, frames),
+        Call::Reads => reads(desk, t, frames),
+        Call::Ahead => ahead(desk, t),
+        Call::Select => select(desk, t),
+        Call::Fresh => fresh(desk, t, frames),
+        Call::Status => status(desk, t),
+        Call::Send => send(desk, t),
+        Call::Message => message(desk, t),
     }
 }
 
@@ -94,8 +88,8 @@ fn row(line: &[u8], desk: &mut Desk, t: &[u16], frames: &mut [u8]) -> Reply {
     ) else {
         return Reply::malformed();
     };
-    let n = words_within(signals_read, &signals);
-    let m = numbers_within(values_read, &values);
+    let n = within(signals_read, &signals);
+    let m = within(values_read, &values);
     write_row(desk, t, frames, &signals[..n], &values[..m])
 }
 
@@ -189,14 +183,7 @@ fn ahead(desk: &Desk, t: &[u16]) -> Reply {
 
 // Puts the bytes of an answer.
 fn put_answer(desk: &mut Desk, bytes: &[u8; 8]) {
-    let mut i: usize = 0;
-    while i < 8 {
-        desk[ANSWER + i] = wide(bytes[i]);
-        i += 1;
+    for (place, &b) in desk[ANSWER..].iter_mut().zip(bytes) {
+        *place = b as u32;
     }
-}
-
-// A byte as a number.
-fn wide(b: u8) -> u32 {
-    b as u32
 }

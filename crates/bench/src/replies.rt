@@ -14,28 +14,33 @@ use timing::Judgement;
 use transport::reassembly::Answer;
 use wire::Answer as Made;
 
-// An answer before it is printed: its text, and the numbers that stand in it.
+// An answer before it is printed: its text, and the numbers that stand in it; the bytes of one that has bytes are on the desk.
 #[derive(Clone, Copy)]
 pub(crate) struct Reply {
-    pub(crate) text: u32,
-    pub(crate) n: u32,
-    pub(crate) place: u32,
+    pub(crate) text: Text,
+    pub(crate) numbers: Option<[u32; 2]>,
 }
 
 impl Reply {
-    // A text alone.
-    pub(crate) fn alone(text: u32) -> Reply {
-        Reply::two(text, 0, 0)
+    // A text alone, or with the bytes that are on the desk.
+    pub(crate) fn alone(text: Text) -> Reply {
+        Reply {
+            text,
+            numbers: None,
+        }
     }
 
     // A text with a number.
-    pub(crate) fn of(text: u32, n: u32) -> Reply {
+    pub(crate) fn of(text: Text, n: u32) -> Reply {
         Reply::two(text, n, 0)
     }
 
     // A text with two numbers.
-    fn two(text: u32, n: u32, place: u32) -> Reply {
-        Reply { text, n, place }
+    fn two(text: Text, n: u32, place: u32) -> Reply {
+        Reply {
+            text,
+            numbers: Some([n, place]),
+        }
     }
 
     // A refusal of any call but a row of values.
@@ -100,7 +105,7 @@ impl Reply {
     // An array read.
     pub(crate) fn read_array(answer: ArrayAnswer) -> Reply {
         match answer {
-            ArrayAnswer::Bytes(count) => Reply::alone(Text::BYTES + (count % 9) as u32),
+            ArrayAnswer::Bytes(count) => Reply::alone(Text::BYTES[count % 9]),
             ArrayAnswer::Refused(refusal) => Reply::refused(refusal),
         }
     }
@@ -192,7 +197,7 @@ impl Reply {
     }
 
     // A byte that was made.
-    pub(crate) fn made(text: u32, answer: Made) -> Reply {
+    pub(crate) fn made(text: Text, answer: Made) -> Reply {
         match answer {
             Made::Byte(byte) => Reply::of(text, byte as u32),
             Made::Refused(refusal) => Reply::refused(refusal),

@@ -16,6 +16,7 @@ struct Log {
     number: u64,
     // The characters of a line that is not whole yet, at the front of the text.
     kept: usize,
+    // Kept: `next_turn`, `no_turn` and `run_exactly` (ReadingLaws) speak of it, and of the number and what is kept of a log that ended too.
     goes_on: bool,
 }
 
@@ -78,16 +79,17 @@ fn started() -> Log
     }
 }
 
-// Turn after turn, from line 1 on. Nothing says that the input ends, so the turns count down from a number that no run uses up.
+// Turn after turn, from line 1 on, until one ends the log; nothing says that the input ends, and no run uses up so many turns.
 fn run(rt: HostRuntime, text: &mut [u8], out: &mut [u8])
     requires { (kept_length < length text.old) × (longest_row * length text.old ≤ length out.old) }
     ensures { Runs text.old out.old text.new out.new }
 {
     let mut log = started();
-    let mut turns = u64::MAX;
-    while turns > 0 && log.goes_on {
+    for turns in 0..u64::MAX {
+        if !log.goes_on {
+            return;
+        }
         log = turn(rt, log, text, out);
-        turns -= 1;
     }
 }
 
@@ -96,26 +98,21 @@ fn turn(rt: HostRuntime, log: Log, text: &mut [u8], out: &mut [u8]) -> Log
     requires { (log.kept < length text.old) × (longest_row * length text.old ≤ length out.old) }
     ensures { Turns log text.old out.old result text.new out.new }
 {
-    let kept = log.kept;
-    let got = streams::read(rt, "linlog: standard input", &mut text[kept..]);
+    let got = streams::read(rt, "linlog: standard input", &mut text[log.kept..]);
     part(rt, log, text, got, out)
 }
 
-// What a reading brings about, by what it answered: a negative number is a failure, which was told on standard error, and nothing more
+// What a reading brings about, by what it answered: no number is a failure, which was told on standard error, and nothing more
 // is reported; 0 is the end, where the last line is reported; and n characters go behind what was kept, and their whole lines are.
-fn part(rt: HostRuntime, log: Log, text: &mut [u8], got: isize, out: &mut [u8]) -> Log
+fn part(rt: HostRuntime, log: Log, text: &mut [u8], got: Option<usize>, out: &mut [u8]) -> Log
     requires { (log.kept < length text.old) × Moved (length text.old - log.kept) got × (longest_row * length text.old ≤ length out.old) }
     ensures { Goes log got text.old out.old result text.new out.new }
 {
-    let kept = log.kept;
-    if got < 0 {
-        return ended(log);
+    match got {
+        None => ended(log),
+        Some(0) => last(rt, log, text, out),
+        Some(more) => whole_lines(rt, log, text, log.kept + more, out),
     }
-    let more = streams::count(got, &text[kept..]);
-    if more == 0 {
-        return last(rt, log, text, out);
-    }
-    whole_lines(rt, log, text, kept + more, out)
 }
 
 // Reports a last line that lacks its newline, if there is one.
@@ -123,12 +120,11 @@ fn last(rt: HostRuntime, log: Log, text: &mut [u8], out: &mut [u8]) -> Log
     requires { (log.kept < length text.old) × (longest_row * length text.old ≤ length out.old) }
     ensures { Ends log (take log.kept text.old) out.old result out.new }
 {
-    let kept = log.kept;
-    if kept == 0 {
+    if log.kept == 0 {
         return ended(log);
     }
-    text[kept] = b'\n';
-    ended(whole_lines(rt, log, text, kept + 1, out))
+    text[log.kept] = b'\n';
+    ended(whole_lines(rt, log, text, log.kept + 1, out))
 }
 
 // Reports the whole lines of the first n characters, writes their rows, and keeps what is left.
@@ -138,10 +134,9 @@ fn whole_lines(rt: HostRuntime, log: Log, text: &mut [u8], n: usize, out: &mut [
 {
     let table = table();
     let written = report::write(&table, log.number, &text[..n], out);
-    let put = written.put;
-    let goes_on = write_out(rt, &out[..put]);
+    let goes_on = write_out(rt, &out[..written.put]);
     Log {
-        number: std::num::wrapping_add_u64(log.number, written.lines as u64),
+        number: log.number.wrapping_add(written.lines as u64),
         kept: report::keep(&mut text[..n], written.used),
         goes_on,
     }
@@ -152,8 +147,8 @@ fn ended(log: Log) -> Log
     ensures { (result.kept ≡ 0) × (result.goes_on ≡ false) }
 {
     Log {
-        number: log.number,
         kept: 0,
         goes_on: false,
+        ..log
     }
 }

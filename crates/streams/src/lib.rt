@@ -2,8 +2,8 @@
 // but by its answer.
 #![tactic(auto)]
 
-ghost use Rattle.std.specs.Prelude.{◌≤◌, ◌≡◌, length, min};
-ghost use Rattle.streams.specs.Counts.{IsPrefixLen, Moved, clamp_len};
+ghost use Rattle.std.specs.Prelude.{◌≤◌, ◌≡◌, length};
+ghost use Rattle.streams.specs.Counts.{IsPrefixLen, Moved};
 
 use std::env::FillError;
 use std::fmt::InlineText;
@@ -12,36 +12,21 @@ use std::rt::Env;
 
 // Whether the program was started with an argument.
 pub fn has_argument(rt: HostRuntime) -> bool {
-    match rt.arg(1, &mut []) {
-        Ok(_) => true,
-        Err(FillError::TooLong) => true,
-        Err(FillError::NotPresent) => false,
-    }
+    !matches!(rt.arg(1, &mut []), Err(FillError::NotPresent))
 }
 
 // Reads once from standard input, and tells how many bytes came to the front of a buffer, 0 at the end of the input. A failure is told
-// on standard error behind some words, and the answer is -1 then.
-pub fn read(rt: HostRuntime, what: &str, bytes: &mut [u8]) -> isize
+// on standard error behind some words, and no number is told then.
+pub fn read(rt: HostRuntime, what: &str, bytes: &mut [u8]) -> Option<usize>
     ensures { Moved (length bytes.old) result }
 {
     match rt.stdin().read(bytes) {
-        Ok(n) => n as isize,
+        Ok(n) => Some(n),
         Err(error) => {
             fail(rt, what, error);
-            -1
+            None
         }
     }
-}
-
-// The answer of a reading as a number of a buffer's bytes: 0 where it is negative.
-pub fn count(got: isize, bytes: &[u8]) -> usize
-    ensures in_bounds { IsPrefixLen result bytes.now }
-    ensures value { result ≡ clamp_len got (length bytes.now) }
-{
-    if got <= 0 {
-        return 0;
-    }
-    least(got as usize, bytes.len())
 }
 
 // Reads until a buffer is full, the input ends or a reading fails, and tells how many bytes stand at its front.
@@ -51,9 +36,8 @@ pub fn read_full(rt: HostRuntime, bytes: &mut [u8]) -> usize
     let mut done: usize = 0;
     while done < bytes.len() {
         match rt.stdin().read(&mut bytes[done..]) {
-            Ok(0) => return done,
+            Ok(0) | Err(_) => break,
             Ok(n) => done += n,
-            Err(_) => return done,
         }
     }
     done
@@ -83,11 +67,4 @@ fn without_number(said: &str) -> &str {
         Some((words, _)) => words,
         None => said,
     }
-}
-
-// The lesser of two numbers.
-fn least(a: usize, b: usize) -> usize
-    ensures { result ≡ min a b }
-{
-    if a < b { a } else { b }
 }
