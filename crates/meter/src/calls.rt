@@ -1,7 +1,5 @@
 // The calls: a master made ready, then for each letter a tick (T), a row (R), its single writes (W), or else a byte in.
-use crate::row;
-use crate::row::VALUES;
-use cluster::Limits;
+use crate::row::Row;
 use master::byte::ByteAnswer;
 use master::state::{State, Transfer};
 use master::tick::TickAnswer;
@@ -20,19 +18,14 @@ pub(crate) fn all(t: &[u16], bytes: &mut [u8], letters: &[u8]) -> u64 {
     let state = started.state;
     let chosen = state.select(t, 0);
     let ready = written(chosen.state, t, bytes);
-    let mut numbers = [0u16; VALUES];
-    let mut values = [0u32; VALUES];
-    row::build(t, &mut numbers, &mut values);
-    each(ready, t, bytes, letters, &numbers, &values)
+    each(ready, t, bytes, letters, &Row::of(t))
 }
 
 // Six scalars are written, each in two frames, so that ten of the fifteen lists have a pending frame.
 fn written(ready: State, t: &[u16], bytes: &mut [u8]) -> State {
     let mut state = ready;
-    let mut s: u16 = 14;
-    while s < 60 {
+    for s in (14..60).step_by(8) {
         state = write(state, t, bytes, s);
-        s += 8;
     }
     state
 }
@@ -43,45 +36,24 @@ fn write(state: State, t: &[u16], bytes: &mut [u8], s: u16) -> State {
 }
 
 // A call for each letter.
-fn each(
-    ready: State,
-    t: &[u16],
-    bytes: &mut [u8],
-    letters: &[u8],
-    numbers: &[u16; VALUES],
-    values: &[u32; VALUES],
-) -> u64 {
+fn each(ready: State, t: &[u16], bytes: &mut [u8], letters: &[u8], row: &Row) -> u64 {
     let mut state = ready;
     let mut digest: u64 = 0;
-    let mut i: usize = 0;
-    while i < letters.len() {
-        let letter = letters[i];
-        i += 1;
-        let done = call(state, t, bytes, letter, numbers, values);
+    for &letter in letters {
+        let done = call(state, t, bytes, letter, row);
         digest = folded(digest, done.code);
         state = done.state;
     }
     with_left(digest, state, bytes)
 }
 
-fn call(
-    state: State,
-    t: &[u16],
-    bytes: &mut [u8],
-    letter: u8,
-    numbers: &[u16; VALUES],
-    values: &[u32; VALUES],
-) -> Done {
-    if letter == b'T' {
-        return tick(state, t, bytes);
+fn call(state: State, t: &[u16], bytes: &mut [u8], letter: u8, row: &Row) -> Done {
+    match letter {
+        b'T' => tick(state, t, bytes),
+        b'R' => row.write(state, t, bytes),
+        b'W' => row.write_singly(state, t, bytes),
+        _ => byte_in(state, t, bytes),
     }
-    if letter == b'R' {
-        return row::write(state, t, bytes, numbers, values);
-    }
-    if letter == b'W' {
-        return row::write_singly(state, t, bytes, numbers, values);
-    }
-    byte_in(state, t, bytes)
 }
 
 fn tick(state: State, t: &[u16], bytes: &[u8]) -> Done {
@@ -108,9 +80,8 @@ fn byte_in(state: State, t: &[u16], bytes: &mut [u8]) -> Done {
 }
 
 fn due(transfer: Transfer) -> u8 {
-    let copy = transfer.bytes;
-    let i = transfer.count as usize;
-    if i < 9 { copy[i] } else { 0 }
+    let i = usize::from(transfer.count);
+    transfer.bytes.get(i).copied().unwrap_or(0)
 }
 
 fn tick_code(answer: TickAnswer) -> u64 {
@@ -139,36 +110,24 @@ pub(crate) fn refused(refusal: Refusal) -> u64 {
 
 // The digest with what the calls left: the last transfer counted, the frame bytes and the pending bits.
 fn with_left(digest: u64, state: State, bytes: &[u8]) -> u64 {
-    let status = state.status;
-    let pending = state.pending;
-    let last = folded(digest, status.last as u64);
-    with_pending(with_bytes(last, bytes), pending)
+    let last = folded(digest, u64::from(state.status.last));
+    with_pending(with_bytes(last, bytes), &state.pending)
 }
 
 // The digest with the frame bytes.
 fn with_bytes(digest: u64, bytes: &[u8]) -> u64 {
-    let mut next = digest;
-    let mut i: usize = 0;
-    while i < bytes.len() {
-        next = with_byte(next, bytes[i]);
-        i += 1;
-    }
-    next
-}
-
-fn with_byte(digest: u64, byte: u8) -> u64 {
-    folded(digest, byte as u64)
+    bytes
+        .iter()
+        .fold(digest, |next, &byte| folded(next, u64::from(byte)))
 }
 
 // The digest with the numbers of the pending frames.
-fn with_pending(digest: u64, pending: [bool; Limits::FRAMES]) -> u64 {
+fn with_pending(digest: u64, pending: &[bool]) -> u64 {
     let mut next = digest;
-    let mut f: usize = 0;
-    while f < Limits::FRAMES {
-        if pending[f] {
+    for (f, &is_pending) in pending.iter().enumerate() {
+        if is_pending {
             next = folded(next, f as u64);
         }
-        f += 1;
     }
     next
 }

@@ -7,19 +7,56 @@ use master::state::State;
 use master::write::WriteAnswer;
 
 // The values of the row.
-pub(crate) const VALUES: usize = 20;
+const VALUES: usize = 20;
 
-// Makes the row from the table, so that the compiler does not know it: every twelfth signal, which are scalars of six bits,
-// four in each of ten frames.
-pub(crate) fn build(t: &[u16], numbers: &mut [u16; VALUES], values: &mut [u32; VALUES]) {
-    let step = frames::count(t) / 5;
-    let mut s: u16 = 0;
-    let mut i: usize = 0;
-    while i < VALUES {
-        numbers[i] = s;
-        values[i] = opposite(signals::start(t, s));
-        s = (s % 256 + step) % 256;
-        i += 1;
+// The signals of the row by their numbers, and a value for each.
+#[derive(Clone, Copy)]
+pub(crate) struct Row {
+    numbers: [u16; VALUES],
+    values: [u32; VALUES],
+}
+
+impl Row {
+    // Makes the row from the table, so that the compiler does not know it: every twelfth signal, which are scalars of six bits,
+    // four in each of ten frames.
+    pub(crate) fn of(t: &[u16]) -> Row {
+        let mut numbers = [0; VALUES];
+        let mut values = [0; VALUES];
+        let step = frames::count(t) / 5;
+        let mut s: u16 = 0;
+        for (number, value) in numbers.iter_mut().zip(&mut values) {
+            *number = s;
+            *value = opposite(signals::start(t, s));
+            s = (s % 256 + step) % 256;
+        }
+        Row { numbers, values }
+    }
+
+    // Writes the row.
+    pub(crate) fn write(&self, state: State, t: &[u16], bytes: &mut [u8]) -> Done {
+        let numbers = &self.numbers;
+        let values = &self.values;
+        let n = length(t, numbers.len());
+        let m = length(t, values.len());
+        let wrote = state.write_row(t, bytes, &numbers[..n], &values[..m]);
+        let answer = wrote.answer;
+        let next = wrote.state;
+        Done {
+            state: next,
+            code: code_of(answer),
+        }
+    }
+
+    // Writes the values of the row one by one; the code is the largest.
+    pub(crate) fn write_singly(&self, ready: State, t: &[u16], bytes: &mut [u8]) -> Done {
+        let mut state = ready;
+        let mut code: u64 = 0;
+        for (&s, &v) in self.numbers.iter().zip(&self.values) {
+            let done = write_one(state, t, bytes, s, v);
+            code = code.max(done.code);
+            state = done.state;
+        }
+        Done { state, code }
     }
 }
 
@@ -32,47 +69,7 @@ fn opposite(start: u16) -> u32 {
 fn length(t: &[u16], most: usize) -> usize
     ensures { result ≤ most }
 {
-    let n = (frames::count(t) / 3) as usize;
-    if n < most { n } else { most }
-}
-
-// Writes the row.
-pub(crate) fn write(
-    state: State,
-    t: &[u16],
-    bytes: &mut [u8],
-    numbers: &[u16],
-    values: &[u32],
-) -> Done {
-    let n = length(t, numbers.len());
-    let m = length(t, values.len());
-    let wrote = state.write_row(t, bytes, &numbers[..n], &values[..m]);
-    let answer = wrote.answer;
-    let next = wrote.state;
-    Done {
-        state: next,
-        code: code_of(answer),
-    }
-}
-
-// Writes the values of the row one by one; the code is the largest.
-pub(crate) fn write_singly(
-    ready: State,
-    t: &[u16],
-    bytes: &mut [u8],
-    numbers: &[u16; VALUES],
-    values: &[u32; VALUES],
-) -> Done {
-    let mut state = ready;
-    let mut code: u64 = 0;
-    let mut i: usize = 0;
-    while i < VALUES {
-        let done = write_one(state, t, bytes, numbers[i], values[i]);
-        code = larger(code, done.code);
-        state = done.state;
-        i += 1;
-    }
-    Done { state, code }
+    usize::from(frames::count(t) / 3).min(most)
 }
 
 // Writes one value.
@@ -91,8 +88,4 @@ fn code_of(answer: WriteAnswer) -> u64 {
         WriteAnswer::Written => 7,
         WriteAnswer::Refused(refusal) => refused(refusal),
     }
-}
-
-fn larger(a: u64, b: u64) -> u64 {
-    if a < b { b } else { a }
 }
