@@ -1,5 +1,6 @@
 // Runs a script from standard input, a part at a time.
 ghost use Rattle.std.specs.Prelude.{◌≤◌, length};
+ghost use Rattle.bench.specs.declared.run.TheConstants.{MOST_KEPT};
 
 use crate::buffers::{Bench, LONGEST_LINE, TEXT_BYTES};
 
@@ -28,7 +29,7 @@ impl Bench {
 
     // Answers the whole lines of a text until a writing fails, and tells how much is kept of the line that is left.
     fn whole_lines(&mut self, rt: HostRuntime, text: &mut [u8]) -> usize
-        ensures { result ≤ 20001 }
+        ensures { result ≤ MOST_KEPT }
     {
         let mut used: usize = 0;
         let mut end = scan::find(text, 0, text.len(), b'\n');
@@ -45,7 +46,7 @@ impl Bench {
 // Moves the line that is not whole yet to the front of the text, and tells how much of it is kept.
 fn keep(text: &mut [u8], from: usize) -> usize
     requires { from ≤ length text.old }
-    ensures { result ≤ 20001 }
+    ensures { result ≤ MOST_KEPT }
 {
     let n = (text.len() - from).min(MOST_KEPT);
     text.copy_within(from..from + n, 0);

@@ -1,5 +1,5 @@
 -- A part of a log is reported and kept, and a last line is reported: the two equations of `in_parts`.
-use Rattle.std.proofs.Common.{◌≡◌, ℕ, suc, ◌+◌, ◌*◌, ◌%◌, ◌^◌, ◌<◌, ◌≤◌, true, false, List, [], ◌∷◌, ◌++◌, length, take, drop, set, Option, None, Some, is_some, unwrap_or, sym, refl, ap, ◌∙◌, true≢false, append_assoc, arith, take-append-drop, length-take, length-take-le, take_at}
+use Rattle.std.proofs.Common.{◌≡◌, ℕ, suc, ◌+◌, ◌*◌, ◌%◌, ◌^◌, ◌<◌, ◌≤◌, false, List, [], ◌∷◌, ◌++◌, length, take, drop, set, Option, None, Some, is_some, unwrap_or, sym, refl, ap, ◌∙◌, true≢false, append_assoc, arith, take-append-drop, length-take, length-take-le, take_at}
 use native.Mathlib.Nat.{min-le_left}
 use lib.Seq.{take-append-add, set_split}
 use Rattle.signal.proofs.Inside.{order}

@@ -1,13 +1,19 @@
 // The log program of document 01: judges the frames of a log on standard input, one a line, and prints a row for each.
 #![tactic(auto)]
 
-ghost use Rattle.std.specs.Prelude.{◌≡◌, ◌+◌, ◌-◌, ◌*◌, ◌<◌, ◌≤◌, false, length, take};
-ghost use Rattle.buslog.specs.Row.{header, longest_row};
-ghost use Rattle.buslog.specs.Report.{built_in, kept_length};
+ghost use Rattle.std.specs.Prelude.{◌≡◌, ◌-◌, ◌<◌, ◌≤◌, false, length, take};
+ghost use Rattle.buslog.specs.Row.{header};
+ghost use Rattle.buslog.specs.Report.{built_in};
 ghost use Rattle.streams.specs.Counts.{Moved};
 ghost use Rattle.linlog.specs.Part.{started, Reports, Ends, Goes, Turns, Runs};
 
 use buslog::report;
+
+// The characters of the log that are read at once, with those kept before them.
+const TEXT_BYTES: usize = 16384;
+
+// The rows of so much text always fit: 33 characters for each of its characters.
+const ROW_BYTES: usize = 33 * TEXT_BYTES;
 
 // How far the log was reported.
 #[derive(Clone, Copy)]
@@ -15,6 +21,7 @@ struct Log {
     // The number of the next line.
     number: u64,
     // The characters of a line that is not whole yet, at the front of the text.
+    // Kept: as a ghost field, that they are fewer than the text has would be a field of `started` (specs/Part), and `no_turn` would ask for it.
     kept: usize,
     // Kept: `next_turn`, `no_turn` and `run_exactly` (ReadingLaws) speak of it, and of the number and what is kept of a log that ended too.
     goes_on: bool,
@@ -29,15 +36,9 @@ fn main(rt: HostRuntime) {
     if !write_out(rt, &header) {
         return;
     }
-    let mut text = [0u8; 16384];
-    // The rows of so much text always fit: 33 characters for each of its characters.
-    let mut out = [0u8; 540672];
-    report(rt, &mut text, &mut out);
-}
-
-// Reports the log in parts, over buffers of the sizes that the turns ask for.
-fn report(rt: HostRuntime, text: &mut [u8; 16384], out: &mut [u8; 540672]) {
-    run(rt, text, out);
+    let mut text = [0u8; TEXT_BYTES];
+    let mut out = [0u8; ROW_BYTES];
+    run(rt, &mut text, &mut out);
 }
 
 // Says how the program is used, on standard error, where no row stands.
@@ -80,8 +81,7 @@ fn started() -> Log
 }
 
 // Turn after turn, from line 1 on, until one ends the log; nothing says that the input ends, and no run uses up so many turns.
-fn run(rt: HostRuntime, text: &mut [u8], out: &mut [u8])
-    requires { (kept_length < length text.old) × (longest_row * length text.old ≤ length out.old) }
+fn run(rt: HostRuntime, text: &mut [u8; TEXT_BYTES], out: &mut [u8; ROW_BYTES])
     ensures { Runs text.old out.old text.new out.new }
 {
     let mut log = started();
@@ -94,8 +94,8 @@ fn run(rt: HostRuntime, text: &mut [u8], out: &mut [u8])
 }
 
 // Reads once behind what was kept, and does what the answer of that reading says; a failure is told on standard error.
-fn turn(rt: HostRuntime, log: Log, text: &mut [u8], out: &mut [u8]) -> Log
-    requires { (log.kept < length text.old) × (longest_row * length text.old ≤ length out.old) }
+fn turn(rt: HostRuntime, log: Log, text: &mut [u8; TEXT_BYTES], out: &mut [u8; ROW_BYTES]) -> Log
+    requires { log.kept < length text.old }
     ensures { Turns log text.old out.old result text.new out.new }
 {
     let got = streams::read(rt, "linlog: standard input", &mut text[log.kept..]);
@@ -104,8 +104,14 @@ fn turn(rt: HostRuntime, log: Log, text: &mut [u8], out: &mut [u8]) -> Log
 
 // What a reading brings about, by what it answered: no number is a failure, which was told on standard error, and nothing more
 // is reported; 0 is the end, where the last line is reported; and n characters go behind what was kept, and their whole lines are.
-fn part(rt: HostRuntime, log: Log, text: &mut [u8], got: Option<usize>, out: &mut [u8]) -> Log
-    requires { (log.kept < length text.old) × Moved (length text.old - log.kept) got × (longest_row * length text.old ≤ length out.old) }
+fn part(
+    rt: HostRuntime,
+    log: Log,
+    text: &mut [u8; TEXT_BYTES],
+    got: Option<usize>,
+    out: &mut [u8; ROW_BYTES],
+) -> Log
+    requires { (log.kept < length text.old) × Moved (length text.old - log.kept) got }
     ensures { Goes log got text.old out.old result text.new out.new }
 {
     match got {
@@ -116,8 +122,8 @@ fn part(rt: HostRuntime, log: Log, text: &mut [u8], got: Option<usize>, out: &mu
 }
 
 // Reports a last line that lacks its newline, if there is one.
-fn last(rt: HostRuntime, log: Log, text: &mut [u8], out: &mut [u8]) -> Log
-    requires { (log.kept < length text.old) × (longest_row * length text.old ≤ length out.old) }
+fn last(rt: HostRuntime, log: Log, text: &mut [u8; TEXT_BYTES], out: &mut [u8; ROW_BYTES]) -> Log
+    requires { log.kept < length text.old }
     ensures { Ends log (take log.kept text.old) out.old result out.new }
 {
     if log.kept == 0 {
@@ -128,8 +134,14 @@ fn last(rt: HostRuntime, log: Log, text: &mut [u8], out: &mut [u8]) -> Log
 }
 
 // Reports the whole lines of the first n characters, writes their rows, and keeps what is left.
-fn whole_lines(rt: HostRuntime, log: Log, text: &mut [u8], n: usize, out: &mut [u8]) -> Log
-    requires { (n ≤ length text.old) × (longest_row * length text.old ≤ length out.old) }
+fn whole_lines(
+    rt: HostRuntime,
+    log: Log,
+    text: &mut [u8; TEXT_BYTES],
+    n: usize,
+    out: &mut [u8; ROW_BYTES],
+) -> Log
+    requires { n ≤ length text.old }
     ensures { Reports log (take n text.old) out.old result text.new out.new }
 {
     let table = table();

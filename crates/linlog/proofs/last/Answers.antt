@@ -8,4 +8,4 @@ returns-then-log-eq0 c = nothing_left _ _ _ _ (omega arith) c.ended.ensures
 
 pub returns : goal.returns
 returns c =
-    line_left c.args.log _ c.args.text.now _ (omega arith) c.requires.0 c.whole_lines.ensures c.ended-2.ensures
+    line_left c.args.log _ c.args.text.now _ (omega arith) c.requires c.whole_lines.ensures c.ended-2.ensures
