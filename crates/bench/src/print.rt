@@ -1,6 +1,9 @@
 // Printing: the answers are collected in a buffer, and written out when the longest answer may have no room in it and before each reading.
 // After a writing failed nothing more is written.
-use crate::buffers::{LONGEST_ANSWER, OUTPUT_BYTES, within};
+ghost use Rattle.std.specs.Prelude.{◌≤◌};
+ghost use Rattle.bench.specs.declared.buffers.TheConstants.{OUTPUT_BYTES};
+
+use crate::buffers::{LONGEST_ANSWER, OUTPUT_BYTES};
 use crate::texts::Text;
 use script::print;
 
@@ -10,6 +13,7 @@ pub(crate) struct Printer {
     out: [u8; OUTPUT_BYTES],
     printed: usize,
     failed: bool,
+    ghost in_buffer: { printed ≤ OUTPUT_BYTES },
 }
 
 impl Printer {
@@ -42,8 +46,8 @@ impl Printer {
     // Writes the answers out, unless an earlier writing failed; a failure is told on standard error.
     pub(crate) fn write_out(&mut self, rt: HostRuntime) {
         if !self.failed {
-            let n = within(self.printed, &self.out);
-            self.failed = !streams::write_all(rt, "bench: standard output", &self.out[..n]);
+            let answers = &self.out[..self.printed];
+            self.failed = !streams::write_all(rt, "bench: standard output", answers);
         }
         self.printed = 0;
     }

@@ -43,15 +43,11 @@ pub(crate) fn sent(desk: &Desk, t: &[u16], out: &mut Printer) {
 
 // How many bytes the master sends; none for a frame that is not in the table.
 fn sent_count(opened: Opened, t: &[u16]) -> u32 {
-    if let Opened::Frame(f) = opened {
-        if !is_there(t, f) {
-            return 0;
-        }
+    match opened {
+        Opened::Frame(f) if !is_there(t, f) => 0,
+        _ if opened.sends(t) => u32::from(opened.length(t)) + 1,
+        _ => 0,
     }
-    if !opened.sends(t) {
-        return 0;
-    }
-    opened.length(t) as u32 + 1
 }
 
 // Whether a frame is in the table; a table that is not taken has none.
