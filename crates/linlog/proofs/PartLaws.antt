@@ -1,5 +1,6 @@
 -- A part of a log is reported and kept, and a last line is reported: the two equations of `in_parts`.
-use Rattle.std.proofs.Common.{◌≡◌, ℕ, suc, ◌+◌, ◌*◌, ◌%◌, ◌^◌, ◌<◌, ◌≤◌, false, List, [], ◌∷◌, ◌++◌, length, take, drop, set, Option, None, Some, is_some, unwrap_or, sym, refl, ap, ◌∙◌, true≢false, append_assoc, arith, take-append-drop, length-take, length-take-le, take_at}
+use Rattle.std.proofs.Common.{◌≡◌, ℕ, suc, ◌+◌, ◌*◌, ◌%◌, ◌^◌, ◌<◌, ◌≤◌, false, List, [], ◌∷◌, ◌++◌, length, take, drop, set, Option, None, Some, sym, refl, ap, ◌∙◌, append_assoc, arith, take-append-drop, length-take, length-take-le, take_at}
+use Rattle.std.proofs.lemmas.Option.{none-some}
 use native.Mathlib.Nat.{min-le_left}
 use lib.Seq.{take-append-add, set_split}
 use Rattle.signal.proofs.Inside.{order}
@@ -87,36 +88,30 @@ module _ (log r : Log) (text out : List ℕ) where
 
 -- ---- what a reading brings about, by its three answers
 
-some≢none : {n : ℕ} → ◌≡◌ {A = Option ℕ} (Some n) None → ⊥
-some≢none e = true≢false (ap is_some e)
-
-some_inj : {n m : ℕ} → ◌≡◌ {A = Option ℕ} (Some n) (Some m) → n ≡ m
-some_inj e = ap (λ o. unwrap_or o 0) e
-
 module _ (log : Log) (text out : List ℕ) (r : Log) (text_after out_after : List ℕ) where
   pub goes_failed : Fails out r out_after → Goes log None text out r text_after out_after
   goes_failed fails =
       record {
         failed = λ _. fails;
-        over = λ none. absurd (some≢none (sym none));
-        came = λ n some _. absurd (some≢none (sym some));
+        over = λ none. absurd (none-some _ none);
+        came = λ n some _. absurd (none-some _ some);
       }
 
   pub goes_over : Ends log (take log.kept text) out r out_after → Goes log (Some 0) text out r text_after out_after
   goes_over ends =
       record {
-        failed = λ bad. absurd (some≢none bad);
+        failed = λ bad. absurd (none-some _ (sym bad));
         over = λ _. ends;
-        came = λ n some h. let z : 0 ≡ n = some_inj some in absurd (omega arith);
+        came = λ n some h. let z : 0 ≡ n = cc in absurd (omega arith);
       }
 
   pub goes_on : (n : ℕ) → 1 ≤ n → log.kept ≤ length text
       → Reports log (take (log.kept + n) text) out r text_after out_after → Goes log (Some n) text out r text_after out_after
   goes_on n h within reports =
       record {
-        failed = λ bad. absurd (some≢none bad);
-        over = λ none. let z : n ≡ 0 = some_inj none in absurd (omega arith);
-        came = λ m e _. let q : n ≡ m = some_inj e in rw (part_behind text log.kept n within, q) at reports;
+        failed = λ bad. absurd (none-some _ (sym bad));
+        over = λ none. let z : n ≡ 0 = cc in absurd (omega arith);
+        came = λ m e _. let q : n ≡ m = cc in rw (part_behind text log.kept n within, q) at reports;
       }
 
 -- at most 30 characters are kept
