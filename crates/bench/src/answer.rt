@@ -1,10 +1,10 @@
 // The answer to a line.
-use crate::buffers::{Bench, used, within};
+use crate::buffers::{Bench, used, used_mut};
 use crate::forms::{Call, Form, Shown};
 use crate::replies::Reply;
 use crate::texts::Text;
 use crate::{bus, calls, forms, sets, setup, shows};
-use desk::{ANSWER, FRAMES_USED, MESSAGE_USED, NUMBERS, ROOM_USED, WORDS_USED, size};
+use desk::{ANSWER, FRAMES_USED, MESSAGE_USED, NUMBERS, ROOM_USED, WORDS_USED};
 
 impl Bench {
     // Answers a line, and passes over an empty one and a comment.
@@ -50,11 +50,10 @@ impl Bench {
 
     // Makes a call of the master on what is in use of each buffer.
     fn call(&mut self, call: Call, line: &[u8]) -> Reply {
-        let n = within(size(self.desk[FRAMES_USED]), &self.frames);
         let t = used(self.desk[WORDS_USED], &self.table);
+        let frames = used_mut(self.desk[FRAMES_USED], &mut self.frames);
         let lent = used(self.desk[MESSAGE_USED], &self.message);
-        let frames = &mut self.frames[..];
-        calls::make(call, line, &mut self.desk, t, &mut frames[..n], lent)
+        calls::make(call, line, &mut self.desk, t, frames, lent)
     }
 
     // Judges the schedules of the table in use.

@@ -75,3 +75,9 @@ pub(crate) fn within<T>(n: usize, items: &[T]) -> usize
 pub(crate) fn used<T>(count: u32, items: &[T]) -> &[T] {
     &items[..within(size(count), items)]
 }
+
+// The same of a buffer that is written to.
+pub(crate) fn used_mut<T>(count: u32, items: &mut [T]) -> &mut [T] {
+    let n = within(size(count), items);
+    &mut items[..n]
+}

@@ -184,6 +184,6 @@ fn ahead(desk: &Desk, t: &[u16]) -> Reply {
 // Puts the bytes of an answer.
 fn put_answer(desk: &mut Desk, bytes: &[u8; 8]) {
     for (place, &b) in desk[ANSWER..].iter_mut().zip(bytes) {
-        *place = b as u32;
+        *place = u32::from(b);
     }
 }

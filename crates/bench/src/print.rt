@@ -11,6 +11,7 @@ use script::print;
 #[derive(Drop)]
 pub(crate) struct Printer {
     out: [u8; OUTPUT_BYTES],
+    // Kept: how many there are stands beside the buffer, since memory is fixed.
     printed: usize,
     failed: bool,
     ghost in_buffer: { printed ≤ OUTPUT_BYTES },

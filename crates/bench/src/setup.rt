@@ -33,7 +33,7 @@ fn lay(desk: &mut Desk, t: &[u16]) -> Reply {
 // The frame bytes of a table: eight a frame, and none where the number of frames is missing or too large.
 fn frame_bytes(t: &[u16]) -> u32 {
     match t.first() {
-        Some(&frames) if frames <= Limits::FRAMES as u16 => 8 * frames as u32,
+        Some(&frames) if frames <= Limits::FRAMES as u16 => 8 * u32::from(frames),
         _ => 0,
     }
 }
