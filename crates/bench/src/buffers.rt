@@ -1,9 +1,10 @@
 // The buffers, their sizes, and how much of one is in use.
-ghost use Rattle.std.specs.Prelude.{◌≤◌, length};
+ghost use Rattle.std.specs.Prelude.{◌≡◌, take};
 
 use crate::print::Printer;
 use desk::{Desk, size, state};
 use master::state::State;
+use streams::within;
 
 // The longest line that can be right.
 pub(crate) const LONGEST_LINE: usize = 20000;
@@ -64,15 +65,10 @@ impl Bench {
     }
 }
 
-// The lesser of a number and how many elements there are.
-pub(crate) fn within<T>(n: usize, items: &[T]) -> usize
-    ensures { result ≤ length items.now }
-{
-    n.min(items.len())
-}
-
 // What is in use of a buffer: so many elements at its front, at most all.
-pub(crate) fn used<T>(count: u32, items: &[T]) -> &[T] {
+pub(crate) fn used<T>(count: u32, items: &[T]) -> &[T]
+    ensures { result.now ≡ take count items.now }
+{
     &items[..within(size(count), items)]
 }
 

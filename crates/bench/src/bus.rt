@@ -1,10 +1,11 @@
 // Bytes on the bus: protected identifiers and checksums, and the frames that the reassembler takes.
-use crate::buffers::{LINE_BYTES, within};
+use crate::buffers::LINE_BYTES;
 use crate::replies::Reply;
 use crate::texts::Text;
 use desk::{Desk, LIST, NUMBERS, ROOM_USED, assembly, byte, size};
 use script::lists;
 use script::lists::Count;
+use streams::within;
 use wire::checksum::Model;
 use wire::{checksum, identifier};
 

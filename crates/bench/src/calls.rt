@@ -1,5 +1,5 @@
 // The calls of the master: each takes the state from the desk, makes the call, and puts the state back that it hands on.
-use crate::buffers::{LINE_BYTES, LINE_WORDS, within};
+use crate::buffers::{LINE_BYTES, LINE_WORDS};
 use crate::forms::Call;
 use crate::replies::Reply;
 use desk::{ANSWER, Desk, LIST, NUMBERS, byte as byte_of, size, state, word};
@@ -8,6 +8,7 @@ use master::state::State;
 use script::lists::Count;
 use script::rows::Rows;
 use script::{lists, rows};
+use streams::within;
 
 // Makes a call, on what is in use of each buffer.
 pub(crate) fn make(

@@ -1,5 +1,5 @@
 // The lines that lay out a buffer anew: the table, the frame bytes, the lent message, the reassembler's buffer.
-use crate::buffers::{Frames, LINE_WORDS, MESSAGE_BYTES, Message, Room, Table, within};
+use crate::buffers::{Frames, LINE_WORDS, MESSAGE_BYTES, Message, Room, Table};
 use crate::replies::Reply;
 use crate::texts::Text;
 use cluster::Limits;
@@ -9,6 +9,7 @@ use desk::{
 use master::state::State;
 use script::lists;
 use script::lists::Count;
+use streams::within;
 
 // Lays out a table, right or not, with frame bytes for its frames and a fresh state, and answers the table check.
 pub(crate) fn table(line: &[u8], desk: &mut Desk, table: &mut Table, frames: &mut Frames) -> Reply {

@@ -2,7 +2,7 @@
 // but by its answer.
 #![tactic(auto)]
 
-ghost use Rattle.std.specs.Prelude.{◌≤◌, ◌≡◌, length};
+ghost use Rattle.std.specs.Prelude.{◌≤◌, ◌≡◌, length, min};
 ghost use Rattle.streams.specs.Counts.{IsPrefixLen, Moved};
 
 use std::env::FillError;
@@ -27,6 +27,14 @@ pub fn read(rt: HostRuntime, what: &str, bytes: &mut [u8]) -> Option<usize>
             None
         }
     }
+}
+
+// The lesser of a number and how many elements there are.
+pub fn within<T>(n: usize, items: &[T]) -> usize
+    ensures in_bounds { IsPrefixLen result items.now }
+    ensures value { result ≡ min n (length items.now) }
+{
+    n.min(items.len())
 }
 
 // Reads until a buffer is full, the input ends or a reading fails, and tells how many bytes stand at its front.
