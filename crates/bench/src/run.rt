@@ -1,5 +1,5 @@
 // Runs a script from standard input, a part at a time.
-ghost use Rattle.std.specs.Prelude.{◌≤◌, length};
+ghost use Rattle.std.specs.Prelude.{◌≤◌};
 ghost use Rattle.bench.specs.declared.run.TheConstants.{MOST_KEPT};
 
 use crate::buffers::{Bench, LONGEST_LINE, TEXT_BYTES};
@@ -27,7 +27,8 @@ impl Bench {
         }
     }
 
-    // Answers the whole lines of a text until a writing fails, and tells how much is kept of the line that is left.
+    // Answers the whole lines of a text until a writing fails, moves what is kept of the line that is left to the front, and tells how much
+    // that is.
     fn whole_lines(&mut self, rt: HostRuntime, text: &mut [u8]) -> usize
         ensures { result ≤ MOST_KEPT }
     {
@@ -39,16 +40,8 @@ impl Bench {
             used = end + 1;
             end = scan::find(text, used, text.len(), b'\n');
         }
-        keep(text, used)
+        let n = (text.len() - used).min(MOST_KEPT);
+        text.copy_within(used..used + n, 0);
+        n
     }
-}
-
-// Moves the line that is not whole yet to the front of the text, and tells how much of it is kept.
-fn keep(text: &mut [u8], from: usize) -> usize
-    requires { from ≤ length text.old }
-    ensures { result ≤ MOST_KEPT }
-{
-    let n = (text.len() - from).min(MOST_KEPT);
-    text.copy_within(from..from + n, 0);
-    n
 }
