@@ -39,6 +39,7 @@ pub(crate) type Message = [u8; MESSAGE_BYTES];
 pub(crate) type Room = [u8; ROOM_BYTES];
 
 // What a run works on: the desk, the buffers, and the answers.
+// Kept: how much of each buffer is in use stands on the desk (`desk::WORDS_USED` and the names behind it), since memory is fixed.
 #[derive(Drop)]
 pub(crate) struct Bench {
     pub(crate) desk: Desk,

@@ -21,7 +21,8 @@ struct Log {
     // The number of the next line.
     number: u64,
     // The characters of a line that is not whole yet, at the front of the text.
-    // Kept: as a ghost field, that they are fewer than the text has would be a field of `started` (specs/Part), and `no_turn` would ask for it.
+    // Kept: that they are fewer than the text has stands in three contracts; as a ghost field it would be a field of `started` (specs/Part),
+    // and `no_turn` (ReadingLaws) would ask for it.
     kept: usize,
     // Kept: `next_turn`, `no_turn` and `run_exactly` (ReadingLaws) speak of it, and of the number and what is kept of a log that ended too.
     goes_on: bool,

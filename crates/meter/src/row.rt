@@ -10,6 +10,7 @@ use master::write::WriteAnswer;
 const VALUES: usize = 20;
 
 // The signals of the row by their numbers, and a value for each.
+// Kept: two arrays, since `State::write_row` takes the numbers and the values apart.
 #[derive(Clone, Copy)]
 pub(crate) struct Row {
     numbers: [u16; VALUES],
