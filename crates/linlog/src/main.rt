@@ -13,6 +13,8 @@ use buslog::report;
 const TEXT_BYTES: usize = 16384;
 
 // The rows of so much text always fit: 33 characters for each of its characters.
+// Kept: text and rows as two parameters; as fields of a struct, what `self.text` is behind the loan of a part of it, in `whole_lines`, and
+// its length after a turn, in `run`, stayed open.
 const ROW_BYTES: usize = 33 * TEXT_BYTES;
 
 // How far the log was reported.
