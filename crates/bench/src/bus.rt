@@ -4,7 +4,6 @@ use crate::replies::Reply;
 use crate::texts::Text;
 use desk::{Desk, LIST, NUMBERS, ROOM_USED, assembly, byte, size};
 use script::lists;
-use script::lists::Count;
 use streams::within;
 use wire::checksum::Model;
 use wire::{checksum, identifier};
@@ -16,13 +15,13 @@ pub(crate) fn pid(desk: &Desk) -> Reply {
 
 // Reads a protected identifier.
 pub(crate) fn id(desk: &Desk) -> Reply {
-    Reply::identifier(identifier::read(byte(desk[NUMBERS])))
+    Reply::made(Text::ID, identifier::read(byte(desk[NUMBERS])))
 }
 
 // Makes the checksum of the bytes that end the line under an identifier.
 pub(crate) fn sum(model: Model, line: &[u8], desk: &Desk) -> Reply {
     let mut data = [0u8; LINE_BYTES];
-    let Count::Of(count) = lists::bytes(line, size(desk[LIST]), &mut data) else {
+    let Some(count) = lists::read(line, size(desk[LIST]), &mut data) else {
         return Reply::malformed();
     };
     let n = within(count, &data);
@@ -35,7 +34,7 @@ pub(crate) fn sum(model: Model, line: &[u8], desk: &Desk) -> Reply {
 // The reassembler takes a frame, the bytes that end the line.
 pub(crate) fn take(line: &[u8], desk: &mut Desk, room: &mut [u8]) -> Reply {
     let mut frame = [0u8; LINE_BYTES];
-    let Count::Of(count) = lists::bytes(line, size(desk[LIST]), &mut frame) else {
+    let Some(count) = lists::read(line, size(desk[LIST]), &mut frame) else {
         return Reply::malformed();
     };
     let n = within(count, &frame);
@@ -45,9 +44,8 @@ pub(crate) fn take(line: &[u8], desk: &mut Desk, room: &mut [u8]) -> Reply {
 // The reassembler takes a frame.
 fn take_frame(desk: &mut Desk, frame: &[u8], room: &mut [u8]) -> Reply {
     let end = within(size(desk[ROOM_USED]), room);
-    let taken = assembly::take(desk).take(frame, &mut room[..end]);
-    let state = taken.state;
-    let answer = taken.answer;
-    assembly::put(desk, state);
+    let mut reassembly = assembly::take(desk);
+    let answer = reassembly.take(frame, &mut room[..end]);
+    assembly::put(desk, reassembly);
     Reply::take(answer)
 }

@@ -2,11 +2,10 @@
 use crate::buffers::{LINE_BYTES, LINE_WORDS};
 use crate::forms::Call;
 use crate::replies::Reply;
+use crate::texts::Text;
 use desk::{ANSWER, Desk, LIST, NUMBERS, byte as byte_of, size, state, word};
-use master::start::FreshAnswer;
+use master::byte::ByteAnswer;
 use master::state::State;
-use script::lists::Count;
-use script::rows::Rows;
 use script::{lists, rows};
 use streams::within;
 
@@ -38,29 +37,25 @@ pub(crate) fn make(
 
 // Fills the frame bytes, and begins with the fresh state.
 fn fresh(desk: &mut Desk, t: &[u16], frames: &mut [u8]) -> Reply {
-    let started = State::start(t, frames);
-    let fresh = started.state;
-    let answer = started.answer;
-    if let FreshAnswer::Fresh = answer {
+    let answer = State::start(t, frames);
+    if let Ok(fresh) = answer {
         state::put(desk, fresh);
     }
-    Reply::fresh(answer)
+    Reply::done(Text::FRESH, answer.map(|_| ()))
 }
 
 // Writes a scalar.
 fn write(desk: &mut Desk, t: &[u16], frames: &mut [u8]) -> Reply {
-    let s = word(desk[NUMBERS]);
-    let wrote = state::take(desk).write(t, frames, s, desk[NUMBERS + 1]);
-    let next = wrote.state;
-    let answer = wrote.answer;
-    state::put(desk, next);
-    Reply::write(answer)
+    let mut state = state::take(desk);
+    let answer = state.write(t, frames, word(desk[NUMBERS]), desk[NUMBERS + 1]);
+    state::put(desk, state);
+    Reply::done(Text::WRITTEN, answer)
 }
 
 // Writes an array, the bytes that end the line.
 fn writes(line: &[u8], desk: &mut Desk, t: &[u16], frames: &mut [u8]) -> Reply {
     let mut values = [0u8; LINE_BYTES];
-    let Count::Of(count) = lists::bytes(line, size(desk[LIST]), &mut values) else {
+    let Some(count) = lists::read(line, size(desk[LIST]), &mut values) else {
         return Reply::malformed();
     };
     let n = within(count, &values);
@@ -69,19 +64,17 @@ fn writes(line: &[u8], desk: &mut Desk, t: &[u16], frames: &mut [u8]) -> Reply {
 
 // Writes an array.
 fn write_array(desk: &mut Desk, t: &[u16], frames: &mut [u8], values: &[u8]) -> Reply {
-    let s = word(desk[NUMBERS]);
-    let wrote = state::take(desk).write_array(t, frames, s, values);
-    let next = wrote.state;
-    let answer = wrote.answer;
-    state::put(desk, next);
-    Reply::write(answer)
+    let mut state = state::take(desk);
+    let answer = state.write_array(t, frames, word(desk[NUMBERS]), values);
+    state::put(desk, state);
+    Reply::done(Text::WRITTEN, answer)
 }
 
 // Writes a row, the signals and the values that end the line.
 fn row(line: &[u8], desk: &mut Desk, t: &[u16], frames: &mut [u8]) -> Reply {
     let mut signals = [0u16; LINE_WORDS];
     let mut values = [0u32; LINE_WORDS];
-    let Rows::Of(signals_read, values_read) = rows::read(
+    let Some((signals_read, values_read)) = rows::read(
         line,
         size(desk[LIST]),
         &mut signals,
@@ -102,74 +95,70 @@ fn write_row(
     signals: &[u16],
     values: &[u32],
 ) -> Reply {
-    let wrote = state::take(desk).write_row(t, frames, signals, values);
-    let next = wrote.state;
-    let answer = wrote.answer;
-    state::put(desk, next);
+    let mut state = state::take(desk);
+    let answer = state.write_row(t, frames, signals, values);
+    state::put(desk, state);
     Reply::row(answer)
 }
 
 // Reads a scalar.
 fn read(desk: &Desk, t: &[u16], frames: &[u8]) -> Reply {
-    Reply::read(state::take(desk).read(t, frames, word(desk[NUMBERS])))
+    Reply::number(
+        Text::VALUE,
+        state::take(desk).read(t, frames, word(desk[NUMBERS])),
+    )
 }
 
 // Reads an array.
 fn reads(desk: &mut Desk, t: &[u16], frames: &[u8]) -> Reply {
-    let given = state::take(desk).read_array(t, frames, word(desk[NUMBERS]));
-    let answer = given.answer;
-    let eight = given.bytes;
-    put_answer(desk, &eight);
+    let answer = state::take(desk).read_array(t, frames, word(desk[NUMBERS]));
+    if let Ok(array) = answer {
+        put_answer(desk, &array.bytes);
+    }
     Reply::read_array(answer)
 }
 
 // Asks for a schedule.
 fn select(desk: &mut Desk, t: &[u16]) -> Reply {
-    let chosen = state::take(desk).select(t, word(desk[NUMBERS]));
-    let next = chosen.state;
-    let answer = chosen.answer;
-    state::put(desk, next);
-    Reply::select(answer)
+    let mut state = state::take(desk);
+    let answer = state.select(t, word(desk[NUMBERS]));
+    state::put(desk, state);
+    Reply::done(Text::SELECTED, answer)
 }
 
 // Makes one tick.
 fn tick(desk: &mut Desk, t: &[u16], frames: &[u8], lent: &[u8]) -> Reply {
-    let ticked = state::take(desk).tick(t, frames, lent);
-    let next = ticked.state;
-    let answer = ticked.answer;
-    state::put(desk, next);
+    let mut state = state::take(desk);
+    let answer = state.tick(t, frames, lent);
+    state::put(desk, state);
     Reply::tick(answer)
 }
 
 // Takes one byte in.
 fn byte(desk: &mut Desk, t: &[u16], frames: &mut [u8]) -> Reply {
-    let b = byte_of(desk[NUMBERS]);
-    let took = state::take(desk).byte_in(t, frames, b);
-    let next = took.state;
-    let answer = took.answer;
-    let response = took.response;
-    state::put(desk, next);
-    put_answer(desk, &response);
+    let mut state = state::take(desk);
+    let answer = state.byte_in(t, frames, byte_of(desk[NUMBERS]));
+    state::put(desk, state);
+    if let Ok(ByteAnswer::Response(bytes)) = answer {
+        put_answer(desk, &bytes);
+    }
     Reply::byte(answer)
 }
 
 // Reads the status.
 fn status(desk: &mut Desk, t: &[u16]) -> Reply {
-    let given = state::take(desk).read_status(t);
-    let next = given.state;
-    let answer = given.answer;
-    state::put(desk, next);
+    let mut state = state::take(desk);
+    let answer = state.read_status(t);
+    state::put(desk, state);
     Reply::status(answer)
 }
 
 // Begins to send a message.
 fn send(desk: &mut Desk, t: &[u16]) -> Reply {
-    let nad = byte_of(desk[NUMBERS]);
-    let sent = state::take(desk).send(t, nad, desk[NUMBERS + 1]);
-    let next = sent.state;
-    let answer = sent.answer;
-    state::put(desk, next);
-    Reply::send(answer)
+    let mut state = state::take(desk);
+    let answer = state.send(t, byte_of(desk[NUMBERS]), desk[NUMBERS + 1]);
+    state::put(desk, state);
+    Reply::done(Text::SENDING, answer)
 }
 
 // Tells the message state.
@@ -179,7 +168,10 @@ fn message(desk: &Desk, t: &[u16]) -> Reply {
 
 // Tells the number of pending members ahead of a frame.
 fn ahead(desk: &Desk, t: &[u16]) -> Reply {
-    Reply::ahead(state::take(desk).number_ahead(t, word(desk[NUMBERS])))
+    Reply::number(
+        Text::AHEAD,
+        state::take(desk).number_ahead(t, word(desk[NUMBERS])),
+    )
 }
 
 // Puts the bytes of an answer.

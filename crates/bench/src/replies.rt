@@ -1,18 +1,11 @@
 // The answers before they are printed: a text, and the numbers that stand in it.
 use crate::texts::Text;
-use cluster::Verdict;
-use master::ahead::AheadAnswer;
+use cluster::values::Array;
 use master::byte::ByteAnswer;
-use master::read::{ArrayAnswer, ReadAnswer, StatusAnswer};
-use master::select::SelectAnswer;
-use master::send::{MessageAnswer, SendAnswer};
-use master::start::FreshAnswer;
+use master::send::MessageAnswer;
 use master::tick::TickAnswer;
-use master::write::WriteAnswer;
 use refusal::Refusal;
-use timing::Judgement;
 use transport::reassembly::Answer;
-use wire::Answer as Made;
 
 // An answer before it is printed: its text, and the numbers that stand in it; the bytes of one that has bytes are on the desk.
 #[derive(Clone, Copy)]
@@ -63,152 +56,109 @@ impl Reply {
     }
 
     // The table check.
-    pub(crate) fn check(answer: Verdict) -> Reply {
-        match answer {
-            Verdict::Accepted => Reply::alone(Text::ACCEPTED),
-            Verdict::Refused(refusal) => Reply::refused(refusal),
-        }
+    pub(crate) fn check(answer: Result<(), Refusal>) -> Reply {
+        Reply::done(Text::ACCEPTED, answer)
     }
 
-    // Fresh.
-    pub(crate) fn fresh(answer: FreshAnswer) -> Reply {
+    // A call that gives nothing: its text, or the refusal.
+    pub(crate) fn done(text: Text, answer: Result<(), Refusal>) -> Reply {
         match answer {
-            FreshAnswer::Fresh => Reply::alone(Text::FRESH),
-            FreshAnswer::Refused(refusal) => Reply::refused(refusal),
-        }
-    }
-
-    // A write.
-    pub(crate) fn write(answer: WriteAnswer) -> Reply {
-        match answer {
-            WriteAnswer::Written => Reply::alone(Text::WRITTEN),
-            WriteAnswer::Refused(refusal) => Reply::refused(refusal),
+            Ok(()) => Reply::alone(text),
+            Err(refusal) => Reply::refused(refusal),
         }
     }
 
     // A row of values.
-    pub(crate) fn row(answer: WriteAnswer) -> Reply {
+    pub(crate) fn row(answer: Result<(), Refusal>) -> Reply {
         match answer {
-            WriteAnswer::Written => Reply::alone(Text::WRITTEN),
-            WriteAnswer::Refused(refusal) => Reply::refused_by(refusal, refusal.tells_place(true)),
+            Ok(()) => Reply::alone(Text::WRITTEN),
+            Err(refusal) => Reply::refused_by(refusal, refusal.tells_place(true)),
         }
     }
 
-    // A scalar read.
-    pub(crate) fn read(answer: ReadAnswer) -> Reply {
+    // A call that gives a number: its text with the number, or the refusal.
+    pub(crate) fn number(text: Text, answer: Result<u16, Refusal>) -> Reply {
         match answer {
-            ReadAnswer::Value(v) => Reply::of(Text::VALUE, v as u32),
-            ReadAnswer::Refused(refusal) => Reply::refused(refusal),
+            Ok(n) => Reply::of(text, n as u32),
+            Err(refusal) => Reply::refused(refusal),
         }
     }
 
     // An array read.
-    pub(crate) fn read_array(answer: ArrayAnswer) -> Reply {
+    pub(crate) fn read_array(answer: Result<Array, Refusal>) -> Reply {
         match answer {
-            ArrayAnswer::Bytes(count) => Reply::alone(Text::BYTES[count % 9]),
-            ArrayAnswer::Refused(refusal) => Reply::refused(refusal),
-        }
-    }
-
-    // A schedule asked for.
-    pub(crate) fn select(answer: SelectAnswer) -> Reply {
-        match answer {
-            SelectAnswer::Selected => Reply::alone(Text::SELECTED),
-            SelectAnswer::Refused(refusal) => Reply::refused(refusal),
+            Ok(array) => Reply::alone(Text::BYTES[array.count % 9]),
+            Err(refusal) => Reply::refused(refusal),
         }
     }
 
     // A tick.
-    pub(crate) fn tick(answer: TickAnswer) -> Reply {
+    pub(crate) fn tick(answer: Result<TickAnswer, Refusal>) -> Reply {
         match answer {
-            TickAnswer::Waiting => Reply::alone(Text::WAITING),
-            TickAnswer::Idle => Reply::alone(Text::IDLE),
-            TickAnswer::Silent => Reply::alone(Text::SILENT),
-            TickAnswer::Opened(protected) => Reply::of(Text::OPEN, protected as u32),
-            TickAnswer::Refused(refusal) => Reply::refused(refusal),
+            Ok(TickAnswer::Waiting) => Reply::alone(Text::WAITING),
+            Ok(TickAnswer::Idle) => Reply::alone(Text::IDLE),
+            Ok(TickAnswer::Silent) => Reply::alone(Text::SILENT),
+            Ok(TickAnswer::Opened(protected)) => Reply::of(Text::OPEN, protected as u32),
+            Err(refusal) => Reply::refused(refusal),
         }
     }
 
     // A byte in.
-    pub(crate) fn byte(answer: ByteAnswer) -> Reply {
+    pub(crate) fn byte(answer: Result<ByteAnswer, Refusal>) -> Reply {
         match answer {
-            ByteAnswer::More => Reply::alone(Text::MORE),
-            ByteAnswer::Success => Reply::alone(Text::SUCCESS),
-            ByteAnswer::Failure => Reply::alone(Text::FAILURE),
-            ByteAnswer::Response => Reply::alone(Text::RESPONSE),
-            ByteAnswer::Refused(refusal) => Reply::refused(refusal),
+            Ok(ByteAnswer::More) => Reply::alone(Text::MORE),
+            Ok(ByteAnswer::Success) => Reply::alone(Text::SUCCESS),
+            Ok(ByteAnswer::Failure) => Reply::alone(Text::FAILURE),
+            Ok(ByteAnswer::Response(_)) => Reply::alone(Text::RESPONSE),
+            Err(refusal) => Reply::refused(refusal),
         }
     }
 
     // A status reading.
-    pub(crate) fn status(answer: StatusAnswer) -> Reply {
+    pub(crate) fn status(answer: Result<u16, Refusal>) -> Reply {
         match answer {
-            StatusAnswer::Word(word) => Reply::two(Text::STATUS, word as u32 / 256, word as u32),
-            StatusAnswer::Refused(refusal) => Reply::refused(refusal),
-        }
-    }
-
-    // A message to send.
-    pub(crate) fn send(answer: SendAnswer) -> Reply {
-        match answer {
-            SendAnswer::Sending => Reply::alone(Text::SENDING),
-            SendAnswer::Refused(refusal) => Reply::refused(refusal),
+            Ok(word) => Reply::two(Text::STATUS, word as u32 / 256, word as u32),
+            Err(refusal) => Reply::refused(refusal),
         }
     }
 
     // The message state.
-    pub(crate) fn message(answer: MessageAnswer) -> Reply {
+    pub(crate) fn message(answer: Result<MessageAnswer, Refusal>) -> Reply {
         match answer {
-            MessageAnswer::None => Reply::alone(Text::NONE),
-            MessageAnswer::Sending => Reply::alone(Text::SENDING),
-            MessageAnswer::Completed => Reply::alone(Text::COMPLETED),
-            MessageAnswer::Failed => Reply::alone(Text::FAILED),
-            MessageAnswer::Refused(refusal) => Reply::refused(refusal),
-        }
-    }
-
-    // The number ahead.
-    pub(crate) fn ahead(answer: AheadAnswer) -> Reply {
-        match answer {
-            AheadAnswer::Count(n) => Reply::of(Text::AHEAD, n as u32),
-            AheadAnswer::Refused(refusal) => Reply::refused(refusal),
+            Ok(MessageAnswer::None) => Reply::alone(Text::NONE),
+            Ok(MessageAnswer::Sending) => Reply::alone(Text::SENDING),
+            Ok(MessageAnswer::Completed) => Reply::alone(Text::COMPLETED),
+            Ok(MessageAnswer::Failed) => Reply::alone(Text::FAILED),
+            Err(refusal) => Reply::refused(refusal),
         }
     }
 
     // A frame taken by the reassembler.
-    pub(crate) fn take(answer: Answer) -> Reply {
+    pub(crate) fn take(answer: Result<Answer, Refusal>) -> Reply {
         match answer {
-            Answer::Ignored => Reply::alone(Text::IGNORED),
-            Answer::Started => Reply::alone(Text::STARTED),
-            Answer::More => Reply::alone(Text::MORE),
-            Answer::Done(length) => Reply::of(Text::DONE, length as u32),
-            Answer::Broken => Reply::alone(Text::BROKEN),
-            Answer::Refused(refusal) => Reply::refused(refusal),
+            Ok(Answer::Ignored) => Reply::alone(Text::IGNORED),
+            Ok(Answer::Started) => Reply::alone(Text::STARTED),
+            Ok(Answer::More) => Reply::alone(Text::MORE),
+            Ok(Answer::Done(length)) => Reply::of(Text::DONE, length as u32),
+            Ok(Answer::Broken) => Reply::alone(Text::BROKEN),
+            Err(refusal) => Reply::refused(refusal),
         }
     }
 
     // A judgement of the schedules.
-    pub(crate) fn judge(answer: Judgement) -> Reply {
+    pub(crate) fn judge(answer: Result<Option<u16>, Refusal>) -> Reply {
         match answer {
-            Judgement::Holds => Reply::alone(Text::HOLDS),
-            Judgement::Short(e) => Reply::of(Text::SHORT, e as u32),
-            Judgement::Refused(refusal) => Reply::refused(refusal),
+            Ok(None) => Reply::alone(Text::HOLDS),
+            Ok(Some(e)) => Reply::of(Text::SHORT, e as u32),
+            Err(refusal) => Reply::refused(refusal),
         }
     }
 
     // A byte that was made.
-    pub(crate) fn made(text: Text, answer: Made) -> Reply {
+    pub(crate) fn made(text: Text, answer: Result<u8, Refusal>) -> Reply {
         match answer {
-            Made::Byte(byte) => Reply::of(text, byte as u32),
-            Made::Refused(refusal) => Reply::refused(refusal),
-        }
-    }
-
-    // An identifier that was read.
-    pub(crate) fn identifier(answer: Made) -> Reply {
-        match answer {
-            Made::Byte(id) => Reply::of(Text::ID, id as u32),
-            Made::Refused(refusal) => Reply::refused(refusal),
+            Ok(byte) => Reply::of(text, byte as u32),
+            Err(refusal) => Reply::refused(refusal),
         }
     }
 }

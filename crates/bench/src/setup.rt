@@ -8,13 +8,12 @@ use desk::{
 };
 use master::state::State;
 use script::lists;
-use script::lists::Count;
 use streams::within;
 
 // Lays out a table, right or not, with frame bytes for its frames and a fresh state, and answers the table check.
 pub(crate) fn table(line: &[u8], desk: &mut Desk, table: &mut Table, frames: &mut Frames) -> Reply {
     let mut words = [0u16; LINE_WORDS];
-    let Count::Of(count) = lists::words(line, size(desk[LIST]), &mut words) else {
+    let Some(count) = lists::read(line, size(desk[LIST]), &mut words) else {
         return Reply::malformed();
     };
     *table = words;
@@ -42,7 +41,7 @@ fn frame_bytes(t: &[u16]) -> u32 {
 // Lays out the message that later ticks are lent.
 pub(crate) fn lend(line: &[u8], desk: &mut Desk, message: &mut Message) -> Reply {
     let mut lent = [0u8; MESSAGE_BYTES];
-    let Count::Of(n) = lists::bytes(line, size(desk[LIST]), &mut lent) else {
+    let Some(n) = lists::read(line, size(desk[LIST]), &mut lent) else {
         return Reply::malformed();
     };
     *message = lent;

@@ -3,7 +3,6 @@
 use crate::buffers::used;
 use crate::print::Printer;
 use crate::texts::Text;
-use cluster::Verdict;
 use cluster::frames::count;
 use desk::{state, *};
 use master::state::Opened;
@@ -52,10 +51,7 @@ fn sent_count(opened: Opened, t: &[u16]) -> u32 {
 
 // Whether a frame is in the table; a table that is not taken has none.
 fn is_there(t: &[u16], f: u16) -> bool {
-    match cluster::taken(t) {
-        Verdict::Accepted => f < count(t),
-        Verdict::Refused(_) => false,
-    }
+    cluster::taken(t).is_ok() && f < count(t)
 }
 
 // Shows the whole state but the pending bits.

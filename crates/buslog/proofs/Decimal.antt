@@ -1,5 +1,6 @@
 -- The decimal digits of a number, put down from the last one on.
-use Rattle.std.proofs.Common.{◌≡◌, ℕ, zero, suc, ◌+◌, ◌-◌, ◌/◌, ◌%◌, ◌^◌, ◌<◌, ◌≤◌, List, [], ◌∷◌, ◌++◌, length, take, drop, set, sym, refl, ◌∙◌, mod-eq_of_lt, div-lt_iff_lt-mul, pow-suc, sub-one, arith, length-drop, length-set, take_all, drop-cons, get_or-set_same, drop-set-lt, ne_eqb}
+use Rattle.std.proofs.Common.{◌≡◌, ◌==◌, ℕ, zero, suc, ◌+◌, ◌-◌, ◌/◌, ◌%◌, ◌^◌, ◌<◌, ◌≤◌, List, [], ◌∷◌, ◌++◌, length, take, drop, set, sym, refl, ◌∙◌, mod-eq_of_lt, div-lt_iff_lt-mul, pow-suc, sub-one, arith, length-append, length-drop, length-set, take_all, drop-cons, drop_of_length-le, get_or-set_same, drop-set-lt, ne_eqb}
+use Rattle.wire.proofs.Tests.{whether}
 use lib.Seq.{append_snoc}
 use Rattle.buslog.specs.Row.{digits_of, decimal_of}
 
@@ -21,6 +22,27 @@ decimal n h = rw (mod-eq_of_lt h)
 from_set : (l : List ℕ) (k d : ℕ) → k < length l → drop k (set l k d) ≡ d ∷ drop (suc k) l
 from_set l k d h =
     rw (drop-cons (set l k d) k 0 (simp length-set (omega arith)), get_or-set_same l k d 0 h, drop-set-lt (suc k) l k d (omega arith))
+
+-- the last of twenty digits, put at the end
+pub last_digit : (l : List ℕ) (d : ℕ) → length l ≡ 20 → drop 19 (set l 19 d) ≡ d ∷ []
+last_digit l d e = rw (from_set l 19 d (omega arith), drop_of_length-le l {i = 20} (omega arith))
+
+-- twenty digits at most
+digits_few : (k n : ℕ) → length (digits_of k n) ≤ k
+unfolding digits_of
+digits_few zero n = omega arith
+digits_few (suc k) n =
+    whether (n == 0)
+    (λ e. rw e (omega arith))
+    (λ e. rw e (omega (arith, length-append (digits_of k (n / 10)) ((48 + n % 10) ∷ []), digits_few k (n / 10))))
+
+pub decimal_few : (n : ℕ) → length (decimal_of n) ≤ 20
+unfolding decimal_of
+decimal_few n = omega (
+  arith,
+  length-append (digits_of 19 (n % 2 ^ 64 / 10)) ((48 + n % 2 ^ 64 % 10) ∷ []),
+  digits_few 19 (n % 2 ^ 64 / 10),
+)
 
 -- more than 0 has a digit, and one digit less behind it
 pub fewer : (at n : ℕ) → 0 < n → n < 10 ^ at → 1 ≤ at

@@ -32,11 +32,11 @@ unfolding digit_of digit_character
 digit_back d h = eqb-true (digit_of (digit_character d)) d (below 16 (λ k. eqb (digit_of (digit_character k)) k) refl d h)
 
 -- the character of a value
-low_character : (d : ℕ) → d < 10 → digit_character d ≡ 48 + d
+pub low_character : (d : ℕ) → d < 10 → digit_character d ≡ 48 + d
 unfolding digit_character
 low_character d h = rw (lt-ltb d 10 h)
 
-high_character : (d : ℕ) → 10 ≤ d → digit_character d ≡ 55 + d
+pub high_character : (d : ℕ) → 10 ≤ d → digit_character d ≡ 55 + d
 unfolding digit_character
 high_character d h = rw (le-ltb d 10 h)
 

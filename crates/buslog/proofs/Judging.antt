@@ -1,7 +1,6 @@
 -- The cases of the verdict, one by one.
 use Rattle.std.proofs.Common.{◌≡◌, ℕ, ◌+◌, ◌-◌, ◌%◌, ◌<◌, ◌≤◌, true, false, ◌||◌, eqb, List, [], ◌∷◌, length, get_or, take, drop, sym, ap, ◌∙◌, arith, take_all, le-ltb, lt-ltb, eq-eqb, ne_eqb}
 use Rattle.refusal.specs.declared.Refusal.{Refusal}
-use Rattle.wire.specs.declared.Answer.TheVariants as wire
 use Rattle.wire.specs.declared.checksum.Model.{Model}
 use Rattle.wire.specs.declared.checksum.Model.TheVariants.{Classic}
 use Rattle.refusal.specs.Numbers.{frame}
@@ -10,13 +9,12 @@ use Rattle.wire.specs.Identifier.{right_parity, read_of}
 use Rattle.wire.specs.Checksum.{checksum_byte}
 use Rattle.wire.proofs.Tests.{whether}
 use Rattle.cluster.specs.Table.{frame_count, frame_length, frame_model}
-use Rattle.cluster.specs.declared.Verdict.TheVariants as table
 use Rattle.cluster.specs.Check.{taken_of}
 use Rattle.buslog.specs.declared.judge.Verdict.{Verdict}
-use Rattle.buslog.specs.declared.judge.Judged.TheVariants as answer
 use Rattle.buslog.specs.declared.judge.Verdict.TheVariants.{Text, Parity, Unknown, Length, Checksum, Ok}
 use Rattle.buslog.specs.Verdict.{frame_with, known_verdict, identifier_verdict, bytes_verdict, line_verdict, answered, judge_of}
 use Rattle.buslog.specs.Pairs.{line_bytes}
+use Rattle.std.specs.declared.result.Result.TheVariants as result
 
 -- ---- a known identifier
 
@@ -55,7 +53,7 @@ module _ (t : List ℕ) (id : ℕ) (rest : List ℕ) where
 -- ---- the protected identifier
 
 module _ (p : ℕ) where
-  right_read : right_parity p ≡ true → read_of p ≡ wire.Byte (p % 64)
+  right_read : right_parity p ≡ true → read_of p ≡ result.Ok (p % 64)
   unfolding read_of
   right_read e = rw e
 
@@ -63,31 +61,31 @@ module _ (p : ℕ) where
   unfolding read_of
   wrong_read e = rw e
 
-  parity_wrong : (r : Refusal) → read_of p ≡ wire.Refused r → right_parity p ≡ false
+  parity_wrong : (r : Refusal) → read_of p ≡ result.Err r → right_parity p ≡ false
   parity_wrong r e =
       whether (right_parity p)
       (λ q. let m = right_read q in let z : ◌≡◌ {A = ℕ} 0 1 = cc in absurd (omega arith))
       (λ q. q)
 
-  parity_right : (id : ℕ) → read_of p ≡ wire.Byte id → right_parity p ≡ true
+  parity_right : (id : ℕ) → read_of p ≡ result.Ok id → right_parity p ≡ true
   parity_right id e =
       whether (right_parity p)
       (λ q. q)
       (λ q. let m = wrong_read q in let z : ◌≡◌ {A = ℕ} 0 1 = cc in absurd (omega arith))
 
-  identifier_read : (id : ℕ) → read_of p ≡ wire.Byte id → p % 64 ≡ id
+  identifier_read : (id : ℕ) → read_of p ≡ result.Ok id → p % 64 ≡ id
   identifier_read id e = let m = right_read (parity_right id e) in cc
 
-  pub read_below : (id : ℕ) → read_of p ≡ wire.Byte id → id ≤ 63
+  pub read_below : (id : ℕ) → read_of p ≡ result.Ok id → id ≤ 63
   read_below id e = omega (arith, identifier_read id e)
 
 module _ (t : List ℕ) where
-  pub wrong_parity : (bytes : List ℕ) (r : Refusal) → 1 ≤ length bytes → read_of (get_or bytes 0 0) ≡ wire.Refused r → Parity ≡ bytes_verdict t bytes
+  pub wrong_parity : (bytes : List ℕ) (r : Refusal) → 1 ≤ length bytes → read_of (get_or bytes 0 0) ≡ result.Err r → Parity ≡ bytes_verdict t bytes
   unfolding bytes_verdict
   wrong_parity [] r h e = absurd (omega arith)
   wrong_parity (p ∷ rest) r h e = rw (parity_wrong p r e)
 
-  pub by_identifier : (bytes rest : List ℕ) (id : ℕ) → 1 ≤ length bytes → rest ≡ take (length bytes - 1) (drop 1 bytes) → read_of (get_or bytes 0 0) ≡ wire.Byte id
+  pub by_identifier : (bytes rest : List ℕ) (id : ℕ) → 1 ≤ length bytes → rest ≡ take (length bytes - 1) (drop 1 bytes) → read_of (get_or bytes 0 0) ≡ result.Ok id
       → identifier_verdict t id rest ≡ bytes_verdict t bytes
   unfolding bytes_verdict
   by_identifier [] rest id h q e = absurd (omega arith)
@@ -106,10 +104,10 @@ module _ (t line : List ℕ) where
   unfolding line_verdict
   by_bytes bytes e = rw e
 
-  pub judge_refused : (r : Refusal) → taken_of t ≡ table.Refused r → answer.Refused r ≡ judge_of t line
+  pub judge_refused : (r : Refusal) → taken_of t ≡ result.Err r → result.Err r ≡ judge_of t line
   unfolding judge_of answered
   judge_refused r e = rw e
 
-  pub judge_accepted : (v : Verdict) → taken_of t ≡ table.Accepted → v ≡ line_verdict t line → answer.Line v ≡ judge_of t line
+  pub judge_accepted : (v : Verdict) → taken_of t ≡ result.Ok tt → v ≡ line_verdict t line → result.Ok v ≡ judge_of t line
   unfolding judge_of answered
   judge_accepted v e q = rw (e, q)

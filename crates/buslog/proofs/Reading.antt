@@ -1,35 +1,40 @@
 -- What reading a line comes to, pair by pair.
-use Rattle.std.proofs.Common.{◌≡◌, ℕ, suc, ◌+◌, ◌*◌, ◌<◌, ◌≤◌, true, false, ltb, List, [], ◌∷◌, ◌++◌, length, get_or, take, drop, set, sym, refl, ◌∙◌, add-one, arith, length-drop, length-set, drop_of_length-le, drop-cons, take-suc-set, ltb-true, le-ltb, lt-ltb, eq-eqb, ne_eqb, le-leb}
+use Rattle.std.proofs.Common.{◌≡◌, ℕ, suc, ◌+◌, ◌*◌, ◌<◌, ◌≤◌, true, false, Option, Some, None, List, [], ◌∷◌, ◌++◌, length, get_or, take, set, sym, refl, ◌∙◌, add-one, arith, length-set, take-suc-set, le-ltb, lt-ltb, eq-eqb, ne_eqb, le-leb}
+use Rattle.std.proofs.Common.{Bool, ◌%◌, min, ap, append-nil}
 use mathlib.Core.Bool.{and-false}
 use borrow.Author.Tests.{lt-leb}
 use lib.Seq.{append_snoc}
-use Rattle.wire.proofs.Tests.{and_left, and_right, whether}
-use Rattle.buslog.specs.declared.pairs.Pairs.{Pairs}
-use Rattle.buslog.specs.Pairs.{digit_of, is_pair, pair_byte, are_pairs, pair_bytes, line_bytes}
-use Rattle.buslog.specs.Parts.{pair_at, Reads}
+use Rattle.wire.proofs.Tests.{whether}
+use Rattle.buslog.specs.Pairs.{digit_of, is_pair, byte_of, pair_byte, are_pairs, pair_bytes, line_bytes}
+use Rattle.buslog.specs.Parts.{Holds}
 
 -- ---- one pair
 
-module _ (line : List ℕ) (at : ℕ) where
-  pub no_high : 16 ≤ digit_of (get_or line at 0) → 256 ≡ pair_at line at
-  unfolding pair_at is_pair
-  no_high h = simp (le-ltb (digit_of (get_or line at 0)) 16 h)
+module _ (h l : ℕ) where
+  pub no_high : (digit_of h < 16 → ⊥) → byte_of h l ≡ None
+  unfolding byte_of is_pair
+  no_high n = simp (le-ltb (digit_of h) 16 (omega arith))
 
-  pub no_low : 16 ≤ digit_of (get_or line (at + 1) 0) → 256 ≡ pair_at line at
-  unfolding pair_at is_pair
-  no_low h = simp (le-ltb (digit_of (get_or line (at + 1) 0)) 16 h, and-false)
+  pub no_low : (digit_of l < 16 → ⊥) → byte_of h l ≡ None
+  unfolding byte_of is_pair
+  no_low n = simp (le-ltb (digit_of l) 16 (omega arith), and-false)
 
-  pub pair_there : {h l : ℕ} → h < 16 → l < 16 → h ≡ digit_of (get_or line at 0) → l ≡ digit_of (get_or line (at + 1) 0) → 16 * h + l ≡ pair_at line at
-  unfolding pair_at is_pair pair_byte
-  pair_there hh hl eh el = rw (eh, el) (simp (lt-ltb (digit_of (get_or line at 0)) 16 (omega arith), lt-ltb (digit_of (get_or line (at + 1) 0)) 16 (omega arith)))
+  pub pair_there : {a b : ℕ} → (digit_of h < 16) × (a ≡ digit_of h) → (digit_of l < 16) × (b ≡ digit_of l) → byte_of h l ≡ Some (16 * a + b)
+  unfolding byte_of is_pair pair_byte
+  pair_there p q = rw (p.1, q.1) (simp (lt-ltb (digit_of h) 16 p.0, lt-ltb (digit_of l) 16 q.0))
 
-pair_below : (h l : ℕ) → is_pair h l ≡ true → pair_byte h l < 256
-unfolding is_pair pair_byte
-pair_below h l e = omega (
-  arith,
-  ltb-true (digit_of h) 16 (and_left (ltb (digit_of h) 16) (ltb (digit_of l) 16) e),
-  ltb-true (digit_of l) 16 (and_right (ltb (digit_of h) 16) (ltb (digit_of l) 16) e),
-)
+  pub no_byte : byte_of h l ≡ None → is_pair h l ≡ false
+  unfolding byte_of
+  no_byte e = whether (is_pair h l) (λ t. let bad : ◌≡◌ {A = Option ℕ} (Some (pair_byte h l)) None = rw t at e in cc) (λ t. t)
+
+  module _ {b : ℕ} (e : byte_of h l ≡ Some b) where
+    pub is_pair_lem : is_pair h l ≡ true
+    unfolding byte_of
+    is_pair_lem = whether (is_pair h l) (λ t. t) (λ t. let bad : ◌≡◌ {A = Option ℕ} None (Some b) = rw t at e in cc)
+
+    pub is_byte : b ≡ pair_byte h l
+    unfolding byte_of
+    is_byte = let q : ◌≡◌ {A = Option ℕ} (Some (pair_byte h l)) (Some b) = rw is_pair_lem at e in cc
 
 -- ---- a line from a pair on
 
@@ -47,66 +52,13 @@ module _ (h l : ℕ) where
   unfolding are_pairs
   pairs_more s rest e q = rw (e, eq-eqb s 32 q)
 
-too_short_lem : (xs : List ℕ) → length xs ≤ 1 → are_pairs xs ≡ false
+-- each pair but the last takes three characters, and the last one two
+pub uneven : (xs : List ℕ) → (length xs % 3 ≡ 2 → ⊥) → are_pairs xs ≡ false
 unfolding are_pairs
-too_short_lem [] h = refl
-too_short_lem (x ∷ []) h = refl
-too_short_lem (x ∷ y ∷ xs) h = absurd (omega arith)
-
--- the characters from a place on: two, and what stands behind them
-module _ (line : List ℕ) (at : ℕ) where
-  two_from : at + 1 < length line → drop at line ≡ get_or line at 0 ∷ get_or line (at + 1) 0 ∷ drop (at + 2) line
-  two_from h =
-      let p : suc at ≡ at + 1 = sym (add-one at) in
-      let q : suc (at + 1) ≡ at + 2 = omega arith in
-      rw (drop-cons line at 0 (omega arith), p, drop-cons line (at + 1) 0 h, q)
-
-  three_from : at + 2 < length line → drop at line ≡ get_or line at 0 ∷ get_or line (at + 1) 0 ∷ get_or line (at + 2) 0 ∷ drop (at + 3) line
-  three_from h =
-      let q : suc (at + 2) ≡ at + 3 = omega arith in
-      rw (two_from (omega arith), drop-cons line (at + 2) 0 h, q)
-
-  -- what a place of a line comes to, by the pair there and what follows it
-  module _ (pair : pair_at line at ≤ 255) where
-    pub is_pair_lem : is_pair (get_or line at 0) (get_or line (at + 1) 0) ≡ true
-    unfolding pair_at
-    is_pair_lem =
-        whether (is_pair (get_or line at 0) (get_or line (at + 1) 0)) (λ e. e)
-        (λ e. absurd (omega (arith, simp e at pair)))
-
-    pub is_byte : pair_at line at ≡ pair_byte (get_or line at 0) (get_or line (at + 1) 0)
-    unfolding pair_at
-    is_byte = simp is_pair_lem
-
-    pub last_pairs : at + 2 ≡ length line → are_pairs (drop at line) ≡ true
-    unfolding are_pairs
-    last_pairs h = rw (two_from (omega arith), drop_of_length-le line {i = at + 2} (omega arith)) is_pair_lem
-
-    pub last_bytes : at + 2 ≡ length line → pair_bytes (drop at line) ≡ pair_at line at ∷ []
-    unfolding pair_bytes
-    last_bytes h = rw (two_from (omega arith), drop_of_length-le line {i = at + 2} (omega arith), is_byte)
-
-    pub unspaced : at + 2 < length line → (get_or line (at + 2) 0 ≡ 32 → ⊥) → are_pairs (drop at line) ≡ false
-    unspaced h e = rw (three_from h) (pairs_unspaced (get_or line at 0) (get_or line (at + 1) 0) (get_or line (at + 2) 0) (drop (at + 3) line) e)
-
-    pub more_pairs : at + 2 < length line → get_or line (at + 2) 0 ≡ 32 → are_pairs (drop at line) ≡ are_pairs (drop (at + 3) line)
-    more_pairs h e = rw (three_from h) (pairs_more (get_or line at 0) (get_or line (at + 1) 0) (get_or line (at + 2) 0) (drop (at + 3) line) is_pair_lem e)
-
-    pub more_bytes : at + 2 < length line → pair_bytes (drop at line) ≡ pair_at line at ∷ pair_bytes (drop (at + 3) line)
-    unfolding pair_bytes
-    more_bytes h = rw (three_from h, is_byte)
-
-  pub no_pair : at + 1 < length line → 255 < pair_at line at → are_pairs (drop at line) ≡ false
-  unfolding pair_at
-  no_pair h p =
-      rw (two_from h)
-      (pairs_wrong (get_or line at 0) (get_or line (at + 1) 0) (drop (at + 2) line)
-      (whether (is_pair (get_or line at 0) (get_or line (at + 1) 0))
-      (λ e. absurd (omega (arith, simp e at p, pair_below (get_or line at 0) (get_or line (at + 1) 0) e)))
-      (λ e. e)))
-
-  pub no_more : length line ≤ at + 1 → are_pairs (drop at line) ≡ false
-  no_more e = too_short_lem (drop at line) (simp length-drop (omega arith))
+uneven [] n = refl
+uneven (h ∷ []) n = refl
+uneven (h ∷ l ∷ []) n = absurd (n refl)
+uneven (h ∷ l ∷ s ∷ rest) n = rw (uneven rest (λ e. n (omega arith)), and-false, and-false)
 
 -- ---- the whole line
 
@@ -123,29 +75,124 @@ module _ (line : List ℕ) where
   unfolding line_bytes
   is_bytes_lem h e = rw (le-leb (length line) 29 h, e)
 
--- ---- what the reader hands back
+-- ---- what is left of a line, three characters at a time
 
-module _ (line : List ℕ) (r : Pairs) where
-  pub reads_text : r.count ≡ 0 → line_bytes line ≡ [] → Reads line r
-  reads_text z e = record { within = omega arith; front = rw (z, e) }
+-- none at all is left, or pairs that go on
+abbrev pub go_on : List ℕ → Bool
+go_on [] = true
+go_on (c ∷ cs) = are_pairs (c ∷ cs)
+
+more : (xs : List ℕ) → 0 < length xs → go_on xs ≡ are_pairs xs
+more [] h = absurd (omega arith)
+more (x ∷ xs) h = refl
+
+-- the bytes of the pairs passed are at the front, and the line is what they and the rest make of it
+pub record LeftPairs (line rest : List ℕ) (size n : ℕ) (bytes : List ℕ) : Type 0 where
+  pub three : size ≡ 3
+  pub whole : 0 < length rest → length rest % 3 ≡ 2
+  pub room : 3 * n + length rest ≤ 30
+  pub some : length rest ≡ 0 → 1 ≤ n
+  pub ten : length bytes ≡ 10
+  pub pairs : are_pairs line ≡ go_on rest
+  pub front : pair_bytes line ≡ take n bytes ++ pair_bytes rest
+
+pub pairs_begin : (line bytes : List ℕ) → length line ≤ 29 → length line % 3 ≡ 2 → length bytes ≡ 10 → LeftPairs line line 3 0 bytes
+pairs_begin line bytes h e t = record {
+  three = refl;
+  whole = λ k. e;
+  room = omega arith;
+  some = λ k. absurd (omega arith);
+  ten = t;
+  pairs = sym (more line (omega arith));
+  front = refl;
+}
 
 -- one byte more at the front
 module _ (bytes : List ℕ) (n b : ℕ) (h : n < length bytes) where
   one_more : take (n + 1) (set bytes n b) ≡ take n bytes ++ (b ∷ [])
   one_more = rw add-one (take-suc-set bytes n b h)
 
-  pub turn : (all old rest : List ℕ) → all ≡ take n bytes ++ old → old ≡ b ∷ rest → all ≡ take (n + 1) (set bytes n b) ++ rest
+  turn : (all old rest : List ℕ) → all ≡ take n bytes ++ old → old ≡ b ∷ rest → all ≡ take (n + 1) (set bytes n b) ++ rest
   turn all old rest e q = e ∙ rw (q, one_more) (sym (append_snoc (take n bytes) b rest))
 
-  pub reads_last : (line : List ℕ) (at : ℕ) → length line ≤ 29 → b ≡ pair_at line at → b ≤ 255 → at + 2 ≡ length line
-      → are_pairs line ≡ are_pairs (drop at line) → pair_bytes line ≡ take n bytes ++ pair_bytes (drop at line)
-      → Reads line (record { count = n + 1; bytes = set bytes n b })
-  reads_last line at short e q last ps bs =
-      let p : pair_at line at ≤ 255 = omega arith in
+-- the next three characters, or the last two
+module _ (line : List ℕ) (n : ℕ) (bytes : List ℕ) where
+  by_byte : (x rest : List ℕ) → LeftPairs line (x ++ rest) 3 n bytes → length x ≡ min 3 (length (x ++ rest)) → 0 < length (x ++ rest)
+      → byte_of (get_or x 0 0) (get_or x 1 0) ≡ None → are_pairs line ≡ false
+  by_byte [] rest l e h q = absurd (omega arith)
+  by_byte (a ∷ []) rest l e h q =
+      let p : 0 < suc (length rest) = omega arith in
+      let w : suc (length rest) % 3 ≡ 2 = l.whole p in
+      let m : 1 ≡ min 3 (suc (length rest)) = e in
+      absurd (omega arith)
+  by_byte (a ∷ b ∷ x) rest l e h q = l.pairs ∙ pairs_wrong a b (x ++ rest) (no_byte a b q)
+
+  by_space : (x rest : List ℕ) → LeftPairs line (x ++ rest) 3 n bytes → length x ≡ 3 → (get_or x 2 0 ≡ 32 → ⊥) → are_pairs line ≡ false
+  by_space [] rest l e q = absurd (omega arith)
+  by_space (a ∷ []) rest l e q = absurd (omega arith)
+  by_space (a ∷ b ∷ []) rest l e q = absurd (omega arith)
+  by_space (a ∷ b ∷ s ∷ x) rest l e q = l.pairs ∙ pairs_unspaced a b s (x ++ rest) q
+
+  by_pair : (x rest : List ℕ) (b : ℕ) → LeftPairs line (x ++ rest) 3 n bytes → length x ≡ min 3 (length (x ++ rest)) → 0 < length (x ++ rest)
+      → byte_of (get_or x 0 0) (get_or x 1 0) ≡ Some b → (length x ≡ 3 → get_or x 2 0 ≡ 32) → LeftPairs line rest 3 (n + 1) (set bytes n b)
+  unfolding are_pairs pair_bytes
+  by_pair [] rest b l e h q s = absurd (omega arith)
+  by_pair (a ∷ []) rest b l e h q s =
+      let p : 0 < suc (length rest) = omega arith in
+      let w : suc (length rest) % 3 ≡ 2 = l.whole p in
+      let m : 1 ≡ min 3 (suc (length rest)) = e in
+      absurd (omega arith)
+  by_pair (a ∷ c ∷ []) [] b l e h q s = record {
+    three = refl;
+    whole = λ k. absurd (omega arith);
+    room = omega (arith, l.room);
+    some = λ k. omega arith;
+    ten = simp length-set l.ten;
+    pairs = l.pairs ∙ is_pair_lem a c q;
+    front = turn bytes n b (omega (arith, l.room, l.ten)) _ _ _ l.front (ap (λ (k : ℕ). k ∷ []) (sym (is_byte a c q)));
+  }
+  by_pair (a ∷ c ∷ []) (d ∷ rest) b l e h q s = absurd (omega arith)
+  by_pair (a ∷ c ∷ d ∷ []) rest b l e h q s =
+      let p : 0 < suc (suc (suc (length rest))) = omega arith in
+      let v : suc (suc (suc (length rest))) % 3 ≡ 2 = l.whole p in
+      let w : length rest % 3 ≡ 2 = omega arith in
+      let o : 3 * n + suc (suc (suc (length rest))) ≤ 30 = l.room in
       record {
-        within = simp length-set (omega arith);
-        front =
-            one_more
-            ∙ rw (e, ← last_bytes line at p last)
-            (sym bs ∙ sym (is_bytes_lem line short (ps ∙ last_pairs line at p last)));
+        three = refl;
+        whole = λ k. w;
+        room = omega (arith, l.room);
+        some = λ k. omega arith;
+        ten = simp length-set l.ten;
+        pairs = l.pairs ∙ pairs_more a c d rest (is_pair_lem a c q) (s refl) ∙ sym (more rest (omega arith));
+        front = turn bytes n b (omega (arith, l.room, l.ten)) _ _ _ l.front (ap (λ (k : ℕ). k ∷ pair_bytes rest) (sym (is_byte a c q)));
       }
+  by_pair (a ∷ c ∷ d ∷ f ∷ x) rest b l e h q s = absurd (omega arith)
+
+  module _ {rest : List ℕ} {size : ℕ} (l : LeftPairs line rest size n bytes) (x after : List ℕ) (size2 : ℕ)
+      (step : (size2 ≡ size) × ((rest ≡ x ++ after) × (length x ≡ min size (length rest)) × (0 < length rest))) where
+    here : LeftPairs line (x ++ after) 3 n bytes
+    here = rw (step.1.0, l.three) at l
+
+    taken : length x ≡ min 3 (length (x ++ after))
+    taken = rw (step.1.0, l.three) at step.1.1
+
+    left : 0 < length (x ++ after)
+    left = rw step.1.0 at step.1.2
+
+    pub no_pair : None ≡ byte_of (get_or x 0 0) (get_or x 1 0) → line_bytes line ≡ []
+    no_pair q = is_text line (by_byte x after here taken left (sym q))
+
+    pub no_space : length x ≡ 3 → (get_or x 2 0 ≡ 32 → ⊥) → line_bytes line ≡ []
+    no_space e q = is_text line (by_space x after here e q)
+
+    pub next_pair : {b : ℕ} → Some b ≡ byte_of (get_or x 0 0) (get_or x 1 0) → (length x ≡ 3 → get_or x 2 0 ≡ 32) → LeftPairs line after size2 (n + 1) (set bytes n b)
+    next_pair {b} q s = let z : size2 ≡ 3 = step.0 ∙ l.three in rw z (by_pair x after b here taken left (sym q) s)
+
+  pub all_pairs : (rest : List ℕ) {size : ℕ} → LeftPairs line rest size n bytes → length line ≤ 29 → length rest ≡ 0 → Holds line (record { count = n; bytes = bytes })
+  unfolding pair_bytes
+  all_pairs [] l h e = record {
+    within = omega (arith, l.room, l.ten);
+    some = l.some refl;
+    front = sym (is_bytes_lem line h l.pairs ∙ l.front ∙ append-nil (take n bytes));
+  }
+  all_pairs (c ∷ cs) l h e = absurd (omega arith)

@@ -1,50 +1,41 @@
 -- Laws of the report in parts.
-use Rattle.std.proofs.Common.{◌≡◌, ℕ, zero, suc, ◌+◌, ◌-◌, ◌*◌, ◌/◌, ◌%◌, ◌^◌, ◌≤◌, eqb, List, [], ◌∷◌, ◌++◌, length, drop, refl, ap, arith, length-append, le-leb}
+use Rattle.std.proofs.Common.{◌≡◌, ℕ, suc, ◌+◌, ◌-◌, ◌*◌, ◌≤◌, eqb, List, [], ◌∷◌, ◌++◌, length, drop, refl, ap, arith, length-append, le-leb}
 use lib.Seq.{take-length}
 use Rattle.wire.proofs.Tests.{whether}
-use Rattle.cluster.specs.declared.Verdict.{Verdict}
-use Rattle.cluster.specs.declared.Verdict.TheVariants as table
 use Rattle.cluster.specs.Check.{taken_of, TakenTable}
 use Rattle.buslog.specs.declared.report.Written.{Written}
 use Rattle.buslog.specs.declared.judge.Verdict as buslog
 use Rattle.buslog.specs.declared.judge.Verdict.TheVariants.{Text, Parity, Unknown, Length, Checksum, Ok}
 use Rattle.buslog.specs.Pairs.{pair_of}
 use Rattle.buslog.specs.Verdict.{line_verdict}
-use Rattle.buslog.specs.Row.{digits_of, decimal_of, shown_identifier, word, row_of, longest_row}
+use Rattle.buslog.specs.Row.{decimal_of, shown_identifier, word, row_of, longest_row}
 use Rattle.buslog.specs.Lines.{whole_lines}
 use Rattle.buslog.specs.Report.{fronted, reportable, reported_lines, reporting, reported_by, reported, Leaves}
 use Rattle.buslog.specs.Parts.{verdict_text}
+use Rattle.cluster.specs.Check.{Verdict}
+use Rattle.std.specs.Prelude.{Result}
+use Rattle.refusal.specs.declared.Refusal.{Refusal}
+use Rattle.std.specs.declared.result.Result.TheVariants as result
+use Rattle.buslog.proofs.Decimal.{decimal_few}
 
 module _ (t : List ℕ) (n room : ℕ) (text : List ℕ) where
-  put_by : (v : Verdict) → (reported_by v t n room text).report.put ≡ length (reported_by v t n room text).rows
+  abbrev put_of : Result Written Refusal → ℕ
+  put_of (result.Ok w) = w.put
+  put_of (result.Err r) = 0
+
+  put_by : (v : Verdict) → put_of (reported_by v t n room text).report ≡ length (reported_by v t n room text).rows
   unfolding reported_by reporting
-  put_by table.Accepted = refl
-  put_by (table.Refused r) = refl
+  put_by (result.Ok tt) = refl
+  put_by (result.Err r) = refl
 
   -- the rows that were put are within the buffer
-  pub put_within : (before : List ℕ) (r : Written) (after : List ℕ) → Leaves (reported t n room text) before r after → r.put ≤ length after
+  pub put_within : (before : List ℕ) (r : Written) (after : List ℕ) → Leaves (reported t n room text) before (result.Ok r) after → r.put ≤ length after
   unfolding reported fronted
   put_within before r after l =
       let rows = (reported_by (taken_of t) t n room text).rows in
-      omega (arith, ap (λ (w : Written). w.put) l.handed, put_by (taken_of t), ap length l.left, length-append rows (drop (length rows) before))
+      omega (arith, ap put_of l.handed, put_by (taken_of t), ap length l.left, length-append rows (drop (length rows) before))
 
 -- ---- a buffer with room for every line
-
-digits_few : (k n : ℕ) → length (digits_of k n) ≤ k
-unfolding digits_of
-digits_few zero n = omega arith
-digits_few (suc k) n =
-    whether (eqb n 0)
-    (λ e. rw e (omega arith))
-    (λ e. rw e (omega (arith, length-append (digits_of k (n / 10)) ((48 + n % 10) ∷ []), digits_few k (n / 10))))
-
-decimal_few : (n : ℕ) → length (decimal_of n) ≤ 20
-unfolding decimal_of
-decimal_few n = omega (
-  arith,
-  length-append (digits_of 19 (n % 2 ^ 64 / 10)) ((48 + n % 2 ^ 64 % 10) ∷ []),
-  digits_few 19 (n % 2 ^ 64 / 10),
-)
 
 verdict_few : (v : buslog.Verdict) → length (verdict_text v) ≤ 13
 unfolding verdict_text shown_identifier word pair_of

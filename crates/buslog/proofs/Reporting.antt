@@ -5,10 +5,8 @@ use borrow.Rule.Slice.PartMut.{put_mid}
 use lib.Seq.{append_snoc, take-append_seam}
 use Rattle.scan.specs.Bytes.{index_of, slice}
 use Rattle.refusal.specs.declared.Refusal.{Refusal}
-use Rattle.cluster.specs.declared.Verdict.TheVariants as table
 use Rattle.cluster.specs.Check.{taken_of}
 use Rattle.buslog.specs.declared.judge.Verdict.{Verdict}
-use Rattle.buslog.specs.declared.report.Answer.TheVariants.{Refused}
 use Rattle.buslog.specs.declared.report.Written.{Written}
 use Rattle.buslog.specs.Verdict.{line_verdict}
 use Rattle.buslog.specs.Row.{row_of, longest_row}
@@ -18,6 +16,7 @@ use Rattle.buslog.specs.Parts.{so_far}
 use Rattle.buslog.proofs.Fronting.{behind, behind_within, fronted_length}
 use Rattle.buslog.proofs.Rows.{row_number, rows_more, has_room, no_room, characters_more}
 use Rattle.buslog.proofs.Splitting.{line_at, none_at}
+use Rattle.std.specs.Prelude.{Result, Ok, Err}
 
 -- some lines are reported, and what is left is the rest of the text and the rest of the room
 pub record Done (t : List ℕ) (n : ℕ) (text empty : List ℕ) (lines used put : ℕ) (out : List ℕ) : Type 0 where
@@ -57,15 +56,15 @@ module _ (t : List ℕ) (n : ℕ) (text empty : List ℕ) where
         rw (k, d.split) (take-append_seam d.reported (whole_lines [] (drop used text)))
 
     leaves : reportable t (n + lines) (length empty - put) (whole_lines [] (drop used text)) ≡ 0
-        → Leaves (reporting t n (reported_lines t n (length empty) text)) empty (so_far lines used put) out
+        → Leaves (reporting t n (reported_lines t n (length empty) text)) empty (Ok (so_far lines used put)) out
     unfolding reporting so_far
     leaves z = rw (finished z) record { handed = rw (d.count, d.passed, d.fronts.count); left = d.fronts.left }
 
-    pub full : length empty - put < longest_row → Leaves (reporting t n (reported_lines t n (length empty) text)) empty (so_far lines used put) out
+    pub full : length empty - put < longest_row → Leaves (reporting t n (reported_lines t n (length empty) text)) empty (Ok (so_far lines used put)) out
     full h = leaves (no_room t (n + lines) (length empty - put) (whole_lines [] (drop used text)) h)
 
     module _ (end : ℕ) (e : end ≡ used + index_of 10 (slice used (length text) text)) where
-      pub ended : end ≡ length text → Leaves (reporting t n (reported_lines t n (length empty) text)) empty (so_far lines used put) out
+      pub ended : end ≡ length text → Leaves (reporting t n (reported_lines t n (length empty) text)) empty (Ok (so_far lines used put)) out
       unfolding reportable
       ended h = leaves (rw (none_at text used end d.within e h))
 
@@ -127,12 +126,12 @@ module _ (t : List ℕ) (n : ℕ) (text empty : List ℕ) where
 -- ---- the call
 
 module _ (t : List ℕ) (n : ℕ) (text before : List ℕ) where
-  pub refuses : (r : Refusal) → taken_of t ≡ table.Refused r
-      → Leaves (reported t n (length before) text) before (record { answer = Refused r; lines = 0; used = 0; put = 0 }) before
+  pub refuses : (r : Refusal) → taken_of t ≡ Err r
+      → Leaves (reported t n (length before) text) before (Err r) before
   unfolding reported reported_by fronted
   refuses r e = rw e record { handed = refl; left = refl }
 
-  pub accepts : {r : Written} {after : List ℕ} → taken_of t ≡ table.Accepted → Leaves (reporting t n (reported_lines t n (length before) text)) before r after
+  pub accepts : {r : Result Written Refusal} {after : List ℕ} → taken_of t ≡ Ok tt → Leaves (reporting t n (reported_lines t n (length before) text)) before r after
       → Leaves (reported t n (length before) text) before r after
   unfolding reported reported_by
   accepts e l = rw e l

@@ -11,11 +11,9 @@ use Rattle.wire.proofs.Tests.{whether}
 use Rattle.signal.proofs.Inside.{order}
 use Rattle.cluster.specs.Check.{RightTable, taken_of}
 use Rattle.cluster.specs.Table.{frame_count, identifier, frame_length, frame_model}
-use Rattle.cluster.specs.declared.Verdict as checked
-use Rattle.cluster.specs.declared.Verdict.TheVariants as table
+use Rattle.cluster.specs.Check as checked
 use Rattle.cluster.proofs.FrameLaws.{identifier_below}
 use Rattle.cluster.proofs.Searching.{first_holds, first_least}
-use Rattle.buslog.specs.declared.judge.Judged.TheVariants as answer
 use Rattle.buslog.specs.declared.judge.Verdict.{Verdict}
 use Rattle.buslog.specs.declared.judge.Verdict.TheVariants.{Text, Parity, Unknown, Length, Checksum, Ok}
 use Rattle.buslog.specs.Pairs.{line_bytes}
@@ -23,6 +21,7 @@ use Rattle.buslog.specs.Verdict.{frame_with, known_verdict, identifier_verdict, 
 use Rattle.buslog.proofs.Judging.{other_length, right_sum, other_sum, diagnostic, listed, unlisted, no_bytes, by_bytes}
 use Rattle.buslog.proofs.PairLaws.{Spells, spelled_read, read_spells, text_exactly}
 use Rattle.buslog.proofs.VerdictLaws.{found}
+use Rattle.std.specs.declared.result.Result.TheVariants as result
 
 -- "60 and 61 are known with length 8", classic; another identifier where the table has a frame with it, with that frame's length and checksum
 pub data Known (t : List ℕ) (id : ℕ) (n : ℕ) (wish : Model) : Type 0 where
@@ -227,16 +226,16 @@ module _ (t : List ℕ) (right : RightTable t) (line : List ℕ) where
 
 -- the judge gives the verdict under a table that is taken, and otherwise the table's refusal
 module _ (t line : List ℕ) where
-  pub judge_given : (v : Verdict) → (judge_of t line ≡ answer.Line v) ↔ ((taken_of t ≡ table.Accepted) × (line_verdict t line ≡ v))
+  pub judge_given : (v : Verdict) → (judge_of t line ≡ result.Ok v) ↔ ((taken_of t ≡ result.Ok tt) × (line_verdict t line ≡ v))
   unfolding judge_of answered
   judge_given v = ((λ e. by (taken_of t) refl e), (λ h. rw (h.0, ← h.1))) where
-    by : (c : checked.Verdict) → taken_of t ≡ c → answered c (line_verdict t line) ≡ answer.Line v → (taken_of t ≡ table.Accepted) × (line_verdict t line ≡ v)
-    by table.Accepted q e = (q, cc)
-    by (table.Refused r) q e = let z : ◌≡◌ {A = ℕ} 0 1 = cc in absurd (omega arith)
+    by : (c : checked.Verdict) → taken_of t ≡ c → answered c (line_verdict t line) ≡ result.Ok v → (taken_of t ≡ result.Ok tt) × (line_verdict t line ≡ v)
+    by (result.Ok tt) q e = (q, cc)
+    by (result.Err r) q e = let z : ◌≡◌ {A = ℕ} 0 1 = cc in absurd (omega arith)
 
-  pub judge_refused_exactly : (r : Refusal) → (judge_of t line ≡ answer.Refused r) ↔ (taken_of t ≡ table.Refused r)
+  pub judge_refused_exactly : (r : Refusal) → (judge_of t line ≡ result.Err r) ↔ (taken_of t ≡ result.Err r)
   unfolding judge_of answered
   judge_refused_exactly r = ((λ e. by (taken_of t) refl e), (λ h. rw h)) where
-    by : (c : checked.Verdict) → taken_of t ≡ c → answered c (line_verdict t line) ≡ answer.Refused r → taken_of t ≡ table.Refused r
-    by table.Accepted q e = let z : ◌≡◌ {A = ℕ} 0 1 = cc in absurd (omega arith)
-    by (table.Refused s) q e = cc
+    by : (c : checked.Verdict) → taken_of t ≡ c → answered c (line_verdict t line) ≡ result.Err r → taken_of t ≡ result.Err r
+    by (result.Ok tt) q e = let z : ◌≡◌ {A = ℕ} 0 1 = cc in absurd (omega arith)
+    by (result.Err s) q e = cc

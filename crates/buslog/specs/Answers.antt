@@ -3,10 +3,11 @@ use Rattle.std.specs.Prelude.{ℕ, List, [], ◌∷◌}
 use Rattle.refusal.specs.Answers.{Told, gives, refuses}
 use Rattle.buslog.specs.declared.judge.Verdict.{Verdict}
 use Rattle.buslog.specs.declared.judge.Verdict.TheVariants.{Text, Parity, Unknown, Length, Checksum, Ok}
-use Rattle.buslog.specs.declared.judge.Judged.{Judged}
-use Rattle.buslog.specs.declared.judge.Judged.TheVariants as judged
-use Rattle.buslog.specs.declared.report.Answer.{Answer}
-use Rattle.buslog.specs.declared.report.Answer.TheVariants as report
+use Rattle.buslog.specs.Verdict.{Judged}
+use Rattle.std.specs.Prelude.{Result}
+use Rattle.refusal.specs.declared.Refusal.{Refusal}
+use Rattle.buslog.specs.declared.report.Written.{Written}
+use Rattle.std.specs.declared.result.Result.TheVariants as result
 
 -- the value of a verdict: the identifier, where there is one
 abbrev pub verdict_values : Verdict → List ℕ
@@ -19,10 +20,10 @@ verdict_values (Ok id) = id ∷ []
 
 -- what the judge's answer tells
 abbrev pub judged_told : Judged → Told
-judged_told (judged.Line v) = gives (verdict_values v)
-judged_told (judged.Refused r) = refuses r
+judged_told (result.Ok v) = gives (verdict_values v)
+judged_told (result.Err r) = refuses r
 
 -- what the report's answer tells; the numbers of lines and characters stand beside it
-abbrev pub report_told : Answer → Told
-report_told report.Reported = gives []
-report_told (report.Refused r) = refuses r
+abbrev pub report_told : Result Written Refusal → Told
+report_told (result.Ok w) = gives []
+report_told (result.Err r) = refuses r

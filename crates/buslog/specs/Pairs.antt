@@ -1,5 +1,5 @@
 -- Document 01, "The log program": the bytes of a line, "as upper-case hexadecimal pairs with one space between, 1 to 10 pairs".
-use Rattle.std.specs.Prelude.{ℕ, ◌+◌, ◌-◌, ◌*◌, ◌/◌, ◌%◌, Bool, false, cond, ◌&&◌, List, [], ◌∷◌, ◌++◌, length, ◌==◌, nat_le, nat_lt}
+use Rattle.std.specs.Prelude.{ℕ, ◌+◌, ◌-◌, ◌*◌, ◌/◌, ◌%◌, Bool, false, cond, Option, Some, None, ◌&&◌, List, [], ◌∷◌, ◌++◌, length, ◌==◌, nat_le, nat_lt}
 
 -- the value of an upper-case hexadecimal digit, `0` to `9` and `A` to `F`, and 16 for any other character
 unfoldable pub digit_of : ℕ → ℕ
@@ -12,6 +12,10 @@ is_pair h l = nat_lt (digit_of h) 16 && nat_lt (digit_of l) 16
 -- the byte of a pair
 unfoldable pub pair_byte : ℕ → ℕ → ℕ
 pair_byte h l = 16 * digit_of h + digit_of l
+
+-- the byte that two characters are the pair of, if they are one
+unfoldable pub byte_of : ℕ → ℕ → Option ℕ
+byte_of h l = cond (is_pair h l) (Some (pair_byte h l)) None
 
 -- one or more pairs with one space between
 unfoldable pub are_pairs : List ℕ → Bool

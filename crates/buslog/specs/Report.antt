@@ -1,13 +1,13 @@
 -- Document 01, "The log program": the report of a log, as a whole and in parts.
 use Rattle.std.specs.Prelude.{◌≡◌, ℕ, suc, ◌+◌, ◌-◌, cond, List, [], ◌∷◌, ◌++◌, length, take, drop, nat_le}
-use Rattle.cluster.specs.declared.Verdict as checked
-use Rattle.cluster.specs.declared.Verdict.TheVariants as table
+use Rattle.cluster.specs.Check as checked
 use Rattle.cluster.specs.Check.{taken_of}
-use Rattle.buslog.specs.declared.report.Answer.TheVariants.{Reported, Refused}
 use Rattle.buslog.specs.declared.report.Written.{Written}
 use Rattle.buslog.specs.Verdict.{line_verdict}
 use Rattle.buslog.specs.Row.{row_of, longest_row, header}
 use Rattle.buslog.specs.Lines.{whole_lines, last_line, log_lines}
+use Rattle.refusal.specs.declared.Refusal.{Refusal}
+use Rattle.std.specs.Prelude.{Result, Ok, Err}
 
 -- the rows of some lines, numbered from n on
 unfoldable pub rows_of : List ℕ → ℕ → List (List ℕ) → List ℕ
@@ -41,8 +41,8 @@ unfoldable pub characters_of : List (List ℕ) → ℕ
 characters_of [] = 0
 characters_of (l ∷ ls) = length l + 1 + characters_of ls
 
--- some characters at the front of a buffer, and behind them what was there
-unfoldable pub fronted : List ℕ → List ℕ → List ℕ
+-- some characters, or other things, at the front of a buffer, and behind them what was there
+unfoldable pub fronted : {A : Type 0} → List A → List A → List A
 fronted cs buffer = cs ++ drop (length cs) buffer
 
 -- some characters were put at the front of a buffer, and their number is told
@@ -52,28 +52,28 @@ pub record Fronts (cs before : List ℕ) (r : ℕ) (after : List ℕ) : Type 0 w
 
 -- what is answered, and what stands at the front of the buffer
 pub record Outcome : Type 0 where
-  pub report : Written
+  pub report : Result Written Refusal
   pub rows : List ℕ
 
 -- how far some lines were reported
 unfoldable pub reporting : List ℕ → ℕ → List (List ℕ) → Outcome
 reporting t n ls =
     record {
-      report = record { answer = Reported; lines = length ls; used = characters_of ls; put = length (rows_of t n ls) };
+      report = Ok (record { lines = length ls; used = characters_of ls; put = length (rows_of t n ls) });
       rows = rows_of t n ls;
     }
 
 -- refusal 1 with the position, or the whole lines of the text as far as there is room, numbered from n on
 unfoldable pub reported_by : checked.Verdict → List ℕ → ℕ → ℕ → List ℕ → Outcome
-reported_by table.Accepted t n room text = reporting t n (reported_lines t n room text)
-reported_by (table.Refused r) t n room text =
-    record { report = record { answer = Refused r; lines = 0; used = 0; put = 0 }; rows = [] }
+reported_by (Ok tt) t n room text = reporting t n (reported_lines t n room text)
+reported_by (Err r) t n room text =
+    record { report = Err r; rows = [] }
 
 unfoldable pub reported : List ℕ → ℕ → ℕ → List ℕ → Outcome
 reported t n room text = reported_by (taken_of t) t n room text
 
 -- what the call hands back, and what it leaves in the buffer
-pub record Leaves (o : Outcome) (before : List ℕ) (r : Written) (after : List ℕ) : Type 0 where
+pub record Leaves (o : Outcome) (before : List ℕ) (r : Result Written Refusal) (after : List ℕ) : Type 0 where
   pub handed : r ≡ o.report
   pub left : after ≡ fronted o.rows before
 

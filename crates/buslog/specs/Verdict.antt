@@ -4,16 +4,16 @@ use Rattle.wire.specs.Identifier.{right_parity}
 use Rattle.wire.specs.Checksum.{checksum_byte}
 use Rattle.wire.specs.declared.checksum.Model.{Model}
 use Rattle.wire.specs.declared.checksum.Model.TheVariants.{Classic}
-use Rattle.cluster.specs.declared.Verdict.TheVariants as table
-use Rattle.cluster.specs.declared.Verdict as checked
+use Rattle.cluster.specs.Check as checked
 use Rattle.cluster.specs.Check.{taken_of}
 use Rattle.cluster.specs.Lists.{first_from}
 use Rattle.cluster.specs.Table.{frame_count, identifier, frame_length, frame_model}
 use Rattle.buslog.specs.declared.judge.Verdict.{Verdict}
 use Rattle.buslog.specs.declared.judge.Verdict.TheVariants.{Text, Parity, Unknown, Length, Checksum, Ok}
-use Rattle.buslog.specs.declared.judge.Judged.{Judged}
-use Rattle.buslog.specs.declared.judge.Judged.TheVariants as answer
 use Rattle.buslog.specs.Pairs.{line_bytes}
+use Rattle.std.specs.Prelude.{Result}
+use Rattle.refusal.specs.declared.Refusal.{Refusal}
+use Rattle.std.specs.declared.result.Result.TheVariants as result
 
 -- the frame of a table with an identifier; the number of frames where there is none
 unfoldable pub frame_with : List ℕ → ℕ → ℕ
@@ -45,9 +45,12 @@ unfoldable pub line_verdict : List ℕ → List ℕ → Verdict
 line_verdict t line = bytes_verdict t (line_bytes line)
 
 -- what the judge answers: refusal 1 with the position, or the verdict
+abbrev pub Judged : Type 0
+Judged = Result Verdict Refusal
+
 unfoldable pub answered : checked.Verdict → Verdict → Judged
-answered table.Accepted v = answer.Line v
-answered (table.Refused r) v = answer.Refused r
+answered (result.Ok tt) v = result.Ok v
+answered (result.Err r) v = result.Err r
 
 unfoldable pub judge_of : List ℕ → List ℕ → Judged
 judge_of t line = answered (taken_of t) (line_verdict t line)

@@ -1,5 +1,6 @@
 // The verdict on a line.
-ghost use Rattle.std.specs.Prelude.{◌≡◌, ◌≤◌, length};
+ghost use Rattle.cluster.specs.Table.{frame_count};
+ghost use Rattle.std.specs.Prelude.{SomeIff, ◌<◌, ◌≡◌, ◌≤◌, length};
 ghost use Rattle.refusal.specs.Answers.{gives};
 ghost use Rattle.cluster.specs.Check.{RightTable, taken_of};
 ghost use Rattle.cluster.specs.Answers.{behind_table};
@@ -10,7 +11,7 @@ use crate::pairs;
 use cluster::frames;
 use refusal::Refusal;
 use wire::checksum::Model;
-use wire::{Answer, checksum, identifier};
+use wire::{checksum, identifier};
 
 // The verdicts in the order in which they apply, with the identifier where there is one.
 #[derive(Clone, Copy)]
@@ -23,22 +24,13 @@ pub enum Verdict {
     Ok(u8),
 }
 
-// What the judge answers: the verdict, or refusal 1 for the table.
-#[derive(Clone, Copy)]
-pub enum Judged {
-    Line(Verdict),
-    Refused(Refusal),
-}
-
 // Judges a line, without its newline, under a table.
-pub fn judge(t: &[u16], line: &[u8]) -> Judged
+pub fn judge(t: &[u16], line: &[u8]) -> Result<Verdict, Refusal>
     ensures value { result ≡ judge_of t.now line.now }
     ensures told { judged_told result ≡ behind_table (taken_of t.now) (gives (verdict_values (line_verdict t.now line.now))) }
 {
-    match cluster::taken(t) {
-        cluster::Verdict::Refused(refusal) => Judged::Refused(refusal),
-        cluster::Verdict::Accepted => Judged::Line(of_line(t, line)),
-    }
+    cluster::taken(t)?;
+    Ok(of_line(t, line))
 }
 
 // The verdict on a line under an accepted table.
@@ -46,13 +38,10 @@ pub(crate) fn of_line(t: &[u16], line: &[u8]) -> Verdict
     requires { RightTable t.now }
     ensures { result ≡ line_verdict t.now line.now }
 {
-    let read = pairs::read(line);
-    let n = read.count;
-    let bytes = read.bytes;
-    if n == 0 {
+    let Some(read) = pairs::read(line) else {
         return Verdict::Text;
-    }
-    of_bytes(t, &bytes[..n])
+    };
+    of_bytes(t, &read.bytes[..read.count])
 }
 
 // The verdict on one byte or more: protected identifier, data, checksum.
@@ -61,8 +50,8 @@ fn of_bytes(t: &[u16], bytes: &[u8]) -> Verdict
     ensures { result ≡ bytes_verdict t.now bytes.now }
 {
     match identifier::read(bytes[0]) {
-        Answer::Refused(_) => Verdict::Parity,
-        Answer::Byte(id) => of_identifier(t, id, &bytes[1..]),
+        Err(_) => Verdict::Parity,
+        Ok(id) => of_identifier(t, id, &bytes[1..]),
     }
 }
 
@@ -74,11 +63,10 @@ fn of_identifier(t: &[u16], id: u8, rest: &[u8]) -> Verdict
     if id == 60 || id == 61 {
         return of_known(id, 8, Model::Classic, rest);
     }
-    let f = frame_with(t, id);
-    if f < frames::count(t) {
-        return of_known(id, frames::length(t, f), frames::model(t, f), rest);
+    match frame_with(t, id) {
+        Some(f) => of_known(id, frames::length(t, f), frames::model(t, f), rest),
+        None => Verdict::Unknown(id),
     }
-    Verdict::Unknown(id)
 }
 
 // The verdict on the data and the checksum of a known identifier.
@@ -91,27 +79,19 @@ fn of_known(id: u8, length: u16, wish: Model, rest: &[u8]) -> Verdict
         return Verdict::Length(id);
     }
     match checksum::of(id, wish, &rest[..n]) {
-        Answer::Byte(sum) => {
-            if rest[n] == sum {
-                return Verdict::Ok(id);
-            }
-            Verdict::Checksum(id)
-        }
-        Answer::Refused(_) => Verdict::Checksum(id),
+        Ok(sum) if rest[n] == sum => Verdict::Ok(id),
+        _ => Verdict::Checksum(id),
     }
 }
 
-// The frame with an identifier; the number of frames where there is none.
-fn frame_with(t: &[u16], id: u8) -> u16
-    ensures { result ≡ frame_with t.now id }
+// The frame with an identifier.
+fn frame_with(t: &[u16], id: u8) -> Option<u16>
+    ensures { SomeIff result (frame_with t.now id < frame_count t.now) (frame_with t.now id) }
 {
-    let n = frames::count(t);
-    let mut f: u16 = 0;
-    while f < n {
+    for f in 0..frames::count(t) {
         if frames::identifier(t, f) == id as u16 {
-            return f;
+            return Some(f);
         }
-        f += 1;
     }
-    f
+    None
 }

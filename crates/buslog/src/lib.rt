@@ -3,6 +3,6 @@
 #![tactic(auto)]
 
 pub mod judge;
-mod pairs;
+pub mod pairs;
 pub mod report;
-mod row;
+pub mod row;

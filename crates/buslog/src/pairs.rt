@@ -1,81 +1,69 @@
-// The bytes of a line: upper-case hexadecimal pairs with one space between.
-ghost use Rattle.std.specs.Prelude.{◌≡◌, ◌+◌, ◌<◌, length};
-ghost use Rattle.buslog.specs.Pairs.{digit_of};
-ghost use Rattle.buslog.specs.Parts.{Reads, pair_at};
+// Bytes as upper-case hexadecimal pairs, and the bytes of a line: pairs with one space between.
+ghost use Rattle.std.specs.Prelude.{◌≡◌, ◌<◌, SomeIff};
+ghost use Rattle.buslog.specs.Pairs.{digit_of, byte_of, digit_character, pair_of};
+ghost use Rattle.buslog.specs.Parts.{Reads};
 
-// The bytes at the front, and how many; none where the line is text.
+// The bytes of a line, one at least, at the front, and how many.
+// Kept: fixed memory; a Vec needs the heap.
 #[derive(Clone, Copy)]
 pub(crate) struct Pairs {
     pub(crate) count: usize,
     pub(crate) bytes: [u8; 10],
 }
 
-// Reads a line.
-pub(crate) fn read(line: &[u8]) -> Pairs
+// Reads a line; none where it is text.
+pub(crate) fn read(line: &[u8]) -> Option<Pairs>
     ensures { Reads line.now result }
 {
-    if 29 < line.len() {
-        return text();
+    if 29 < line.len() || line.len() % 3 != 2 {
+        return None;
     }
-    let mut bytes = [255u8; 10];
-    let mut count: usize = 0;
-    let mut at: usize = 0;
-    while at + 1 < line.len() {
-        let byte = pair(line, at);
-        if 255 < byte {
-            return text();
+    let mut bytes = [255; 10];
+    let mut count = 0;
+    for part in line.chunks(3) {
+        match part {
+            [high, low] | [high, low, b' '] => bytes[count] = byte(*high, *low)?,
+            _ => return None,
         }
-        bytes[count] = byte as u8;
         count += 1;
-        if at + 2 == line.len() {
-            return Pairs { count, bytes };
-        }
-        if line[at + 2] != 32 {
-            return text();
-        }
-        at += 3;
     }
-    text()
+    Some(Pairs { count, bytes })
 }
 
-// No bytes.
-fn text() -> Pairs
-    ensures { result.count ≡ 0 }
+// The byte that two characters are the pair of, if they are one.
+pub fn byte(high: u8, low: u8) -> Option<u8>
+    ensures { result ≡ byte_of high low }
 {
-    Pairs {
-        count: 0,
-        bytes: [255; 10],
+    let high = digit(high)?;
+    let low = digit(low)?;
+    Some(16 * high + low)
+}
+
+// The value of an upper-case hexadecimal digit.
+pub fn digit(c: u8) -> Option<u8>
+    ensures { SomeIff result (digit_of c < 16) (digit_of c) }
+{
+    match c {
+        b'0'..=b'9' => Some(c - b'0'),
+        b'A'..=b'F' => Some(c - b'A' + 10),
+        _ => None,
     }
 }
 
-// The byte of the pair at a place, and 256 where there is no pair.
-fn pair(line: &[u8], at: usize) -> u16
-    requires { at + 1 < length line.now }
-    ensures { result ≡ pair_at line.now at }
+// The pair of a byte.
+pub fn pair(byte: u8) -> [u8; 2]
+    ensures { result ≡ pair_of byte }
 {
-    let high = digit(line[at]);
-    let low = digit(line[at + 1]);
-    if 15 < high {
-        return 256;
-    }
-    if 15 < low {
-        return 256;
-    }
-    (16 * high + low) as u16
+    [character(byte / 16), character(byte % 16)]
 }
 
-// The value of an upper-case hexadecimal digit, and 16 for any other character.
-fn digit(c: u8) -> u8
-    ensures { result ≡ digit_of c }
+// The character of a hexadecimal digit.
+fn character(digit: u8) -> u8
+    requires { digit < 16 }
+    ensures { result ≡ digit_character digit }
 {
-    if c < 48 {
-        return 16;
+    match digit {
+        0..=9 => b'0' + digit,
+        _ => b'A' - 10 + digit,
     }
-    if c <= 57 {
-        return c - 48;
-    }
-    if c < 65 {
-        return 16;
-    }
-    if c <= 70 { c - 55 } else { 16 }
 }

@@ -1,5 +1,5 @@
 // The report of a log, a part at a time.
-ghost use Rattle.std.specs.Prelude.{◌≡◌, ◌-◌, min, [], length};
+ghost use Rattle.std.specs.Prelude.{◌≡◌, Ok, ◌-◌, min, [], length};
 ghost use Rattle.refusal.specs.Answers.{gives};
 ghost use Rattle.cluster.specs.Check.{RightTable, taken_of};
 ghost use Rattle.cluster.specs.Answers.{behind_table};
@@ -9,46 +9,30 @@ ghost use Rattle.buslog.specs.Parts.{so_far};
 
 use crate::judge::of_line;
 use crate::row;
-use cluster::Verdict;
 use refusal::Refusal;
 
-// What the report of some text answers.
-#[derive(Clone, Copy)]
-pub enum Answer {
-    Reported,
-    Refused(Refusal),
-}
-
-// The answer, how many lines were reported, how many characters of the text they have, and how many their rows have.
+// How many lines were reported, how many characters of the text they have, and how many their rows have.
 #[derive(Clone, Copy)]
 pub struct Written {
-    pub answer: Answer,
     pub lines: usize,
     pub used: usize,
     pub put: usize,
 }
 
 // Reports the whole lines of a text, numbered from a number on, as long as there is room for their rows.
-pub fn write(t: &[u16], number: u64, text: &[u8], out: &mut [u8]) -> Written
+pub fn write(t: &[u16], number: u64, text: &[u8], out: &mut [u8]) -> Result<Written, Refusal>
     ensures leaves { Leaves (reported t.now number (length out.old) text.now) out.old result out.new }
-    ensures told { report_told result.answer ≡ behind_table (taken_of t.now) (gives []) }
+    ensures told { report_told result ≡ behind_table (taken_of t.now) (gives []) }
 {
-    match cluster::taken(t) {
-        Verdict::Refused(refusal) => Written {
-            answer: Answer::Refused(refusal),
-            lines: 0,
-            used: 0,
-            put: 0,
-        },
-        Verdict::Accepted => rows(t, number, text, out),
-    }
+    cluster::taken(t)?;
+    Ok(rows(t, number, text, out))
 }
 
 // Reports under an accepted table.
 fn rows(t: &[u16], number: u64, text: &[u8], out: &mut [u8]) -> Written
     requires { RightTable t.now }
     ensures { Leaves (reporting t.now number (reported_lines t.now number (length out.old) text.now))
-        out.old result out.new }
+        out.old (Ok result) out.new }
 {
     let mut lines: usize = 0;
     let mut used: usize = 0;
@@ -71,12 +55,7 @@ fn rows(t: &[u16], number: u64, text: &[u8], out: &mut [u8]) -> Written
 fn reported_so_far(lines: usize, used: usize, put: usize) -> Written
     ensures { result ≡ so_far lines used put }
 {
-    Written {
-        answer: Answer::Reported,
-        lines,
-        used,
-        put,
-    }
+    Written { lines, used, put }
 }
 
 // Moves what stands from a place on to the front of the text, cut to the length that shows a text, and tells how much that is.

@@ -1,11 +1,12 @@
 // One row of a report: the number of the line, the identifier and the verdict.
-ghost use Rattle.std.specs.Prelude.{◌≡◌, ◌+◌, ◌<◌, ◌≤◌, ◌∷◌, ◌++◌, length};
+ghost use Rattle.std.specs.Prelude.{◌≡◌, ◌+◌, ◌≤◌, ◌∷◌, ◌++◌, length};
 ghost use Rattle.buslog.specs.Row.{row_of, decimal_of, longest_row};
-ghost use Rattle.buslog.specs.Pairs.{digit_character, pair_of};
+ghost use Rattle.buslog.specs.Pairs.{pair_of};
 ghost use Rattle.buslog.specs.Report.{Fronts};
 ghost use Rattle.buslog.specs.Parts.{verdict_text};
 
 use crate::judge::Verdict;
+use crate::pairs::pair;
 
 // Puts a row at the front of a buffer and tells its length.
 pub(crate) fn put(out: &mut [u8], number: u64, verdict: Verdict) -> usize
@@ -21,16 +22,24 @@ fn put_decimal(out: &mut [u8], number: u64) -> usize
     requires { 20 ≤ length out.old }
     ensures { Fronts (decimal_of number) out.old result out.new × (result ≤ 20) }
 {
-    let mut digits = [48u8; 20];
-    let mut at: usize = 19;
-    digits[19] = (48 + number % 10) as u8;
+    let mut digits = [0; 20];
+    scan::copy(decimal(number, &mut digits), out)
+}
+
+// The decimal digits of a number, put at the end of a buffer.
+pub fn decimal(number: u64, digits: &mut [u8; 20]) -> &[u8]
+    ensures { result.now ≡ decimal_of number }
+{
+    let mut first: usize = 19;
+    digits[19] = b'0' + (number % 10) as u8;
     let mut rest = number / 10;
+    // Kept: what is left of the number ends the loop, and not a place; a `for` over the places would need a break.
     while 0 < rest {
-        at -= 1;
-        digits[at] = (48 + rest % 10) as u8;
+        first -= 1;
+        digits[first] = b'0' + (rest % 10) as u8;
         rest = rest / 10;
     }
-    scan::copy(&digits[at..], out)
+    &digits[first..]
 }
 
 // Puts a space, the identifier, a space, the verdict's word and a newline.
@@ -53,15 +62,7 @@ fn put_identified(out: &mut [u8], id: u8, text: &[u8]) -> usize
     requires { 3 + length text.now ≤ length out.old }
     ensures { Fronts (32 ∷ pair_of id ++ text.now) out.old result out.new }
 {
-    let pair = [32, digit(id / 16), digit(id % 16)];
-    scan::copy(&pair, out);
+    let [high, low] = pair(id);
+    scan::copy(&[b' ', high, low], out);
     3 + scan::copy(text, &mut out[3..])
-}
-
-// The character of a hexadecimal digit.
-fn digit(d: u8) -> u8
-    requires { d < 16 }
-    ensures { result ≡ digit_character d }
-{
-    if d < 10 { 48 + d } else { 55 + d }
 }

@@ -16,8 +16,8 @@ use Rattle.cluster.specs.Right.{front_right, back_right, words_right}
 use Rattle.cluster.specs.Columns.{header_columns, frame_columns, signal_columns, placement_columns, member_columns, entry_columns}
 use Rattle.cluster.specs.Table.{frame_count, signal_count, placement_count, member_count, entry_count, placement_at, size}
 use Rattle.cluster.specs.Table.{frame_words, signal_words, placement_words, member_words, entry_words}
-use Rattle.cluster.specs.declared.Verdict.{Verdict}
-use Rattle.cluster.specs.declared.Verdict.TheVariants.{Accepted, Refused}
+use Rattle.std.specs.Prelude.{Ok, Err}
+use Rattle.cluster.specs.Check.{Verdict}
 
 -- each of the tests holds
 abbrev pub AllTrue : List Bool → Type 0
@@ -53,34 +53,34 @@ module _ (right : ℕ → List Bool) where
       ∙ omega (arith, each k, length_records c each (suc k) n)
 
 module _ (t : List ℕ) where
-  there : (i : ℕ) (b : Bool) (bs : List Bool) → faults t i (b ∷ bs) ≡ Accepted → (ltb i (length t) && b) ≡ true
+  there : (i : ℕ) (b : Bool) (bs : List Bool) → faults t i (b ∷ bs) ≡ Ok tt → (ltb i (length t) && b) ≡ true
   unfolding faults
   there i b bs h = whether (ltb i (length t) && b) (λ e. e) (λ e. let w = rw e at h in cc)
 
-  further : (i : ℕ) (b : Bool) (bs : List Bool) → faults t i (b ∷ bs) ≡ Accepted → faults t (suc i) bs ≡ Accepted
+  further : (i : ℕ) (b : Bool) (bs : List Bool) → faults t i (b ∷ bs) ≡ Ok tt → faults t (suc i) bs ≡ Ok tt
   unfolding faults
   further i b bs h = let e = there i b bs h in rw e at h
 
-  pub faults_true : (i : ℕ) (bs : List Bool) → faults t i bs ≡ Accepted → AllTrue bs
+  pub faults_true : (i : ℕ) (bs : List Bool) → faults t i bs ≡ Ok tt → AllTrue bs
   faults_true i [] h = tt
   faults_true i (b ∷ bs) h = (and_right (ltb i (length t)) b (there i b bs h), faults_true (suc i) bs (further i b bs h))
 
-  pub faults_length : (i : ℕ) (bs : List Bool) → faults t i bs ≡ Accepted → i ≤ length t → i + length bs ≤ length t
+  pub faults_length : (i : ℕ) (bs : List Bool) → faults t i bs ≡ Ok tt → i ≤ length t → i + length bs ≤ length t
   faults_length i [] h a = omega arith
   faults_length i (b ∷ bs) h a =
       let l = ltb-true i (length t) (and_left (ltb i (length t)) b (there i b bs h)) in
       omega (arith, faults_length (suc i) bs (further i b bs h) l)
 
 -- a verdict with a later one behind it accepts: both do
-pub then_first : (v w : Verdict) → then v w ≡ Accepted → v ≡ Accepted
-then_first Accepted w h = refl
-then_first (Refused r) w h = h
+pub then_first : (v w : Verdict) → then v w ≡ Ok tt → v ≡ Ok tt
+then_first (Ok tt) w h = refl
+then_first (Err r) w h = h
 
-pub then_second : (v w : Verdict) → then v w ≡ Accepted → w ≡ Accepted
-then_second Accepted w h = h
-then_second (Refused r) w h = cc
+pub then_second : (v w : Verdict) → then v w ≡ Ok tt → w ≡ Ok tt
+then_second (Ok tt) w h = h
+then_second (Err r) w h = cc
 
-not_surplus : (t : List ℕ) → surplus t ≡ Accepted → length t ≤ size t
+not_surplus : (t : List ℕ) → surplus t ≡ Ok tt → length t ≤ size t
 unfolding surplus
 not_surplus t h =
     whether (ltb (size t) (length t))
@@ -124,7 +124,7 @@ unfolding size
 words t h = rw (placed_words t h, length-append) (omega (arith, front_words t, back_words t))
 
 -- words of which none is wrong: each signal has a placement
-pub none_missing : (t : List ℕ) → faults t 0 (words_right t) ≡ Accepted → all_placed t ≡ true
+pub none_missing : (t : List ℕ) → faults t 0 (words_right t) ≡ Ok tt → all_placed t ≡ true
 none_missing t a =
     whether (all_placed t)
     (λ h. h)
@@ -134,11 +134,11 @@ none_missing t a =
     let z : ◌≡◌ {A = ℕ} 0 1 = cc in absurd (omega arith))
 
 module _ (t : List ℕ) (ok : RightTable t) where
-  accepted : faults t 0 (words_right t) ≡ Accepted
+  accepted : faults t 0 (words_right t) ≡ Ok tt
   unfolding judged
   accepted = then_first (faults t 0 (words_right t)) (surplus t) ok
 
-  fits : surplus t ≡ Accepted
+  fits : surplus t ≡ Ok tt
   unfolding judged
   fits = then_second (faults t 0 (words_right t)) (surplus t) ok
 

@@ -10,17 +10,17 @@ use lib.ListN.{length}
 use native.Mathlib.Nat.{zero-add}
 use Rattle.wire.proofs.Tests.{whether}
 use Rattle.signal.proofs.Inside.{order}
-use Rattle.cluster.specs.declared.Verdict.{Verdict}
-use Rattle.cluster.specs.declared.Verdict.TheVariants.{Accepted}
 use Rattle.cluster.specs.Table.{size}
 use Rattle.cluster.specs.Right.{words_right}
 use Rattle.cluster.specs.Check.{fault, faults, surplus, judged, taken_of}
 use Rattle.cluster.specs.Answers.{verdict_told, right_from, right_words, check_told}
 use Rattle.cluster.proofs.Accepted.{words, faults_length, none_missing}
+use Rattle.std.specs.Prelude.{Ok}
+use Rattle.cluster.specs.Check.{Verdict}
 
 -- the first fault of some words stands behind those that are right
 faults_right : (t : List ℕ) (i : ℕ) (rights : List Bool)
-    → faults t i rights ≡ cond (eqb (right_from t i rights) (length rights)) Accepted (fault (i + right_from t i rights))
+    → faults t i rights ≡ cond (eqb (right_from t i rights) (length rights)) (Ok tt) (fault (i + right_from t i rights))
 unfolding faults right_from
 faults_right t i [] = refl
 faults_right t i (right ∷ rest) =
@@ -28,7 +28,7 @@ faults_right t i (right ∷ rest) =
     (λ y. rw y (faults_right t (suc i) rest ∙ later (right_from t (suc i) rest)))
     (λ n. let z : i + 0 ≡ i = omega arith in rw (n, z, ne_eqb 0 (suc (length rest)) (λ e. omega arith)))
   where
-    later : (k : ℕ) → cond (eqb k (length rest)) Accepted (fault (suc i + k)) ≡ cond (eqb (suc k) (suc (length rest))) Accepted (fault (i + suc k))
+    later : (k : ℕ) → cond (eqb k (length rest)) (Ok tt) (fault (suc i + k)) ≡ cond (eqb (suc k) (suc (length rest))) (Ok tt) (fault (i + suc k))
     later k =
         let e : suc i + k ≡ i + suc k = omega arith in
         whether (eqb k (length rest))
@@ -40,10 +40,10 @@ unfolding judged surplus check_told right_words
 judged_told_lem t =
     let rights = words_right t in
     let k = right_from t 0 rights in
-    let f : faults t 0 rights ≡ cond (eqb k (length rights)) Accepted (fault k) = faults_right t 0 rights ∙ rw zero-add in
+    let f : faults t 0 rights ≡ cond (eqb k (length rights)) (Ok tt) (fault k) = faults_right t 0 rights ∙ rw zero-add in
     whether (eqb k (length rights))
     (λ y.
-    let a : faults t 0 rights ≡ Accepted = f ∙ rw y in
+    let a : faults t 0 rights ≡ (Ok tt) = f ∙ rw y in
     let all : length rights ≡ size t = words t (none_missing t a) in
     let e : k ≡ size t = eqb-true k (length rights) y ∙ all in
     let l : size t ≤ length t = omega (arith, faults_length t 0 rights a (omega arith), all) in

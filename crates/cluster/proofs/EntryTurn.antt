@@ -14,11 +14,11 @@ use Rattle.cluster.specs.Read.{EntryRead, due, leading}
 use Rattle.cluster.specs.Right.{entry_right, records}
 use Rattle.cluster.specs.Table.{most_frames, most_entries, counted, frame_count, list_count, entry_count, entry_words, entry_at}
 use Rattle.cluster.specs.Table.{entry_schedule, entry_kind, entry_target, entry_delay}
-use Rattle.cluster.specs.declared.Verdict.TheVariants.{Accepted}
 use Rattle.cluster.specs.declared.entries.Words.{Words}
 use Rattle.cluster.proofs.Clauses.{within_high}
 use Rattle.cluster.proofs.Counting.{counted_none, counted_next, follows_high}
 use Rattle.cluster.proofs.Scan.{Agrees, cut_short, leading_all, all_there, halt_record, next_record, no_record}
+use Rattle.std.specs.Prelude.{Ok}
 
 -- a target is below what its kind allows
 target_below : (frames lists kind target : ℕ) → frames ≤ 60 → lists ≤ 65536 → target_right frames lists kind target ≡ true → target < 65536
@@ -48,7 +48,7 @@ Turn t e schedules =
 pub none_passed : (t : List ℕ) → Passed t 0 0
 none_passed t = (omega arith, sym (counted_none (entry_schedule t) 0 refl), omega arith, rw sub-zero)
 
-pub all_passed : (t : List ℕ) (e schedules : ℕ) → Passed t e schedules → entry_count t ≤ e → Accepted ≡ entry_faults t
+pub all_passed : (t : List ℕ) (e schedules : ℕ) → Passed t e schedules → entry_count t ≤ e → Ok tt ≡ entry_faults t
 all_passed t e schedules p h = sym (p.3 ∙ no_record t (entry_at t e) (entry_right t) e (entry_count t) h)
 
 module _ (t : List ℕ) (e schedules : ℕ) where

@@ -1,25 +1,15 @@
 -- The frame buffer as it is filled, byte by byte and placement by placement.
-use Prim.Native.Nat.{ℕ, zero, suc, ◌+◌, ◌%◌, ◌<◌, ◌≤◌}
+use Prim.Native.Nat.{ℕ, zero, suc, ◌+◌, ◌%◌, ◌≤◌}
 use mathlib.Core.Path.{◌≡◌, refl, sym, ◌∙◌, ap}
 use mathlib.Core.Bool.{Bool, true, false}
-use mathlib.Core.List.{List, ◌∷◌, ◌++◌, append-nil}
+use mathlib.Core.List.{List, ◌∷◌}
 use native.Mathlib.Numerals.{add-one}
 use native.Mathlib.Omega.{arith}
-use borrow.Author.Fill.{fill_more}
-use lib.ListN.{length, set, take, drop, replicate, length-replicate, drop_of_length-le}
+use lib.ListN.{length, take, replicate, length-replicate}
 use Rattle.signal.specs.Signal.{put_scalar, put_array}
 use Rattle.cluster.specs.Table.{signal_width, signal_start, is_array, placement_count}
 use Rattle.cluster.specs.Fresh.{array_length, start_at, put_start, filled}
 use Rattle.cluster.proofs.Starts.{filled_length}
-
--- one more byte set
-pub fill_turn : (i v : ℕ) (old bytes : List ℕ) → i < length old → bytes ≡ replicate i v ++ drop i old
-    → set bytes i v ≡ replicate (i + 1) v ++ drop (i + 1) old
-fill_turn i v old bytes h e = rw e (fill_more i v old h)
-
--- every byte set
-pub fill_all : (i v : ℕ) (old bytes : List ℕ) → i ≡ length old → bytes ≡ replicate i v ++ drop i old → bytes ≡ replicate (length old) v
-fill_all i v old bytes h e = e ∙ rw (h, drop_of_length-le old {i = length old} (omega arith)) (append-nil (replicate (length old) v))
 
 take_replicate : (n m x : ℕ) → n ≤ m → take n (replicate m x) ≡ replicate n x
 take_replicate zero m x h = refl

@@ -13,24 +13,24 @@ use Rattle.refusal.specs.Numbers.{table, refused_at}
 use Rattle.wire.proofs.Tests.{whether, and_left, and_right}
 use Rattle.signal.proofs.Inside.{order}
 use Rattle.cluster.specs.Check.{fault, faults, then, surplus, judged, RightTable}
-use Rattle.cluster.specs.declared.Verdict.{Verdict}
-use Rattle.cluster.specs.declared.Verdict.TheVariants.{Accepted, Refused}
 use Rattle.cluster.specs.Right.{all_placed, words_right}
 use Rattle.cluster.specs.Table.{size}
 use Rattle.cluster.proofs.Accepted.{words, faults_true, none_missing, then_first, AllTrue}
+use Rattle.std.specs.Prelude.{Ok, Err}
+use Rattle.cluster.specs.Check.{Verdict}
 
 all_true : (bs : List Bool) → AllTrue bs → (j : ℕ) → j < length bs → get_or bs j false ≡ true
 all_true [] a j h = absurd (omega arith)
 all_true (b ∷ bs) a zero h = a.0
 all_true (b ∷ bs) a (suc j) h = all_true bs a.1 j (omega arith)
 
-then_refused : (v w : Verdict) (r : Refusal) → then v w ≡ Refused r → (v ≡ Refused r) ⊎ ((v ≡ Accepted) × (w ≡ Refused r))
-then_refused Accepted w r h = inr (refl, h)
-then_refused (Refused x) w r h = inl h
+then_refused : (v w : Verdict) (r : Refusal) → then v w ≡ Err r → (v ≡ Err r) ⊎ ((v ≡ Ok tt) × (w ≡ Err r))
+then_refused (Ok tt) w r h = inr (refl, h)
+then_refused (Err x) w r h = inl h
 
-by_verdict : (v : Verdict) → ((r : Refusal) → v ≡ Refused r → ⊥) → v ≡ Accepted
-by_verdict Accepted h = refl
-by_verdict (Refused r) h = absurd (h r refl)
+by_verdict : (v : Verdict) → ((r : Refusal) → v ≡ Err r → ⊥) → v ≡ Ok tt
+by_verdict (Ok tt) h = refl
+by_verdict (Err r) h = absurd (h r refl)
 
 -- the words from position i on, of which k are there and right, and the next is missing or wrong
 pub record FirstOf (t : List ℕ) (i : ℕ) (rights : List Bool) (r : Refusal) : Type 0 where
@@ -42,7 +42,7 @@ pub record FirstOf (t : List ℕ) (i : ℕ) (rights : List Bool) (r : Refusal) :
 
 module _ (t : List ℕ) where
   -- the first of the words is missing or wrong
-  here : (i : ℕ) (right : Bool) (rights : List Bool) (r : Refusal) → i ≤ length t → fault i ≡ Refused r
+  here : (i : ℕ) (right : Bool) (rights : List Bool) (r : Refusal) → i ≤ length t → fault i ≡ Err r
       → (ltb i (length t) && right) ≡ false → FirstOf t i (right ∷ rights) r
   here i right rights r a e h = record {
     count = 0;
@@ -69,7 +69,7 @@ module _ (t : List ℕ) where
       earlier zero l = (omega arith, e)
       earlier (suc j) l = (omega (arith, (f.before j (omega arith)).0), (f.before j (omega arith)).1)
 
-  first_of : (i : ℕ) (rights : List Bool) (r : Refusal) → i ≤ length t → faults t i rights ≡ Refused r → FirstOf t i rights r
+  first_of : (i : ℕ) (rights : List Bool) (r : Refusal) → i ≤ length t → faults t i rights ≡ Err r → FirstOf t i rights r
   unfolding faults
   first_of i [] r a h = absurd (let z : ◌≡◌ {A = ℕ} 0 1 = cc in omega arith)
   first_of i (right ∷ rights) r a h =
@@ -112,12 +112,12 @@ module _ (t : List ℕ) where
       reached (suc k) h = h k (omega arith)
 
   -- a word is surplus
-  behind_words : (r : Refusal) → faults t 0 (words_right t) ≡ Accepted → surplus t ≡ Refused r → FirstFault r
+  behind_words : (r : Refusal) → faults t 0 (words_right t) ≡ Ok tt → surplus t ≡ Err r → FirstFault r
   unfolding surplus
   behind_words r a h =
       whether (ltb (size t) (length t))
       (λ e. let b : size t < length t = ltb-true (size t) (length t) e in
-      let s : fault (size t) ≡ Refused r = rw e at h in
+      let s : fault (size t) ≡ Err r = rw e at h in
       let p : r.place ≡ size t = cc in
       let placed = none_missing t a in
       let due : length (words_right t) ≡ size t = words t placed in
@@ -127,9 +127,9 @@ module _ (t : List ℕ) where
         fault = inr (inr (p, omega arith, placed));
         within = omega arith;
       })
-      (λ e. let s : Accepted ≡ Refused r = rw e at h in absurd (let z : ◌≡◌ {A = ℕ} 0 1 = cc in omega arith))
+      (λ e. let s : (Ok tt) ≡ Err r = rw e at h in absurd (let z : ◌≡◌ {A = ℕ} 0 1 = cc in omega arith))
 
-  pub first_fault : (r : Refusal) → judged t ≡ Refused r → FirstFault r
+  pub first_fault : (r : Refusal) → judged t ≡ Err r → FirstFault r
   unfolding judged
   first_fault r h =
       ⊎_elim

@@ -12,11 +12,11 @@ use Rattle.cluster.specs.Columns.{frame_columns}
 use Rattle.cluster.specs.Read.{FrameRead, due, leading, frame_seen}
 use Rattle.cluster.specs.Right.{frame_right, records}
 use Rattle.cluster.specs.Table.{identifiers, frame_count, frame_words, frame_at, word, identifier, frame_length, flags}
-use Rattle.cluster.specs.declared.Verdict.TheVariants.{Accepted}
 use Rattle.cluster.specs.declared.frames.Words.{Words}
 use Rattle.cluster.proofs.Clauses.{within_high, identifier_says}
 use Rattle.cluster.proofs.Scan.{Agrees, cut_short, leading_all, all_there, halt_record, next_record, no_record}
 use Rattle.cluster.proofs.UsedMarks.{Marks, unmarked, marked}
+use Rattle.std.specs.Prelude.{Ok}
 
 -- the frames before frame f are passed, and their identifiers marked
 abbrev pub Passed : List ℕ → ℕ → List Bool → Type 0
@@ -27,7 +27,7 @@ Passed t f used = (f ≤ frame_count t)
 pub none_passed : (t : List ℕ) → Passed t 0 (replicate identifiers false)
 none_passed t = (omega arith, unmarked identifiers (identifier t), rw sub-zero)
 
-pub all_passed : (t : List ℕ) (f : ℕ) (used : List Bool) → Passed t f used → frame_count t ≤ f → Accepted ≡ frame_faults t
+pub all_passed : (t : List ℕ) (f : ℕ) (used : List Bool) → Passed t f used → frame_count t ≤ f → Ok tt ≡ frame_faults t
 all_passed t f used p h = sym (p.2 ∙ no_record t (frame_at f) (frame_right t) f (frame_count t) h)
 
 module _ (t : List ℕ) (f : ℕ) (used : List Bool) where

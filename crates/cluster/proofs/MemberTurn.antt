@@ -11,12 +11,12 @@ use Rattle.cluster.specs.Columns.{member_columns}
 use Rattle.cluster.specs.Read.{MemberRead, due, leading, member_seen}
 use Rattle.cluster.specs.Right.{member_right, records}
 use Rattle.cluster.specs.Table.{most_frames, most_members, counted, published, frame_count, member_count, member_words, member_at, word, member_list, member_frame}
-use Rattle.cluster.specs.declared.Verdict.TheVariants.{Accepted}
 use Rattle.cluster.specs.declared.members.Words.{Words}
 use Rattle.cluster.proofs.Clauses.{member_says}
 use Rattle.cluster.proofs.Counting.{counted_none, counted_next, follows_high}
 use Rattle.cluster.proofs.Scan.{Agrees, cut_short, leading_all, all_there, halt_record, next_record, no_record}
 use Rattle.cluster.proofs.UsedMarks.{Marks, unmarked, marked}
+use Rattle.std.specs.Prelude.{Ok}
 
 -- the members before member m are passed, their frames marked and their lists counted
 abbrev pub Passed : List ℕ → ℕ → ℕ → List Bool → Type 0
@@ -33,7 +33,7 @@ Turn t m lists listed = Passed t m lists listed × (m < member_count t) × (fram
 pub none_passed : (t : List ℕ) → Passed t 0 0 (replicate most_frames false)
 none_passed t = (omega arith, unmarked most_frames (member_frame t), sym (counted_none (member_list t) 0 refl), omega arith, rw sub-zero)
 
-pub all_passed : (t : List ℕ) (m lists : ℕ) (listed : List Bool) → Passed t m lists listed → member_count t ≤ m → Accepted ≡ member_faults t
+pub all_passed : (t : List ℕ) (m lists : ℕ) (listed : List Bool) → Passed t m lists listed → member_count t ≤ m → Ok tt ≡ member_faults t
 all_passed t m lists listed p h = sym (p.4 ∙ no_record t (member_at t m) (member_right t) m (member_count t) h)
 
 module _ (t : List ℕ) (m lists : ℕ) (listed : List Bool) where

@@ -19,7 +19,6 @@ use Rattle.cluster.specs.Read.{RecordsBefore, PlacedBefore, PlacementRead, due, 
 use Rattle.cluster.specs.Right.{frame_bits, again, mixed, sticks_out, overlaps, placement_right, counts_up, records}
 use Rattle.cluster.specs.Table.{most_frames, counted, frame_count, frame_length, signal_count, signal_width, is_array}
 use Rattle.cluster.specs.Table.{placement_count, placement_words, placement_at, placement_signal, placement_frame, placement_offset, placement_width}
-use Rattle.cluster.specs.declared.Verdict.TheVariants.{Accepted}
 use Rattle.cluster.specs.declared.placements.Words.{Words}
 use Rattle.cluster.proofs.BitMarks.{BitMarks, none_marked, bits_marked, overlap_is}
 use Rattle.cluster.proofs.Clauses.{signal_says, frame_says, offset_says}
@@ -29,6 +28,7 @@ use Rattle.cluster.proofs.PlacementMarks.{last_in, frame_before, frame_next, Las
 use Rattle.cluster.proofs.Scan.{Agrees, leading_all, all_there, halt_record, next_record, no_record}
 use Rattle.cluster.proofs.StickingOut.{out_is}
 use Rattle.cluster.proofs.Widths.{offset_below, width_range}
+use Rattle.std.specs.Prelude.{Ok}
 
 -- the placements before placement k are passed: their bits and signals are marked, their signals counted, and each signal has one publisher
 pub record Passed (t : List ℕ) (k placed frame : ℕ) (last occupied : List ℕ) : Type 0 where
@@ -67,7 +67,7 @@ none_passed t = record {
 }
 
 pub all_passed : (t : List ℕ) (k placed frame : ℕ) (last occupied : List ℕ) → Passed t k placed frame last occupied
-    → placement_count t ≤ k → Accepted ≡ placement_faults t
+    → placement_count t ≤ k → Ok tt ≡ placement_faults t
 all_passed t k placed frame last occupied p h = sym (p.left ∙ no_record t (placement_at t k) (placement_right t) k (placement_count t) h)
 
 module _ (t : List ℕ) (k placed frame : ℕ) (last occupied : List ℕ) where

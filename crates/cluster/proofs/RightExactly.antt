@@ -13,8 +13,6 @@ use Rattle.refusal.specs.declared.Refusal.{Refusal}
 use Rattle.wire.proofs.Tests.{whether}
 use Rattle.signal.proofs.Inside.{order}
 use Rattle.cluster.specs.Check.{judged}
-use Rattle.cluster.specs.declared.Verdict.{Verdict}
-use Rattle.cluster.specs.declared.Verdict.TheVariants.{Accepted, Refused}
 use Rattle.cluster.specs.Right.{all_placed, words_right}
 use Rattle.cluster.specs.Table.{word, frame_count, signal_count, placement_count, member_count, entry_count, size}
 use Rattle.cluster.proofs.Accepted.{exact, all_placed_lem, words, front_words, unplaced_words}
@@ -25,6 +23,8 @@ use Rattle.cluster.proofs.WordsExactly.{Before}
 use Rattle.cluster.proofs.WordsExactly.{frames_word, signals_word, members_word, entries_word, placements_word, identifier_word_lem, length_word_lem, flags_word_lem}
 use Rattle.cluster.proofs.WordsExactly.{kind_word_lem, width_word_lem, start_word_lem, signal_word_lem, frame_word_lem, offset_word_lem, placed_exactly, unplaced_word, list_word_lem, member_word_lem}
 use Rattle.cluster.proofs.WordsExactly.{schedule_word_lem, entry_kind_word_lem, target_word_lem, delay_word_lem}
+use Rattle.std.specs.Prelude.{Ok, Err}
+use Rattle.cluster.specs.Check.{Verdict}
 
 -- a number below five, by its value
 five : {A : Type 0} (i : ℕ) → i < 5 → (i ≡ 0 → A) → (i ≡ 1 → A) → (i ≡ 2 → A) → (i ≡ 3 → A) → (i ≡ 4 → A) → A
@@ -183,7 +183,7 @@ module _ (t : List ℕ) where
       ]
 
   -- "The table check accepts" exactly the tables of which the length and every word is right
-  pub accepted_exactly : (judged t ≡ Accepted)
+  pub accepted_exactly : (judged t ≡ Ok tt)
       ↔ ((length t ≡ 5 + 3 * F t + 3 * S t + 3 * P t + 2 * M t + 4 * E t) × EachPlaced t × ((p : ℕ) → p < length t → RightAt t p))
   accepted_exactly = (
     (λ ok.
@@ -269,7 +269,7 @@ module _ (t : List ℕ) where
       (⊎_elim (λ x. omega arith) (⊎_elim (λ x. omega arith) (λ x. x.1 (known.2.placed x.0))))
       v.there
 
-  not_accepted : (p : ℕ) → FirstWrong t p → judged t ≡ Accepted → ⊥
+  not_accepted : (p : ℕ) → FirstWrong t p → judged t ≡ Ok tt → ⊥
   not_accepted p w ok =
       let right = accepted_exactly.0 ok in
       ⊎_elim
@@ -278,16 +278,16 @@ module _ (t : List ℕ) where
       w.there
 
   -- "or gives the position of the first word that is wrong, missing or surplus", with refusal 1
-  pub refused_exactly : (r : Refusal) → (judged t ≡ Refused r) ↔ ((r.number ≡ 1) × FirstWrong t r.place)
+  pub refused_exactly : (r : Refusal) → (judged t ≡ Err r) ↔ ((r.number ≡ 1) × FirstWrong t r.place)
   refused_exactly r = (λ h. let f = first_fault t r h in (f.number, to_words r f), λ w. by (judged t) refl w.0 w.1)
     where
-      by : (v : Verdict) → judged t ≡ v → r.number ≡ 1 → FirstWrong t r.place → v ≡ Refused r
-      by Accepted e n w = absurd (not_accepted r.place w e)
-      by (Refused s) e n w =
+      by : (v : Verdict) → judged t ≡ v → r.number ≡ 1 → FirstWrong t r.place → v ≡ Err r
+      by (Ok tt) e n w = absurd (not_accepted r.place w e)
+      by (Err s) e n w =
           let f = first_fault t s e in
           let v = to_words s f in
           let p : s.place ≡ r.place =
           order s.place r.place
           (λ b. absurd (not_before s.place r.place v w b))
           (λ b. order r.place s.place (λ c. absurd (not_before r.place s.place w v c)) (λ c. omega arith)) in
-          ap Refused (same_refusal s r (f.number ∙ sym n) p)
+          ap Err (same_refusal s r (f.number ∙ sym n) p)

@@ -10,11 +10,11 @@ use lib.ListN.{length}
 use Rattle.wire.proofs.Tests.{whether}
 use Rattle.signal.proofs.Inside.{order}
 use Rattle.cluster.specs.Check.{fault, faults}
-use Rattle.cluster.specs.declared.Verdict.TheVariants.{Accepted}
 use Rattle.cluster.specs.Right.{records}
 use Rattle.cluster.specs.Read.{due, leading}
 use Rattle.cluster.specs.Table.{word}
 use Rattle.cluster.proofs.Accepted.{AllTrue}
+use Rattle.std.specs.Prelude.{Ok}
 
 -- ---- one word
 
@@ -152,7 +152,7 @@ halt_words t at seen rights place a l e =
     rw (append-nil, here) at (halts t at [] 0 seen rights a l)
 
 pub pass_words : (t : List ℕ) (at : ℕ) (seen rights : List Bool) → Agrees t at 0 seen rights → length seen ≤ leading seen
-    → faults t at rights ≡ Accepted
+    → faults t at rights ≡ Ok tt
 unfolding faults
 pass_words t at seen rights a h = rw append-nil at (goes_on t at [] 0 seen rights a h)
 
@@ -177,6 +177,6 @@ module _ (t : List ℕ) (right : ℕ → List Bool) (k n at : ℕ) (seen : List 
       let here : at + (0 + length seen) ≡ next = omega arith in
       rw (turn right k n h) (rw here at (goes_on t at (records (k + 1) (n - (k + 1)) right) 0 seen (right k) a l))
 
-pub no_record : (t : List ℕ) (at : ℕ) (right : ℕ → List Bool) (k n : ℕ) → n ≤ k → faults t at (records k (n - k) right) ≡ Accepted
+pub no_record : (t : List ℕ) (at : ℕ) (right : ℕ → List Bool) (k n : ℕ) → n ≤ k → faults t at (records k (n - k) right) ≡ Ok tt
 unfolding records faults
 no_record t at right k n h = let e : n - k ≡ 0 = omega arith in rw e

@@ -12,8 +12,6 @@ use Rattle.cluster.specs.Check.{fault, faults, header_faults, frame_faults, sign
 use Rattle.cluster.specs.Check.{surplus, judged}
 use Rattle.cluster.specs.Columns.{header_columns, frame_columns, signal_columns, placement_columns, member_columns, width_right}
 use Rattle.cluster.specs.Read.{RecordsBefore}
-use Rattle.cluster.specs.declared.Verdict.{Verdict}
-use Rattle.cluster.specs.declared.Verdict.TheVariants.{Accepted, Refused}
 use Rattle.cluster.specs.Right.{records, header_right, frame_right, signal_right, placement_right, all_placed, member_right, entry_right}
 use Rattle.cluster.specs.Right.{front_right, back_right, words_right}
 use Rattle.cluster.specs.Table.{most_frames, most_signals, most_members, most_entries, most_placements, header_words, frame_words, signal_words, member_words}
@@ -22,6 +20,8 @@ use Rattle.cluster.specs.Table.{frame_at, signal_at, placement_at, member_at, en
 use Rattle.cluster.proofs.Accepted.{all_records, length_records, faults_true, faults_length, front_words, placed_words, unplaced_words}
 use Rattle.cluster.proofs.HeaderLaws.{header_counts}
 use Rattle.cluster.proofs.Clauses.{within_high}
+use Rattle.std.specs.Prelude.{Ok, Err}
+use Rattle.cluster.specs.Check.{Verdict}
 
 -- ---- one section after another
 
@@ -35,8 +35,8 @@ faults_append t i j (x ∷ xs) ys e =
     (λ h. rw h)
 
 then_then : (u v w : Verdict) → then (then u v) w ≡ then u (then v w)
-then_then Accepted v w = refl
-then_then (Refused r) v w = refl
+then_then (Ok tt) v w = refl
+then_then (Err r) v w = refl
 
 module _ (t : List ℕ) where
   -- the words of each section, in order, and where the next one begins
@@ -112,24 +112,24 @@ module _ (t : List ℕ) where
 
   -- ---- what each section leaves to the next
 
-  pub header_passed : header_faults t ≡ Accepted
+  pub header_passed : header_faults t ≡ Ok tt
       → (frame_count t ≤ most_frames) × (signal_count t ≤ most_signals) × (member_count t ≤ most_members) × (entry_count t ≤ most_entries)
       × (placement_count t ≤ most_placements)
   header_passed h = header_counts t (faults_true t 0 (header_right t) h)
 
-  frames_passed : frame_faults t ≡ Accepted → (f : ℕ) → f < frame_count t → frame_length t f ≤ 8
+  frames_passed : frame_faults t ≡ Ok tt → (f : ℕ) → f < frame_count t → frame_length t f ≤ 8
   unfolding frame_right frame_columns
   frames_passed h f b =
       within_high 1 8 (frame_length t f)
       (all_records (frame_right t) 0 (frame_count t) (faults_true t (frame_at 0) (records 0 (frame_count t) (frame_right t)) h) f (omega arith) (omega arith)).1.0
 
-  signals_passed : signal_faults t ≡ Accepted → (s : ℕ) → s < signal_count t → width_right (is_array t s) (signal_width t s) ≡ true
+  signals_passed : signal_faults t ≡ Ok tt → (s : ℕ) → s < signal_count t → width_right (is_array t s) (signal_width t s) ≡ true
   unfolding signal_right signal_columns is_array
   signals_passed h s b =
       (all_records (signal_right t) 0 (signal_count t) (faults_true t (signal_at t 0) (records 0 (signal_count t) (signal_right t)) h) s (omega arith) (omega arith)).1.0
 
   -- where a section accepts, its words are there
-  words_there : header_faults t ≡ Accepted → frame_faults t ≡ Accepted → signal_faults t ≡ Accepted → placement_at t 0 ≤ length t
+  words_there : header_faults t ≡ Ok tt → frame_faults t ≡ Ok tt → signal_faults t ≡ Ok tt → placement_at t 0 ≤ length t
   unfolding header_right frame_right signal_right header_columns frame_columns signal_columns
   words_there h f s =
       let header : header_words ≤ length t = faults_length t 0 (header_right t) h (omega arith) in
@@ -145,7 +145,7 @@ module _ (t : List ℕ) where
         length_records (signal_right t) signal_words (λ j. refl) 0 (signal_count t),
       )
 
-  pub records_passed : header_faults t ≡ Accepted → frame_faults t ≡ Accepted → signal_faults t ≡ Accepted → RecordsBefore t
+  pub records_passed : header_faults t ≡ Ok tt → frame_faults t ≡ Ok tt → signal_faults t ≡ Ok tt → RecordsBefore t
   records_passed h f s = record {
     all = words_there h f s;
     frames = (header_passed h).0;

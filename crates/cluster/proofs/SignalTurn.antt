@@ -13,10 +13,10 @@ use Rattle.cluster.specs.Columns.{start_limit, signal_columns}
 use Rattle.cluster.specs.Read.{SignalRead, due, leading}
 use Rattle.cluster.specs.Right.{signal_right, records}
 use Rattle.cluster.specs.Table.{signal_count, signal_words, signal_at, signal_kind, signal_width, signal_start}
-use Rattle.cluster.specs.declared.Verdict.TheVariants.{Accepted}
 use Rattle.cluster.specs.declared.signals.Words.{Words}
 use Rattle.cluster.proofs.Scan.{Agrees, cut_short, halt_record, next_record, no_record}
 use Rattle.cluster.proofs.Widths.{width_range, start_limit_high}
+use Rattle.std.specs.Prelude.{Ok}
 
 -- the signals before signal s are passed
 abbrev pub Passed : List ℕ → ℕ → Type 0
@@ -25,7 +25,7 @@ Passed t s = (s ≤ signal_count t) × (signal_faults t ≡ faults t (signal_at 
 pub none_passed : (t : List ℕ) → Passed t 0
 none_passed t = (omega arith, rw sub-zero)
 
-pub all_passed : (t : List ℕ) (s : ℕ) → Passed t s → signal_count t ≤ s → Accepted ≡ signal_faults t
+pub all_passed : (t : List ℕ) (s : ℕ) → Passed t s → signal_count t ≤ s → Ok tt ≡ signal_faults t
 all_passed t s p h = sym (p.1 ∙ no_record t (signal_at t s) (signal_right t) s (signal_count t) h)
 
 module _ (t : List ℕ) (s : ℕ) where

@@ -6,11 +6,11 @@ use mathlib.Core.Logic.{◌↔◌, ⊎_elim}
 use mathlib.Core.List.{List}
 use native.Mathlib.Omega.{arith}
 use Rattle.refusal.specs.declared.Refusal.{Refusal}
-use Rattle.cluster.specs.declared.Verdict.TheVariants.{Refused}
 use Rattle.cluster.specs.Check.{judged, taken_of, RightTable, TakenTable}
 use Rattle.signal.proofs.Inside.{order}
 use Rattle.cluster.proofs.InWords.{words_due}
 use Rattle.cluster.proofs.RightExactly.{refused_exactly}
+use Rattle.std.specs.Prelude.{Err}
 
 pub taken_right : (t : List ℕ) → TakenTable t → RightTable t
 unfolding taken_of
@@ -22,12 +22,12 @@ unfolding taken_of
 right_taken t h = h
 
 -- refusal 1, "the table check finds a fault", with the check's own position
-pub taken_refused : (t : List ℕ) (r : Refusal) → (taken_of t ≡ Refused r) ↔ (judged t ≡ Refused r)
+pub taken_refused : (t : List ℕ) (r : Refusal) → (taken_of t ≡ Err r) ↔ (judged t ≡ Err r)
 unfolding taken_of
 taken_refused t r = (λ h. h, λ h. h)
 
 -- no fault stands behind the longest table, of 3,633 words
-fault_high : (t : List ℕ) (r : Refusal) → judged t ≡ Refused r → r.place ≤ 3633
+fault_high : (t : List ℕ) (r : Refusal) → judged t ≡ Err r → r.place ≤ 3633
 fault_high t r h =
     let w = ((refused_exactly t r).0 h).1 in
     order 4 r.place
@@ -42,11 +42,11 @@ fault_high t r h =
     omega arith)
     (λ b. omega arith)
 
-pub taken_high : (t : List ℕ) (r : Refusal) → taken_of t ≡ Refused r → r.place ≤ 3633
+pub taken_high : (t : List ℕ) (r : Refusal) → taken_of t ≡ Err r → r.place ≤ 3633
 unfolding taken_of
 taken_high t r h = fault_high t r h
 
 -- and its number is 1
-pub taken_number : (t : List ℕ) (r : Refusal) → taken_of t ≡ Refused r → r.number ≡ 1
+pub taken_number : (t : List ℕ) (r : Refusal) → taken_of t ≡ Err r → r.number ≡ 1
 unfolding taken_of
 taken_number t r h = ((refused_exactly t r).0 h).0

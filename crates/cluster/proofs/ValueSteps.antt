@@ -47,9 +47,9 @@ array_read_lem t bs s k n place values e h p q =
 
 -- the start value in each byte, before the unused ones
 pub start_read_lem : (t : List ℕ) (s n start : ℕ) (values : List ℕ) → n ≡ array_length t s → n ≤ 8 → start ≡ signal_start t s
-    → values ≡ replicate (length (take (n - 0) unused)) (start % 256)
-    → ◌≡◌ {A = Array} (record { bytes = values ++ drop (n - 0) unused; count = n }) (start_read t s)
+    → values ≡ replicate (length (take n unused)) (start % 256)
+    → ◌≡◌ {A = Array} (record { bytes = values ++ drop n unused; count = n }) (start_read t s)
 unfolding start_read handed_out
 start_read_lem t s n start values e h p q =
     let l : length (take n unused) ≡ n = length-take-le n unused h in
-    rw (q, sub-zero, l, drop_replicate n 8 255, e, p)
+    rw (q, l, drop_replicate n 8 255, e, p)

@@ -2,20 +2,20 @@
 use Rattle.std.specs.Prelude.{ℕ, suc, Bool, cond, ◌&&◌, List, [], ◌∷◌, ltb, eqb, length}
 use Rattle.refusal.specs.Answers.{Told, gives, refuses}
 use Rattle.refusal.specs.Numbers.{refused_at}
-use Rattle.cluster.specs.declared.Verdict.{Verdict}
-use Rattle.cluster.specs.declared.Verdict.TheVariants.{Accepted, Refused}
 use Rattle.cluster.specs.Table.{size}
 use Rattle.cluster.specs.Right.{words_right}
+use Rattle.std.specs.Prelude.{Ok, Err}
+use Rattle.cluster.specs.Check.{Verdict}
 
 -- the number and the place of each case
 abbrev pub verdict_told : Verdict → Told
-verdict_told Accepted = gives []
-verdict_told (Refused r) = refuses r
+verdict_told (Ok tt) = gives []
+verdict_told (Err r) = refuses r
 
 -- 1 "the table check finds a fault", with its position; and else what the tests behind it tell
 abbrev pub behind_table : Verdict → Told → Told
-behind_table Accepted x = x
-behind_table (Refused r) x = refuses r
+behind_table (Ok tt) x = x
+behind_table (Err r) x = refuses r
 
 -- how many of some words, from position i on, are there and right before the first that is not
 unfoldable pub right_from : List ℕ → ℕ → List Bool → ℕ

@@ -1,25 +1,29 @@
 -- Document 01, "The cluster table": what the table check answers.
 use Rattle.std.specs.Prelude.{ℕ, suc, ◌≡◌, Bool, cond, ◌&&◌, List, [], ◌∷◌, ltb, length}
 use Rattle.refusal.specs.Numbers.{table, refused_at}
-use Rattle.cluster.specs.declared.Verdict.{Verdict}
-use Rattle.cluster.specs.declared.Verdict.TheVariants.{Accepted, Refused}
 use Rattle.cluster.specs.Table.{frame_count, signal_count, member_count, entry_count, placement_count}
 use Rattle.cluster.specs.Table.{frame_at, signal_at, placement_at, member_at, entry_at, size}
 use Rattle.cluster.specs.Right.{records, header_right, frame_right, signal_right, placement_right, all_placed, member_right, entry_right, words_right}
+use Rattle.std.specs.Prelude.{Result, Ok, Err, ⊤}
+use Rattle.refusal.specs.declared.Refusal.{Refusal}
+
+-- what the table check answers: nothing where it accepts, or the refusal
+abbrev pub Verdict : Type 0
+Verdict = Result ⊤ Refusal
 
 -- "refusal 1" with the position
 abbrev pub fault : ℕ → Verdict
-fault i = Refused (refused_at table i)
+fault i = Err (refused_at table i)
 
 -- the first word from position i on that is missing or wrong
 unfoldable pub faults : List ℕ → ℕ → List Bool → Verdict
-faults t i [] = Accepted
+faults t i [] = Ok tt
 faults t i (right ∷ rest) = cond (ltb i (length t) && right) (faults t (suc i) rest) (fault i)
 
 -- a first judgement, and a second one where the first accepts
 abbrev pub then : Verdict → Verdict → Verdict
-then Accepted v = v
-then (Refused r) v = Refused r
+then (Ok tt) v = v
+then (Err r) v = Err r
 
 -- the first fault of each section, where the sections before have none
 abbrev pub header_faults : List ℕ → Verdict
@@ -36,7 +40,7 @@ placement_faults t = faults t (placement_at t 0) (records 0 (placement_count t) 
 
 -- refusal 1 "also covers a signal with no placement", told "directly behind the last" one
 unfoldable pub unplaced : List ℕ → Verdict
-unplaced t = cond (all_placed t) Accepted (fault (placement_at t (placement_count t)))
+unplaced t = cond (all_placed t) (Ok tt) (fault (placement_at t (placement_count t)))
 
 abbrev pub member_faults : List ℕ → Verdict
 member_faults t = faults t (member_at t 0) (records 0 (member_count t) (member_right t))
@@ -46,7 +50,7 @@ entry_faults t = faults t (entry_at t 0) (records 0 (entry_count t) (entry_right
 
 -- a word behind the last record is surplus
 unfoldable pub surplus : List ℕ → Verdict
-surplus t = cond (ltb (size t) (length t)) (fault (size t)) Accepted
+surplus t = cond (ltb (size t) (length t)) (fault (size t)) (Ok tt)
 
 -- "The table check accepts, or gives the position of the first word that is wrong, missing or surplus."
 unfoldable pub judged : List ℕ → Verdict
@@ -54,7 +58,7 @@ judged t = then (faults t 0 (words_right t)) (surplus t)
 
 -- the table check accepts the table
 abbrev pub RightTable : List ℕ → Type 0
-RightTable t = judged t ≡ Accepted
+RightTable t = judged t ≡ Ok tt
 
 -- what a call asks of its table before all else: refusal 1, "the table check finds a fault"
 unfoldable pub taken_of : List ℕ → Verdict
@@ -62,4 +66,4 @@ taken_of t = judged t
 
 -- a call takes the table
 abbrev pub TakenTable : List ℕ → Type 0
-TakenTable t = taken_of t ≡ Accepted
+TakenTable t = taken_of t ≡ Ok tt

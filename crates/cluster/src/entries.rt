@@ -9,7 +9,8 @@ ghost use Rattle.cluster.specs.Table.{frame_count, signal_count, member_count, e
 ghost use Rattle.cluster.specs.Table.{entry_schedule, entry_kind, entry_target, entry_delay};
 
 use crate::table::{Layout, due, entry_at, follows, whole_records, word};
-use crate::{Verdict, fault, frames, members};
+use crate::{fault, frames, members};
+use refusal::Refusal;
 
 // How many entries there are, in all schedules together.
 pub fn count(t: &[u16]) -> u16
@@ -64,14 +65,12 @@ pub fn first(t: &[u16], n: u16) -> u16
     ensures { result ≡ first_entry t.now n }
 {
     let end = count(t);
-    let mut e: u16 = 0;
-    while e < end {
+    for e in 0..end {
         if schedule(t, e) == n {
             return e;
         }
-        e += 1;
     }
-    e
+    end
 }
 
 // The entry that follows an entry in its schedule, cyclically.
@@ -90,7 +89,7 @@ pub fn next(t: &[u16], e: u16) -> u16
 }
 
 // Checks the entries' records: those that are there in whole, and then one that is cut off.
-pub(crate) fn judge(t: &[u16]) -> Verdict
+pub(crate) fn judge(t: &[u16]) -> Result<(), Refusal>
     requires t_bound { (frame_count t.now ≤ most_frames) × (signal_count t.now ≤ most_signals) × (member_count t.now ≤ most_members) }
     requires t_bound_2 { (entry_count t.now ≤ most_entries) × (placement_count t.now ≤ most_placements) }
     ensures { result ≡ entry_faults t.now }
@@ -100,8 +99,7 @@ pub(crate) fn judge(t: &[u16]) -> Verdict
     let n = count(t) as usize;
     let whole = whole_records(t, first, Layout::ENTRY, n);
     let mut schedules: usize = 0;
-    let mut e: usize = 0;
-    while e < whole {
+    for e in 0..whole {
         let at = first + Layout::ENTRY * e;
         let words = read(t, at);
         let right = right_words(frames::count(t) as usize, lists, schedules, words);
@@ -109,14 +107,13 @@ pub(crate) fn judge(t: &[u16]) -> Verdict
             return fault(at + right);
         }
         schedules = words.schedule + 1;
-        e += 1;
     }
-    if e < n {
-        let at = first + Layout::ENTRY * e;
+    if whole < n {
+        let at = first + Layout::ENTRY * whole;
         let right = right_words(frames::count(t) as usize, lists, schedules, read_due(t, at));
         return fault(at + right);
     }
-    Verdict::Accepted
+    Ok(())
 }
 
 // An entry's record as it was read.

@@ -6,7 +6,8 @@ ghost use Rattle.cluster.specs.Table.{most_frames, identifiers, frame_at, frame_
 ghost use Rattle.cluster.specs.Table.{published as publishedOf, classic as classicOf, frame_model};
 
 use crate::table::{Layout, due, frame_at, whole_records, word};
-use crate::{Limits, Verdict, fault};
+use crate::{Limits, fault};
+use refusal::Refusal;
 use wire::checksum::Model;
 
 // How many frames there are.
@@ -82,15 +83,14 @@ pub(crate) fn room_of(t: &[u16], f: usize) -> Room
 }
 
 // Checks the frames' records, those that are there in whole, and then one that is cut off; the identifiers used so far are marked.
-pub(crate) fn judge(t: &[u16]) -> Verdict
+pub(crate) fn judge(t: &[u16]) -> Result<(), Refusal>
     requires { frame_count t.now ≤ most_frames }
     ensures { result ≡ frame_faults t.now }
 {
     let mut used = [false; Limits::IDENTIFIERS];
     let n = count(t) as usize;
     let whole = whole_records(t, Layout::HEADER, Layout::FRAME, n);
-    let mut f: usize = 0;
-    while f < whole {
+    for f in 0..whole {
         let at = frame_at(f);
         let words = read(t, at);
         let id = words.identifier;
@@ -99,13 +99,12 @@ pub(crate) fn judge(t: &[u16]) -> Verdict
             return fault(at + right);
         }
         used[id] = true;
-        f += 1;
     }
-    if f < n {
-        let at = frame_at(f);
+    if whole < n {
+        let at = frame_at(whole);
         return fault(at + right_words(&used, read_due(t, at)));
     }
-    Verdict::Accepted
+    Ok(())
 }
 
 // A frame's record as it was read.

@@ -9,23 +9,9 @@ use crate::{placements, signals};
 pub fn fill(t: &[u16], bytes: &mut [u8])
     ensures { bytes.new ≡ filled t.now (length bytes.old) (placement_count t.now) }
 {
-    set_bytes(bytes, 255);
-    let n = placements::count(t);
-    let mut k: u16 = 0;
-    while k < n {
+    bytes.fill(255);
+    for k in 0..placements::count(t) {
         put_start(t, k, bytes);
-        k += 1;
-    }
-}
-
-// Gives every byte one value.
-pub(crate) fn set_bytes(bytes: &mut [u8], v: u8)
-    ensures { bytes.new ≡ replicate (length bytes.old) v }
-{
-    let mut i: usize = 0;
-    while i < bytes.len() {
-        bytes[i] = v;
-        i += 1;
     }
 }
 

@@ -18,13 +18,6 @@ ghost use Rattle.std.specs.Prelude.{◌≡◌};
 ghost use Rattle.cluster.specs.Check.{fault as faultAt, judged, taken_of};
 ghost use Rattle.cluster.specs.Answers.{verdict_told, check_told};
 
-// What the table check answers: accepted, or refusal 1 with the position of the first word that is wrong, missing or surplus.
-#[derive(Clone, Copy)]
-pub enum Verdict {
-    Accepted,
-    Refused(Refusal),
-}
-
 // The most that a table has of each, and how many identifiers there are for frames.
 #[derive(Clone, Copy)]
 pub struct Limits;
@@ -43,37 +36,23 @@ impl Limits {
     pub const IDENTIFIERS: usize = 60;
 }
 
-// Checks a table, word by word, each word once.
-pub fn check(t: &[u16]) -> Verdict
+// Checks a table, word by word, each word once: accepted, or refusal 1 with the position of the first word that is wrong, missing or surplus.
+pub fn check(t: &[u16]) -> Result<(), Refusal>
     ensures value { result ≡ judged t.now }
     ensures told { verdict_told result ≡ check_told t.now }
 {
-    if let Verdict::Refused(refusal) = table::judge(t) {
-        return Verdict::Refused(refusal);
-    }
-    if let Verdict::Refused(refusal) = frames::judge(t) {
-        return Verdict::Refused(refusal);
-    }
-    if let Verdict::Refused(refusal) = signals::judge(t) {
-        return Verdict::Refused(refusal);
-    }
-    if let Verdict::Refused(refusal) = placements::judge(t) {
-        return Verdict::Refused(refusal);
-    }
-    if let Verdict::Refused(refusal) = placements::unplaced(t) {
-        return Verdict::Refused(refusal);
-    }
-    if let Verdict::Refused(refusal) = members::judge(t) {
-        return Verdict::Refused(refusal);
-    }
-    if let Verdict::Refused(refusal) = entries::judge(t) {
-        return Verdict::Refused(refusal);
-    }
+    table::judge(t)?;
+    frames::judge(t)?;
+    signals::judge(t)?;
+    placements::judge(t)?;
+    placements::unplaced(t)?;
+    members::judge(t)?;
+    entries::judge(t)?;
     table::surplus(t)
 }
 
 // Whether a call takes a table: what it asks before all else.
-pub fn taken(t: &[u16]) -> Verdict
+pub fn taken(t: &[u16]) -> Result<(), Refusal>
     ensures value { result ≡ taken_of t.now }
     ensures told { verdict_told result ≡ check_told t.now }
 {
@@ -81,8 +60,8 @@ pub fn taken(t: &[u16]) -> Verdict
 }
 
 // Refusal 1 with a position.
-pub(crate) fn fault(at: usize) -> Verdict
+pub(crate) fn fault(at: usize) -> Result<(), Refusal>
     ensures { result ≡ faultAt at }
 {
-    Verdict::Refused(Refusal::at(Refusal::TABLE, at))
+    Err(Refusal::at(Refusal::TABLE, at))
 }

@@ -7,7 +7,8 @@ ghost use Rattle.cluster.specs.Table.{most_frames, most_members, most_placements
 ghost use Rattle.cluster.specs.Table.{member_list, member_frame, list_count};
 
 use crate::table::{Layout, due, follows, member_at, whole_records, word};
-use crate::{Limits, Verdict, fault, frames};
+use crate::{Limits, fault, frames};
+use refusal::Refusal;
 
 // How many members there are, in all lists together.
 pub fn count(t: &[u16]) -> u16
@@ -48,14 +49,12 @@ pub fn next(t: &[u16], l: u16, m: u16) -> u16
     ensures { result ≡ next_member t.now l m }
 {
     let n = count(t);
-    let mut k = m;
-    while k < n {
+    for k in m..n {
         if list(t, k) == l {
             return k;
         }
-        k += 1;
     }
-    k
+    m.max(n)
 }
 
 // Whether a frame is in a list.
@@ -78,18 +77,16 @@ pub fn of_frame(t: &[u16], f: u16) -> u16
     ensures { result ≡ member_of t.now f }
 {
     let n = count(t);
-    let mut m: u16 = 0;
-    while m < n {
+    for m in 0..n {
         if frame(t, m) == f {
             return m;
         }
-        m += 1;
     }
-    m
+    n
 }
 
 // Checks the members' records, those that are there in whole, and then one that is cut off; the frames in a list so far are marked.
-pub(crate) fn judge(t: &[u16]) -> Verdict
+pub(crate) fn judge(t: &[u16]) -> Result<(), Refusal>
     requires { RecordsBefore t.now × (member_count t.now ≤ most_members) × (placement_count t.now ≤ most_placements) }
     ensures { result ≡ member_faults t.now }
 {
@@ -98,8 +95,7 @@ pub(crate) fn judge(t: &[u16]) -> Verdict
     let n = count(t) as usize;
     let whole = whole_records(t, first, Layout::MEMBER, n);
     let mut lists: usize = 0;
-    let mut m: usize = 0;
-    while m < whole {
+    for m in 0..whole {
         let at = first + Layout::MEMBER * m;
         let words = read(t, at);
         let f = words.frame;
@@ -109,13 +105,12 @@ pub(crate) fn judge(t: &[u16]) -> Verdict
         }
         listed[f] = true;
         lists = words.list + 1;
-        m += 1;
     }
-    if m < n {
-        let at = first + Layout::MEMBER * m;
+    if whole < n {
+        let at = first + Layout::MEMBER * whole;
         return fault(at + right_words(t, &listed, lists, read_due(t, at)));
     }
-    Verdict::Accepted
+    Ok(())
 }
 
 // A member's record as it was read.

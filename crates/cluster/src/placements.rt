@@ -12,7 +12,8 @@ use crate::frames::Room;
 use crate::marks::{are_free, with_bits};
 use crate::signals::Shape;
 use crate::table::{Layout, due, placement_at, word};
-use crate::{Limits, Verdict, fault, frames, signals};
+use crate::{Limits, fault, frames, signals};
+use refusal::Refusal;
 
 // How many placements there are.
 pub fn count(t: &[u16]) -> u16
@@ -54,14 +55,12 @@ pub fn first(t: &[u16], s: u16) -> u16
     ensures { result ≡ first_placement t.now s }
 {
     let n = count(t);
-    let mut k: u16 = 0;
-    while k < n {
+    for k in 0..n {
         if signal(t, k) == s {
             return k;
         }
-        k += 1;
     }
-    k
+    n
 }
 
 // How many signals have placements.
@@ -77,29 +76,29 @@ pub(crate) fn placed(t: &[u16]) -> usize
 }
 
 // A signal that has no placement is told directly behind the last placement.
-pub(crate) fn unplaced(t: &[u16]) -> Verdict
+pub(crate) fn unplaced(t: &[u16]) -> Result<(), Refusal>
     ensures { result ≡ unplacedOf t.now }
 {
     if placed(t) < signals::count(t) as usize {
         fault(placement_at(t, count(t) as usize))
     } else {
-        Verdict::Accepted
+        Ok(())
     }
 }
 
 // Checks the placements' records; of each frame the bits occupied so far and the signal placed there last are marked.
-pub(crate) fn judge(t: &[u16]) -> Verdict
+pub(crate) fn judge(t: &[u16]) -> Result<(), Refusal>
     requires { (placement_count t.now ≤ most_placements) × RecordsBefore t.now }
     ensures { result ≡ placement_faults t.now }
 {
     let mut occupied = [0u64; Limits::FRAMES];
     let mut last = [0u16; Limits::FRAMES];
     let first = placement_at(t, 0);
-    let end = first + Layout::PLACEMENT * (count(t) as usize);
+    let n = count(t) as usize;
     let mut placed: usize = 0;
     let mut frame: usize = 0;
-    let mut at = first;
-    while at < end {
+    for k in 0..n {
+        let at = first + Layout::PLACEMENT * k;
         let words = read(t, at);
         let f = words.frame;
         let right = right_words(t, &occupied, &last, Before { placed, frame }, words);
@@ -111,9 +110,8 @@ pub(crate) fn judge(t: &[u16]) -> Verdict
         last[f] = (words.signal + 1) as u16;
         placed = words.signal + 1;
         frame = f;
-        at += Layout::PLACEMENT;
     }
-    Verdict::Accepted
+    Ok(())
 }
 
 // A placement's record as it was read.

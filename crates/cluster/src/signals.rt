@@ -7,8 +7,9 @@ ghost use Rattle.cluster.specs.Read.{SignalRead, leading};
 ghost use Rattle.cluster.specs.Table.{most_frames, most_signals, signal_at, frame_count, signal_count};
 ghost use Rattle.cluster.specs.Table.{signal_kind, signal_width, signal_start, is_array};
 
+use crate::fault;
 use crate::table::{Layout, due, signal_at, whole_records, word};
-use crate::{Verdict, fault};
+use refusal::Refusal;
 
 // How many signals there are.
 pub fn count(t: &[u16]) -> u16
@@ -74,27 +75,25 @@ pub(crate) fn shape_of(t: &[u16], s: usize) -> Shape
 }
 
 // Checks the signals' records: those that are there in whole, and then one that is cut off.
-pub(crate) fn judge(t: &[u16]) -> Verdict
+pub(crate) fn judge(t: &[u16]) -> Result<(), Refusal>
     requires { (frame_count t.now ≤ most_frames) × (signal_count t.now ≤ most_signals) }
     ensures { result ≡ signal_faults t.now }
 {
     let first = signal_at(t, 0);
     let n = count(t) as usize;
     let whole = whole_records(t, first, Layout::SIGNAL, n);
-    let mut s: usize = 0;
-    while s < whole {
+    for s in 0..whole {
         let at = first + Layout::SIGNAL * s;
         let right = right_words(read(t, at));
         if right < Layout::SIGNAL {
             return fault(at + right);
         }
-        s += 1;
     }
-    if s < n {
-        let at = first + Layout::SIGNAL * s;
+    if whole < n {
+        let at = first + Layout::SIGNAL * whole;
         return fault(at + right_words(read_due(t, at)));
     }
-    Verdict::Accepted
+    Ok(())
 }
 
 // A signal's record as it was read.

@@ -5,7 +5,8 @@ ghost use Rattle.cluster.specs.Columns.{follows as followsOf, header_columns};
 ghost use Rattle.cluster.specs.Read.{WholeRecords, due as due_of, leading};
 ghost use Rattle.cluster.specs.Table.{word as word_of, frame_at, signal_at, placement_at, member_at, entry_at};
 
-use crate::{Limits, Verdict, fault};
+use crate::{Limits, fault};
+use refusal::Refusal;
 
 // The word at a position, and 0 where there is none.
 pub(crate) fn word(t: &[u16], i: usize) -> u16
@@ -99,14 +100,14 @@ pub(crate) fn entry_at(t: &[u16], e: usize) -> usize
 }
 
 // Checks the header.
-pub(crate) fn judge(t: &[u16]) -> Verdict
+pub(crate) fn judge(t: &[u16]) -> Result<(), Refusal>
     ensures { result ≡ header_faults t.now }
 {
     let right = right_words(due(t, 0), due(t, 1), due(t, 2), due(t, 3), due(t, 4));
     if right < Layout::HEADER {
         fault(right)
     } else {
-        Verdict::Accepted
+        Ok(())
     }
 }
 
@@ -140,15 +141,11 @@ fn right_words(
 }
 
 // A word behind the last record.
-pub(crate) fn surplus(t: &[u16]) -> Verdict
+pub(crate) fn surplus(t: &[u16]) -> Result<(), Refusal>
     ensures { result ≡ surplusOf t.now }
 {
     let end = entry_at(t, word(t, 3) as usize);
-    if end < t.len() {
-        fault(end)
-    } else {
-        Verdict::Accepted
-    }
+    if end < t.len() { fault(end) } else { Ok(()) }
 }
 
 // Whether a signal, list or schedule number may follow those before it; `count` is one more than the previous one.

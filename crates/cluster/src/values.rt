@@ -2,7 +2,6 @@
 ghost use Rattle.std.specs.Prelude.{◌≡◌};
 ghost use Rattle.cluster.specs.Values.{value_fits, array_fits, scalar_at, with_scalar_at, with_array_at, array_read, start_read};
 
-use crate::fresh::set_bytes;
 use crate::{placements, signals};
 
 // A byte array as it is handed out: eight bytes, the unused ones 255, and how many are used.
@@ -70,7 +69,7 @@ pub fn start_array(t: &[u16], s: u16) -> Array
     let n = signals::array_length(t, s);
     let start = (signals::start(t, s) % 256) as u8;
     let mut values = [255; 8];
-    set_bytes(&mut values[0..n], start);
+    values[..n].fill(start);
     Array {
         bytes: values,
         count: n,

@@ -1,11 +1,7 @@
 -- The desk with a state put on it. Places are those of src/lib.rt.
-use Rattle.std.specs.Prelude.{ℕ, zero, suc, ◌+◌, Bool, false, cond, List, get_or, set}
+use Rattle.std.specs.Prelude.{ℕ, zero, suc, ◌+◌, Bool, false, cond, List, get_or, set, Option, Some, None}
 use Rattle.master.specs.declared.state.State.{State}
 use Rattle.master.specs.declared.state.Plan.{Plan}
-use Rattle.master.specs.declared.state.Current.{Current}
-use Rattle.master.specs.declared.state.Current.TheVariants as current
-use Rattle.master.specs.declared.state.Requested.{Requested}
-use Rattle.master.specs.declared.state.Requested.TheVariants as requested
 use Rattle.master.specs.declared.state.Transfer.{Transfer}
 use Rattle.master.specs.declared.state.Opened.{Opened}
 use Rattle.master.specs.declared.state.Opened.TheVariants as opened
@@ -13,26 +9,23 @@ use Rattle.master.specs.declared.state.Message.{Message}
 use Rattle.master.specs.declared.state.Message.TheVariants as message
 use Rattle.master.specs.declared.state.Sending.{Sending}
 use Rattle.master.specs.declared.state.Status.{Status}
-use Rattle.master.specs.declared.state.Last.{Last}
-use Rattle.master.specs.declared.state.Last.TheVariants.{Never, Placement}
 use Rattle.master.specs.declared.state.Reception.{Reception}
 use Rattle.master.specs.Fresh.{never_received}
 use Rattle.transport.specs.declared.reassembly.Assembly.{Assembly}
 use Rattle.transport.specs.declared.reassembly.Reassembly.{Reassembly}
-use Rattle.transport.specs.declared.reassembly.Reassembly.TheVariants as reassembly
 
 -- ---- the parts as numbers
 
 abbrev pub bit : Bool → ℕ
 bit b = cond b 1 0
 
-abbrev pub entry_number : Current → ℕ
-entry_number current.None = 65536
-entry_number (current.Entry e) = e
+abbrev pub entry_number : Option ℕ → ℕ
+entry_number None = 65536
+entry_number (Some e) = e
 
-abbrev pub schedule_number : Requested → ℕ
-schedule_number requested.None = 65536
-schedule_number (requested.Schedule n) = n
+abbrev pub schedule_number : Option ℕ → ℕ
+schedule_number None = 65536
+schedule_number (Some n) = n
 
 abbrev pub open_number : Opened → ℕ
 open_number opened.Nothing = 65536
@@ -40,9 +33,9 @@ open_number (opened.Frame f) = f
 open_number opened.Request = 65537
 open_number opened.Response = 65538
 
-abbrev pub reception_number : Last → ℕ
-reception_number Never = 65536
-reception_number (Placement k) = k
+abbrev pub reception_number : Option ℕ → ℕ
+reception_number None = 65536
+reception_number (Some k) = k
 
 -- ---- the master's state, part by part
 
@@ -89,6 +82,9 @@ with_state s d =
 abbrev pub with_assembly : Assembly → List ℕ → List ℕ
 with_assembly a d = set (set (set (set (set d 83 1) 84 a.nad) 85 a.length) 86 a.count) 87 a.counter
 
+abbrev pub with_open : Option Assembly → List ℕ → List ℕ
+with_open None d = set d 83 0
+with_open (Some a) d = with_assembly a d
+
 abbrev pub with_reassembly : Reassembly → List ℕ → List ℕ
-with_reassembly reassembly.Nothing d = set d 83 0
-with_reassembly (reassembly.Open a) d = with_assembly a d
+with_reassembly r d = with_open r.message d

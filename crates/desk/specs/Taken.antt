@@ -1,11 +1,7 @@
 -- The states that stand on the desk. Places are those of src/lib.rt.
-use Rattle.std.specs.Prelude.{ℕ, zero, suc, ◌+◌, ◌%◌, Bool, cond, List, [], ◌∷◌, ◌++◌, eqb, get_or}
+use Rattle.std.specs.Prelude.{ℕ, zero, suc, ◌+◌, ◌%◌, Bool, cond, List, [], ◌∷◌, ◌++◌, eqb, get_or, Option, Some, None}
 use Rattle.master.specs.declared.state.State.{State}
 use Rattle.master.specs.declared.state.Plan.{Plan}
-use Rattle.master.specs.declared.state.Current.{Current}
-use Rattle.master.specs.declared.state.Current.TheVariants as current
-use Rattle.master.specs.declared.state.Requested.{Requested}
-use Rattle.master.specs.declared.state.Requested.TheVariants as requested
 use Rattle.master.specs.declared.state.Transfer.{Transfer}
 use Rattle.master.specs.declared.state.Opened.{Opened}
 use Rattle.master.specs.declared.state.Opened.TheVariants as opened
@@ -13,10 +9,8 @@ use Rattle.master.specs.declared.state.Message.{Message}
 use Rattle.master.specs.declared.state.Message.TheVariants as message
 use Rattle.master.specs.declared.state.Status.{Status}
 use Rattle.master.specs.declared.state.Reception.{Reception}
-use Rattle.master.specs.declared.state.Last.TheVariants.{Placement}
 use Rattle.master.specs.Fresh.{never_received}
 use Rattle.transport.specs.declared.reassembly.Reassembly.{Reassembly}
-use Rattle.transport.specs.declared.reassembly.Reassembly.TheVariants as reassembly
 
 -- the number at a place, its low 16 bits, its low 8 bits, and whether it is 1
 abbrev pub at : List ℕ → ℕ → ℕ
@@ -42,11 +36,11 @@ unfoldable pub pending_on : List ℕ → List Bool
 pending_on d = each (is_set d) 60
 
 -- an entry, a schedule: 65,536 stands for none
-unfoldable pub current_of : ℕ → Current
-current_of n = cond (eqb n 65536) current.None (current.Entry (n % 65536))
+unfoldable pub current_of : ℕ → Option ℕ
+current_of n = cond (eqb n 65536) None (Some (n % 65536))
 
-unfoldable pub requested_of : ℕ → Requested
-requested_of n = cond (eqb n 65536) requested.None (requested.Schedule (n % 65536))
+unfoldable pub requested_of : ℕ → Option ℕ
+requested_of n = cond (eqb n 65536) None (Some (n % 65536))
 
 abbrev pub plan_on : List ℕ → Plan
 plan_on d = record { wait = word_at d 60; current = current_of (at d 61); requested = requested_of (at d 62) }
@@ -73,7 +67,7 @@ status_on d = record { error = is_set d 79; success = is_set d 80; overrun = is_
 
 -- a placement received last: 65,536 stands for never
 unfoldable pub reception_of : ℕ → Reception
-reception_of n = cond (eqb n 65536) never_received (record { last = Placement (n % 65536) })
+reception_of n = cond (eqb n 65536) never_received (record { last = Some (n % 65536) })
 
 unfoldable pub received_on : List ℕ → List Reception
 received_on d = each (λ i. reception_of (at d (128 + i))) 256
@@ -93,5 +87,7 @@ state_on d =
 
 unfoldable pub reassembly_on : List ℕ → Reassembly
 reassembly_on d =
-    cond (eqb (at d 83) 0) reassembly.Nothing
-    (reassembly.Open (record { nad = byte_at d 84; length = word_at d 85; count = word_at d 86; counter = byte_at d 87 }))
+    record {
+      message = cond (eqb (at d 83) 0) None
+          (Some (record { nad = byte_at d 84; length = word_at d 85; count = word_at d 86; counter = byte_at d 87 }));
+    }

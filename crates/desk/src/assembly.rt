@@ -11,23 +11,25 @@ pub fn take(desk: &Desk) -> Reassembly
     ensures { result ≡ reassembly_on desk.now }
 {
     if desk[ASSEMBLY] == 0 {
-        return Reassembly::Nothing;
+        return Reassembly { message: None };
     }
-    Reassembly::Open(Assembly {
-        nad: byte(desk[ASSEMBLY + 1]),
-        length: word(desk[ASSEMBLY + 2]),
-        count: word(desk[ASSEMBLY + 3]),
-        counter: byte(desk[ASSEMBLY + 4]),
-    })
+    Reassembly {
+        message: Some(Assembly {
+            nad: byte(desk[ASSEMBLY + 1]),
+            length: word(desk[ASSEMBLY + 2]),
+            count: word(desk[ASSEMBLY + 3]),
+            counter: byte(desk[ASSEMBLY + 4]),
+        }),
+    }
 }
 
 // Puts a state.
 pub fn put(desk: &mut Desk, reassembly: Reassembly)
     ensures { desk.new ≡ with_reassembly reassembly desk.old }
 {
-    match reassembly {
-        Reassembly::Nothing => desk[ASSEMBLY] = 0,
-        Reassembly::Open(open) => put_open(desk, open),
+    match reassembly.message {
+        None => desk[ASSEMBLY] = 0,
+        Some(message) => put_open(desk, message),
     }
 }
 

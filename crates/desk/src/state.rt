@@ -10,9 +10,7 @@ use crate::{
     NONE, OPEN, OPEN_REQUEST, OPEN_RESPONSE, OVERRUN, RECEIVED, REQUEST, SENDING, SIGNALS, SUCCESS,
     WAIT, WRITTEN, byte, word,
 };
-use master::state::{
-    Current, Last, Message, Opened, Plan, Reception, Requested, Sending, State, Status, Transfer,
-};
+use master::state::{Message, Opened, Plan, Reception, Sending, State, Status, Transfer};
 
 // Takes the state.
 pub fn take(desk: &Desk) -> State
@@ -33,10 +31,8 @@ fn pending(desk: &Desk) -> [bool; FRAMES]
     ensures { result ≡ pending_on desk.now }
 {
     let mut pending = [false; FRAMES];
-    let mut f: usize = 0;
-    while f < FRAMES {
+    for f in 0..FRAMES {
         pending[f] = desk[f] == 1;
-        f += 1;
     }
     pending
 }
@@ -53,25 +49,17 @@ fn plan(desk: &Desk) -> Plan
 }
 
 // The current entry.
-fn current(n: u32) -> Current
+fn current(n: u32) -> Option<u16>
     ensures { result ≡ current_of n }
 {
-    if n == NONE {
-        Current::None
-    } else {
-        Current::Entry(word(n))
-    }
+    if n == NONE { None } else { Some(word(n)) }
 }
 
 // The requested schedule.
-fn requested(n: u32) -> Requested
+fn requested(n: u32) -> Option<u16>
     ensures { result ≡ requested_of n }
 {
-    if n == NONE {
-        Requested::None
-    } else {
-        Requested::Schedule(word(n))
-    }
+    if n == NONE { None } else { Some(word(n)) }
 }
 
 // The transfer record.
@@ -107,10 +95,8 @@ fn nine(desk: &Desk) -> [u8; 9]
     ensures { result ≡ nine_on desk.now }
 {
     let mut bytes = [0u8; 9];
-    let mut i: usize = 0;
-    while i < 9 {
+    for i in 0..9 {
         bytes[i] = byte(desk[BYTES + i]);
-        i += 1;
     }
     bytes
 }
@@ -153,10 +139,8 @@ fn received(desk: &Desk) -> [Reception; SIGNALS]
     ensures { result ≡ received_on desk.now }
 {
     let mut received = [Reception::never(); SIGNALS];
-    let mut s: usize = 0;
-    while s < SIGNALS {
+    for s in 0..SIGNALS {
         received[s] = reception(desk[RECEIVED + s]);
-        s += 1;
     }
     received
 }
@@ -169,7 +153,7 @@ fn reception(n: u32) -> Reception
         Reception::never()
     } else {
         Reception {
-            last: Last::Placement(word(n)),
+            last: Some(word(n)),
         }
     }
 }
@@ -178,28 +162,20 @@ fn reception(n: u32) -> Reception
 pub fn put(desk: &mut Desk, state: State)
     ensures { desk.new ≡ with_state state desk.old }
 {
-    let pending = state.pending;
-    let plan = state.plan;
-    let transfer = state.transfer;
-    let message = state.message;
-    let status = state.status;
-    let received = state.received;
-    put_pending(desk, &pending);
-    put_plan(desk, plan);
-    put_transfer(desk, transfer);
-    put_message(desk, message);
-    put_status(desk, status);
-    put_received(desk, received);
+    put_pending(desk, &state.pending);
+    put_plan(desk, state.plan);
+    put_transfer(desk, state.transfer);
+    put_message(desk, state.message);
+    put_status(desk, state.status);
+    put_received(desk, &state.received);
 }
 
 // Puts the pending bits.
 fn put_pending(desk: &mut Desk, pending: &[bool; FRAMES])
     ensures { desk.new ≡ with_pending pending.now desk.old }
 {
-    let mut f: usize = 0;
-    while f < FRAMES {
+    for f in 0..FRAMES {
         desk[f] = bit(pending[f]);
-        f += 1;
     }
 }
 
@@ -207,30 +183,28 @@ fn put_pending(desk: &mut Desk, pending: &[bool; FRAMES])
 fn put_plan(desk: &mut Desk, plan: Plan)
     ensures { desk.new ≡ with_plan plan desk.old }
 {
-    let current = plan.current;
-    let requested = plan.requested;
     desk[WAIT] = plan.wait as u32;
-    desk[ENTRY] = entry_number(current);
-    desk[REQUEST] = schedule_number(requested);
+    desk[ENTRY] = entry_number(plan.current);
+    desk[REQUEST] = schedule_number(plan.requested);
 }
 
 // An entry as a number.
-fn entry_number(current: Current) -> u32
+fn entry_number(current: Option<u16>) -> u32
     ensures { result ≡ entry_number current }
 {
     match current {
-        Current::None => NONE,
-        Current::Entry(e) => e as u32,
+        None => NONE,
+        Some(e) => e as u32,
     }
 }
 
 // A schedule as a number.
-fn schedule_number(requested: Requested) -> u32
+fn schedule_number(requested: Option<u16>) -> u32
     ensures { result ≡ schedule_number requested }
 {
     match requested {
-        Requested::None => NONE,
-        Requested::Schedule(n) => n as u32,
+        None => NONE,
+        Some(n) => n as u32,
     }
 }
 
@@ -238,12 +212,10 @@ fn schedule_number(requested: Requested) -> u32
 fn put_transfer(desk: &mut Desk, transfer: Transfer)
     ensures { desk.new ≡ with_transfer transfer desk.old }
 {
-    let opened = transfer.opened;
-    let bytes = transfer.bytes;
-    desk[OPEN] = open_number(opened);
+    desk[OPEN] = open_number(transfer.opened);
     desk[COUNT] = transfer.count as u32;
     desk[WRITTEN] = bit(transfer.written);
-    put_nine(desk, &bytes);
+    put_nine(desk, &transfer.bytes);
 }
 
 // What is open as a number.
@@ -262,10 +234,8 @@ fn open_number(opened: Opened) -> u32
 fn put_nine(desk: &mut Desk, bytes: &[u8; 9])
     ensures { desk.new ≡ with_nine bytes.now desk.old }
 {
-    let mut i: usize = 0;
-    while i < 9 {
+    for i in 0..9 {
         desk[BYTES + i] = wide(bytes[i]);
-        i += 1;
     }
 }
 
@@ -302,14 +272,11 @@ fn put_status(desk: &mut Desk, status: Status)
 }
 
 // Puts the placements received last.
-fn put_received(desk: &mut Desk, received: [Reception; SIGNALS])
-    ensures { desk.new ≡ with_received received desk.old }
+fn put_received(desk: &mut Desk, received: &[Reception; SIGNALS])
+    ensures { desk.new ≡ with_received received.now desk.old }
 {
-    let mut s: usize = 0;
-    while s < SIGNALS {
-        let reception = received[s];
-        desk[RECEIVED + s] = reception_number(reception);
-        s += 1;
+    for s in 0..SIGNALS {
+        desk[RECEIVED + s] = reception_number(received[s]);
     }
 }
 
@@ -317,10 +284,9 @@ fn put_received(desk: &mut Desk, received: [Reception; SIGNALS])
 fn reception_number(reception: Reception) -> u32
     ensures { result ≡ reception_number reception.last }
 {
-    let last = reception.last;
-    match last {
-        Last::Never => NONE,
-        Last::Placement(k) => k as u32,
+    match reception.last {
+        None => NONE,
+        Some(k) => k as u32,
     }
 }
 

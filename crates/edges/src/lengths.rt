@@ -1,14 +1,10 @@
 // Lengths of messages: how many frames they take, and what is refused.
 use crate::show;
 use transport::cutting;
-use transport::cutting::Counted;
 
 // The number of frames, 0 where the length is refused.
 fn frames(length: usize) -> u16 {
-    match cutting::count(length) {
-        Counted::Frames(frames) => frames,
-        Counted::Refused(_) => 0,
-    }
+    cutting::count(length).unwrap_or(0)
 }
 
 // The numbers of frames.
@@ -47,11 +43,11 @@ fn length(rt: HostRuntime, n: usize) {
 // The number of frames, or the refusal.
 fn counted(rt: HostRuntime, n: usize) {
     match cutting::count(n) {
-        Counted::Frames(frames) => {
+        Ok(frames) => {
             show::decimal(rt, frames as u64);
             show::text(rt, b" frames");
         }
-        Counted::Refused(refusal) => {
+        Err(refusal) => {
             show::refusal(rt, refusal);
         }
     }

@@ -1,14 +1,14 @@
 -- What passes between the core and a host written in C.
 use Rattle.std.specs.Prelude.{ℕ, ◌+◌, ◌*◌, cond, eqb, length}
-use Rattle.cluster.specs.declared.Verdict.{Verdict}
 use Rattle.cluster.specs.Answers.{verdict_told}
-use Rattle.timing.specs.declared.Judgement.{Judgement}
 use Rattle.timing.specs.Judge.{judgement_told}
 use Rattle.wire.specs.Answers.{told}
 use Rattle.refusal.specs.Answers.{value_told}
-use Rattle.wire.specs.declared.Answer.{Answer}
+use Rattle.wire.specs.Answers.{Answer}
 use Rattle.wire.specs.declared.checksum.Model.{Model}
 use Rattle.wire.specs.declared.checksum.Model.TheVariants.{Classic, Enhanced}
+use Rattle.cluster.specs.Check.{Verdict}
+use Rattle.timing.specs.Judge.{Judgement}
 
 -- the low byte is the value, the next byte the refusal number of document 01, 0 for none
 unfoldable pub coded : Answer → ℕ

@@ -12,10 +12,7 @@ ghost use Rattle.cluster.specs.Check.{taken_of};
 ghost use Rattle.timing.specs.Judge.{judge_of};
 ghost use Rattle.host.specs.Coded.{coded as codedOf, table_coded, judge_coded, wish_of};
 
-use cluster::Verdict;
 use refusal::Refusal;
-use timing::Judgement;
-use wire::Answer;
 use wire::checksum::Model;
 
 // Builds the protected identifier of an identifier.
@@ -52,8 +49,8 @@ pub extern "C" fn lin_check(table: &[u16]) -> u32
     ensures { result ≡ table_coded (taken_of table.now) }
 {
     match cluster::taken(table) {
-        Verdict::Accepted => 0,
-        Verdict::Refused(refusal) => placed(refusal),
+        Ok(()) => 0,
+        Err(refusal) => placed(refusal),
     }
 }
 
@@ -64,19 +61,19 @@ pub extern "C" fn lin_judge(table: &[u16], tick: u32, bit: u32) -> u32
     ensures { result ≡ judge_coded (judge_of table.now tick bit) }
 {
     match timing::judge(table, tick, bit) {
-        Judgement::Holds => 0,
-        Judgement::Short(e) => (e as u32) + 16777216,
-        Judgement::Refused(refusal) => placed(refusal),
+        Ok(None) => 0,
+        Ok(Some(e)) => (e as u32) + 16777216,
+        Err(refusal) => placed(refusal),
     }
 }
 
 // An answer as one number.
-fn coded(answer: Answer) -> u16
+fn coded(answer: Result<u8, Refusal>) -> u16
     ensures { result ≡ codedOf answer }
 {
     match answer {
-        Answer::Byte(byte) => byte as u16,
-        Answer::Refused(refusal) => 256 * (refusal.number as u16),
+        Ok(byte) => byte as u16,
+        Err(refusal) => 256 * (refusal.number as u16),
     }
 }
 

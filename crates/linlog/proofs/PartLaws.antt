@@ -1,5 +1,5 @@
 -- A part of a log is reported and kept, and a last line is reported: the two equations of `in_parts`.
-use Rattle.std.proofs.Common.{◌≡◌, ℕ, suc, ◌+◌, ◌*◌, ◌%◌, ◌^◌, ◌<◌, ◌≤◌, false, List, [], ◌∷◌, ◌++◌, length, take, drop, set, Option, None, Some, sym, refl, ap, ◌∙◌, append_assoc, arith, take-append-drop, length-take, length-take-le, take_at}
+use Rattle.std.proofs.Common.{Ok, ◌≡◌, ℕ, suc, ◌+◌, ◌*◌, ◌%◌, ◌^◌, ◌<◌, ◌≤◌, false, List, [], ◌∷◌, ◌++◌, length, take, drop, set, Option, None, Some, sym, refl, ap, ◌∙◌, append_assoc, arith, take-append-drop, length-take, length-take-le, take_at}
 use Rattle.std.proofs.lemmas.Option.{none-some}
 use native.Mathlib.Nat.{min-le_left}
 use lib.Seq.{take-append-add, set_split}
@@ -16,22 +16,29 @@ use Rattle.linlog.specs.Part.{line_kept, Reports, ended, Ends, Fails, Goes, Turn
 
 -- ---- one part
 
+-- the built-in table is taken, so that the report of a part is no refusal
+pub is_reported : (n : ℕ) (t text out : List ℕ) → longest_row * length text ≤ length out → t ≡ built_in
+    → (reported t n (length out) text).report
+    ≡ Ok (record { lines = length (whole_lines [] text); used = characters_of (whole_lines [] text); put = length (rows_of built_in n (whole_lines [] text)) })
+unfolding reporting
+is_reported n t text out room table = rw (table, part_reported built_in n (length out) text built_in_taken room)
+
 module _ (log r : Log) (t text out : List ℕ) (w : Written) (after : List ℕ)
-    (room : longest_row * length text ≤ length out) (table : t ≡ built_in) (leaves : Leaves (reported t log.number (length out) text) out w after) where
+    (room : longest_row * length text ≤ length out) (table : t ≡ built_in) (leaves : Leaves (reported t log.number (length out) text) out (Ok w) after) where
   -- all whole lines of the part are reported
   whole : reported t log.number (length out) text ≡ reporting built_in log.number (whole_lines [] text)
   whole = rw table (part_reported built_in log.number (length out) text built_in_taken room)
 
-  handed : w ≡ (reporting built_in log.number (whole_lines [] text)).report
+  handed : Ok w ≡ (reporting built_in log.number (whole_lines [] text)).report
   handed = leaves.handed ∙ ap (λ (o : Outcome). o.report) whole
 
   used : w.used ≡ characters_of (whole_lines [] text)
   unfolding reporting
-  used = ap (λ (v : Written). v.used) handed
+  used = let h = handed in cc
 
   lines : w.lines ≡ length (whole_lines [] text)
   unfolding reporting
-  lines = ap (λ (v : Written). v.lines) handed
+  lines = let h = handed in cc
 
   -- what was kept stands before what is behind the part
   pub step : (kept rest : List ℕ) → r.number ≡ (log.number + w.lines) % 2 ^ 64 → Fronts (kept_of text w.used) text r.kept kept

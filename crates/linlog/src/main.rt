@@ -148,7 +148,7 @@ fn whole_lines(
     ensures { Reports log (take n text.old) out.old result text.new out.new }
 {
     let table = table();
-    let written = report::write(&table, log.number, &text[..n], out);
+    let written = report::write(&table, log.number, &text[..n], out).unwrap();
     let goes_on = write_out(rt, &out[..written.put]);
     Log {
         number: log.number.wrapping_add(written.lines as u64),

@@ -8,8 +8,6 @@ use lib.Dec.{eqb}
 use borrow.Author.Tests.{ltb-true, leb-true, eqb-true, eq-eqb}
 use Rattle.refusal.specs.Numbers.{buffer, state}
 use Rattle.transport.proofs.Tests.{and_left, and_right}
-use Rattle.cluster.specs.declared.Verdict.{Verdict}
-use Rattle.cluster.specs.declared.Verdict.TheVariants.{Accepted}
 use Rattle.cluster.specs.Table.{frame_count}
 use Rattle.cluster.specs.Check.{taken_of, TakenTable, RightTable}
 use Rattle.cluster.proofs.Accepted.{then_first, then_second}
@@ -22,18 +20,20 @@ use Rattle.master.specs.Transfers.{format_of, is_open, open_length, open_identif
 use Rattle.master.specs.Fits.{entry_there, schedule_there, frame_there, wait_fits, pending_fits, can_open, count_fits, message_fits, state_fits}
 use Rattle.master.specs.Admit.{unless, buffer_size, admitted}
 use Rattle.cluster.proofs.TakenLaws.{taken_right}
+use Rattle.std.specs.Prelude.{Ok}
+use Rattle.cluster.specs.Check.{Verdict}
 
 -- a test in front of a verdict that accepts holds, and what is behind it accepts
-pub unless_test : (b : Bool) (n : ℕ) (v : Verdict) → unless b n v ≡ Accepted → b ≡ true
+pub unless_test : (b : Bool) (n : ℕ) (v : Verdict) → unless b n v ≡ Ok tt → b ≡ true
 unless_test true n v h = refl
 unless_test false n v h = cc
 
-pub unless_rest : (b : Bool) (n : ℕ) (v : Verdict) → unless b n v ≡ Accepted → v ≡ Accepted
+pub unless_rest : (b : Bool) (n : ℕ) (v : Verdict) → unless b n v ≡ Ok tt → v ≡ Ok tt
 unless_rest true n v h = h
 unless_rest false n v h = cc
 
-module _ (t : List ℕ) (n : ℕ) (s : State) (h : admitted t n s ≡ Accepted) where
-  behind : unless (eqb n (buffer_size t)) buffer (unless (state_fits t s) state Accepted) ≡ Accepted
+module _ (t : List ℕ) (n : ℕ) (s : State) (h : admitted t n s ≡ Ok tt) where
+  behind : unless (eqb n (buffer_size t)) buffer (unless (state_fits t s) state (Ok tt)) ≡ Ok tt
   unfolding admitted
   behind = then_second (taken_of t) _ h
 
@@ -51,10 +51,10 @@ module _ (t : List ℕ) (n : ℕ) (s : State) (h : admitted t n s ≡ Accepted) 
 
   -- the state fits
   pub admitted_fits : state_fits t s ≡ true
-  admitted_fits = unless_test (state_fits t s) state Accepted (unless_rest (eqb n (buffer_size t)) buffer _ behind)
+  admitted_fits = unless_test (state_fits t s) state (Ok tt) (unless_rest (eqb n (buffer_size t)) buffer _ behind)
 
 -- what admits is just these three
-pub admits : (t : List ℕ) (n : ℕ) (s : State) → TakenTable t → n ≡ buffer_size t → state_fits t s ≡ true → admitted t n s ≡ Accepted
+pub admits : (t : List ℕ) (n : ℕ) (s : State) → TakenTable t → n ≡ buffer_size t → state_fits t s ≡ true → admitted t n s ≡ Ok tt
 unfolding admitted
 admits t n s ok e f = rw (ok, eq-eqb n (buffer_size t) e, f)
 

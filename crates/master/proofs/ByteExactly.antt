@@ -17,29 +17,29 @@ use Rattle.transport.proofs.Tests.{whether}
 use Rattle.master.specs.declared.state.Opened.{Opened}
 use Rattle.master.specs.declared.state.Opened.TheVariants.{Frame, Request, Response}
 use Rattle.master.specs.declared.state.State.{State}
-use Rattle.master.specs.declared.byte.ByteAnswer.{ByteAnswer}
 use Rattle.master.specs.declared.byte.ByteAnswer.TheVariants as byte
 use Rattle.master.specs.Transfers.{format_of, open_length, open_checksum, sends}
 use Rattle.master.proofs.Tests.{never}
 use Rattle.master.proofs.Verdicts.{byte_count, byte_length_high}
-use Rattle.cluster.specs.declared.Verdict.TheVariants as verdict
 use Rattle.master.specs.Byte.{byte_verdict, byte_of, early, sent_byte, checksum_right, accepted, last_byte, received_byte, byte_effect}
+use Rattle.std.specs.Prelude.{Ok}
+use Rattle.master.specs.Answers.{ByteResult}
 
 -- ---- the paper's sentences
 
 -- "Sent frames: the byte must equal the copied one; the first difference closes the transfer as failed, the last equal byte as successful.": the nine copied
 -- bytes, how many passed before, the data bytes, the byte and the answer
-pub record SentSays (copy : List ℕ) (count n b : ℕ) (a : ByteAnswer) : Type 0 where
-  pub more : (a ≡ byte.More) ↔ ((b ≡ get_or copy count 0) × (count < n))
-  pub success : (a ≡ byte.Success) ↔ ((b ≡ get_or copy count 0) × (count ≡ n))
-  pub failure : (a ≡ byte.Failure) ↔ ¬ (b ≡ get_or copy count 0)
+pub record SentSays (copy : List ℕ) (count n b : ℕ) (a : ByteResult) : Type 0 where
+  pub more : (a ≡ Ok byte.More) ↔ ((b ≡ get_or copy count 0) × (count < n))
+  pub success : (a ≡ Ok byte.Success) ↔ ((b ≡ get_or copy count 0) × (count ≡ n))
+  pub failure : (a ≡ Ok byte.Failure) ↔ ¬ (b ≡ get_or copy count 0)
 
 -- "Received frames: after length + 1 bytes a right checksum stores the data and succeeds; a wrong one stores nothing and fails.": what success answers, the
 -- data's checksum, how many came before, the data bytes, the byte and the answer
-pub record ReceivedSays (well : ByteAnswer) (sum count n b : ℕ) (a : ByteAnswer) : Type 0 where
-  pub more : (a ≡ byte.More) ↔ (count < n)
+pub record ReceivedSays (well : ByteResult) (sum count n b : ℕ) (a : ByteResult) : Type 0 where
+  pub more : (a ≡ Ok byte.More) ↔ (count < n)
   pub success : (a ≡ well) ↔ ((count ≡ n) × (b ≡ sum))
-  pub failure : (a ≡ byte.Failure) ↔ ((count ≡ n) × ¬ (b ≡ sum))
+  pub failure : (a ≡ Ok byte.Failure) ↔ ((count ≡ n) × ¬ (b ≡ sum))
 
 module _ (t : List ℕ) (s : State) (bs : List ℕ) (b : ℕ) where
   abbrev copy : List ℕ
@@ -51,23 +51,23 @@ module _ (t : List ℕ) (s : State) (bs : List ℕ) (b : ℕ) where
   abbrev o : Opened
   o = s.transfer.opened
 
-  abbrev answer : ByteAnswer
+  abbrev answer : ByteResult
   answer = (byte_effect t s bs b).given.answer
 
   -- ---- what the master sends
 
   taken_failure : sends t s.transfer.opened ≡ true → eqb (get_or s.transfer.bytes s.transfer.count 0) b ≡ false
-      → (byte_effect t s bs b).given.answer ≡ byte.Failure
+      → (byte_effect t s bs b).given.answer ≡ Ok byte.Failure
   unfolding byte_effect sent_byte
   taken_failure y e = rw (y, e)
 
   taken_more : sends t s.transfer.opened ≡ true → eqb (get_or s.transfer.bytes s.transfer.count 0) b ≡ true → early t s.transfer ≡ true
-      → (byte_effect t s bs b).given.answer ≡ byte.More
+      → (byte_effect t s bs b).given.answer ≡ Ok byte.More
   unfolding byte_effect sent_byte
   taken_more y e z = rw (y, e, z)
 
   taken_success : sends t s.transfer.opened ≡ true → eqb (get_or s.transfer.bytes s.transfer.count 0) b ≡ true → early t s.transfer ≡ false
-      → (byte_effect t s bs b).given.answer ≡ byte.Success
+      → (byte_effect t s bs b).given.answer ≡ Ok byte.Success
   unfolding byte_effect sent_byte
   taken_success y e z = rw (y, e, z)
 
@@ -77,17 +77,17 @@ module _ (t : List ℕ) (s : State) (bs : List ℕ) (b : ℕ) where
       (λ e.
       let q = sym (eqb-true (get_or copy count 0) b e) in
       whether (early t s.transfer)
-      (λ z. let m = ltb-true count (open_length t o) z in let a : (byte_effect t s bs b).given.answer ≡ byte.More = taken_more y e z in rw a (record {
+      (λ z. let m = ltb-true count (open_length t o) z in let a : (byte_effect t s bs b).given.answer ≡ (Ok byte.More) = taken_more y e z in rw a (record {
         more = (λ c. (q, m), λ w. refl);
         success = (λ c. let u : ◌≡◌ {A = ℕ} 0 1 = cc in absurd (omega arith), λ w. absurd (omega (arith, w.1)));
         failure = (λ c. let u : ◌≡◌ {A = ℕ} 0 1 = cc in absurd (omega arith), λ w. absurd (w q));
       }))
-      (λ z. let m = ltb-false count (open_length t o) z in let a : (byte_effect t s bs b).given.answer ≡ byte.Success = taken_success y e z in rw a (record {
+      (λ z. let m = ltb-false count (open_length t o) z in let a : (byte_effect t s bs b).given.answer ≡ (Ok byte.Success) = taken_success y e z in rw a (record {
         more = (λ c. let u : ◌≡◌ {A = ℕ} 0 1 = cc in absurd (omega arith), λ w. absurd (omega (arith, w.1)));
         success = (λ c. (q, omega arith), λ w. refl);
         failure = (λ c. let u : ◌≡◌ {A = ℕ} 0 1 = cc in absurd (omega arith), λ w. absurd (w q));
       })))
-      (λ e. let n = eqb-false (get_or copy count 0) b e in let a : (byte_effect t s bs b).given.answer ≡ byte.Failure = taken_failure y e in rw a (record {
+      (λ e. let n = eqb-false (get_or copy count 0) b e in let a : (byte_effect t s bs b).given.answer ≡ (Ok byte.Failure) = taken_failure y e in rw a (record {
         more = (λ c. let u : ◌≡◌ {A = ℕ} 0 1 = cc in absurd (omega arith), λ w. absurd (n (sym w.0)));
         success = (λ c. let u : ◌≡◌ {A = ℕ} 0 1 = cc in absurd (omega arith), λ w. absurd (n (sym w.0)));
         failure = (λ c w. n (sym w), λ w. refl);
@@ -111,12 +111,12 @@ module _ (t : List ℕ) (s : State) (bs : List ℕ) (b : ℕ) where
   unfolding checksum_right
   right_exactly h q = rw (← q, last_there h, data_there) (eqb-true b (open_checksum t o (take count copy)), eq-eqb b (open_checksum t o (take count copy)))
 
-  received_more : sends t s.transfer.opened ≡ false → early t s.transfer ≡ true → (byte_effect t s bs b).given.answer ≡ byte.More
+  received_more : sends t s.transfer.opened ≡ false → early t s.transfer ≡ true → (byte_effect t s bs b).given.answer ≡ Ok byte.More
   unfolding byte_effect received_byte
   received_more y z = rw (y, z)
 
   received_failure : sends t s.transfer.opened ≡ false → early t s.transfer ≡ false
-      → checksum_right t s.transfer.opened (set s.transfer.bytes s.transfer.count b) ≡ false → (byte_effect t s bs b).given.answer ≡ byte.Failure
+      → checksum_right t s.transfer.opened (set s.transfer.bytes s.transfer.count b) ≡ false → (byte_effect t s bs b).given.answer ≡ Ok byte.Failure
   unfolding byte_effect received_byte last_byte
   received_failure y z c = rw (y, z, c)
 
@@ -127,16 +127,16 @@ module _ (t : List ℕ) (s : State) (bs : List ℕ) (b : ℕ) where
   received_well y z c = rw (y, z, c)
 
   -- a success is neither more nor failure
-  abbrev Well : ByteAnswer → Type 0
-  Well well = ¬ (well ≡ byte.More) × ¬ (well ≡ byte.Failure)
+  abbrev Well : ByteResult → Type 0
+  Well well = ¬ (well ≡ Ok byte.More) × ¬ (well ≡ Ok byte.Failure)
 
-  received_says : (well : ByteAnswer) → Well well → (accepted t s o (set copy count b) bs).given.answer ≡ well → sends t o ≡ false → length copy ≡ 9
+  received_says : (well : ByteResult) → Well well → (accepted t s o (set copy count b) bs).given.answer ≡ well → sends t o ≡ false → length copy ≡ 9
       → open_length t o ≤ 8 → count ≤ open_length t o → ReceivedSays well (open_checksum t o (take (open_length t o) copy)) count (open_length t o) b answer
   received_says well d is y nine high l =
       whether (early t s.transfer)
       (λ z.
       let m = ltb-true count (open_length t o) z in
-      let a : (byte_effect t s bs b).given.answer ≡ byte.More = received_more y z in
+      let a : (byte_effect t s bs b).given.answer ≡ (Ok byte.More) = received_more y z in
       rw a (record {
         more = (λ c. m, λ w. refl);
         success = (λ c. absurd (d.0 (sym c)), λ w. absurd (omega (arith, w.0)));
@@ -155,7 +155,7 @@ module _ (t : List ℕ) (s : State) (bs : List ℕ) (b : ℕ) where
         failure = (λ q. absurd (d.1 q), λ w. absurd (w.1 (exact.0 c)));
       }))
       (λ c.
-      let a : (byte_effect t s bs b).given.answer ≡ byte.Failure = received_failure y z c in
+      let a : (byte_effect t s bs b).given.answer ≡ (Ok byte.Failure) = received_failure y z c in
       rw a (record {
         more = (λ q. let u : ◌≡◌ {A = ℕ} 0 1 = cc in absurd (omega arith), λ w. absurd (omega arith));
         success = (λ q. absurd (d.1 (sym q)), λ w. never (sym c ∙ exact.1 w.1));
@@ -165,17 +165,21 @@ module _ (t : List ℕ) (s : State) (bs : List ℕ) (b : ℕ) where
 -- ---- every accepted byte
 
 -- what is open decides: a frame with its own length and checksum, a request or response of eight bytes, classic under 60 or 61
-pub record ByteSays (t : List ℕ) (s : State) (b : ℕ) (a : ByteAnswer) : Type 0 where
+pub record ByteSays (t : List ℕ) (s : State) (b : ℕ) (a : ByteResult) : Type 0 where
   pub sent_frame : (f : ℕ) → s.transfer.opened ≡ Frame f → published t f ≡ true
       → SentSays s.transfer.bytes s.transfer.count (frame_length t f) b a
   pub request : s.transfer.opened ≡ Request → SentSays s.transfer.bytes s.transfer.count 8 b a
   pub received_frame : (f : ℕ) → s.transfer.opened ≡ Frame f → published t f ≡ false
-      → ReceivedSays byte.Success (checksum_byte (identifier t f) (frame_model t f) (take (frame_length t f) s.transfer.bytes))
+      → ReceivedSays (Ok byte.Success) (checksum_byte (identifier t f) (frame_model t f) (take (frame_length t f) s.transfer.bytes))
       s.transfer.count (frame_length t f) b a
   pub response : s.transfer.opened ≡ Response
-      → ReceivedSays byte.Response (checksum_byte 61 Classic (take 8 s.transfer.bytes)) s.transfer.count 8 b a
+      → ReceivedSays (Ok (byte.Response (take 8 (set s.transfer.bytes s.transfer.count b)))) (checksum_byte 61 Classic (take 8 s.transfer.bytes)) s.transfer.count 8 b a
 
-module _ (t : List ℕ) (s : State) (bs : List ℕ) (b : ℕ) (nine : length s.transfer.bytes ≡ 9) (h : byte_verdict t (length bs) s ≡ verdict.Accepted) where
+module _ (t : List ℕ) (s : State) (bs : List ℕ) (b : ℕ) (nine : length s.transfer.bytes ≡ 9) (h : byte_verdict t (length bs) s ≡ Ok tt) where
+  -- the eight data bytes, where the byte is the ninth
+  abbrev got : List ℕ
+  got = take 8 (set s.transfer.bytes s.transfer.count b)
+
   effect_exactly : ByteSays t s b (byte_effect t s bs b).given.answer
   unfolding format_of open_checksum accepted
   effect_exactly =
@@ -188,17 +192,17 @@ module _ (t : List ℕ) (s : State) (bs : List ℕ) (b : ℕ) (nine : length s.t
             let l : open_length t s.transfer.opened ≡ frame_length t f = rw e in
             let ds = take (frame_length t f) s.transfer.bytes in
             let c : open_checksum t s.transfer.opened ds ≡ checksum_byte (identifier t f) (frame_model t f) ds = rw e in
-            rw (l, c) at (received_says t s bs b byte.Success success_well (rw e) (rw (e, p)) nine high low);
+            rw (l, c) at (received_says t s bs b (Ok byte.Success) success_well (rw e) (rw (e, p)) nine high low);
         response = λ e.
             let l : open_length t s.transfer.opened ≡ 8 = rw e in
             let c : open_checksum t s.transfer.opened (take 8 s.transfer.bytes) ≡ checksum_byte 61 Classic (take 8 s.transfer.bytes) = rw e in
-            rw (l, c) at (received_says t s bs b byte.Response response_well (rw e) (rw e) nine high low);
+            rw (l, c) at (received_says t s bs b (Ok (byte.Response got)) response_well (rw e) (rw e) nine high low);
       }
     where
-      success_well : ¬ (byte.Success ≡ byte.More) × ¬ (byte.Success ≡ byte.Failure)
+      success_well : ¬ (◌≡◌ {A = ByteResult} (Ok byte.Success) (Ok byte.More)) × ¬ (◌≡◌ {A = ByteResult} (Ok byte.Success) (Ok byte.Failure))
       success_well = ((λ e. let u : ◌≡◌ {A = ℕ} 0 1 = cc in omega arith), λ e. let u : ◌≡◌ {A = ℕ} 0 1 = cc in omega arith)
 
-      response_well : ¬ (byte.Response ≡ byte.More) × ¬ (byte.Response ≡ byte.Failure)
+      response_well : ¬ (◌≡◌ {A = ByteResult} (Ok (byte.Response got)) (Ok byte.More)) × ¬ (◌≡◌ {A = ByteResult} (Ok (byte.Response got)) (Ok byte.Failure))
       response_well = ((λ e. let u : ◌≡◌ {A = ℕ} 0 1 = cc in omega arith), λ e. let u : ◌≡◌ {A = ℕ} 0 1 = cc in omega arith)
 
   -- an accepted byte, of every state; its nine bytes are nine

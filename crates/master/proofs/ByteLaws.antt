@@ -7,8 +7,6 @@ use native.Mathlib.Omega.{arith}
 use lib.ListN.{length, get_or, take, length-take}
 use Rattle.cluster.specs.Check.{RightTable}
 use Rattle.cluster.specs.Table.{published}
-use Rattle.cluster.specs.declared.Verdict.{Verdict}
-use Rattle.cluster.specs.declared.Verdict.TheVariants.{Accepted, Refused}
 use Rattle.transport.specs.Reassembly.{written}
 use Rattle.transport.proofs.WrittenLaws.{written_length, written_before, written_behind}
 use Rattle.transport.proofs.Tests.{order}
@@ -16,21 +14,23 @@ use Rattle.cluster.proofs.Accepted.{then_first}
 use Rattle.master.specs.declared.state.Opened.{Opened}
 use Rattle.master.specs.declared.state.Opened.TheVariants.{Nothing, Frame, Request, Response}
 use Rattle.master.specs.declared.state.State.{State}
-use Rattle.master.specs.declared.byte.ByteAnswer.{ByteAnswer}
-use Rattle.master.specs.declared.byte.ByteAnswer.TheVariants as answer
-use Rattle.master.specs.declared.byte.Took.{Took}
+use Rattle.master.specs.Answers.{Took}
 use Rattle.master.specs.Admit.{admitted, answered, buffer_size, Step}
 use Rattle.master.specs.Answers.{successful}
 use Rattle.master.specs.Fits.{frame_there}
 use Rattle.master.specs.Transfers.{format_of, open_length, sends, frame_data}
 use Rattle.master.specs.Closing.{failed, pending_sent, sent, received}
-use Rattle.master.specs.Byte.{no_response, passed, with_byte, sent_byte, accepted, byte_effect, byte_verdict, byte_of}
+use Rattle.master.specs.Byte.{passed, with_byte, sent_byte, accepted, byte_effect, byte_verdict, byte_of}
 use Rattle.master.proofs.Admitted.{admitted_table, admitted_size, admitted_fits, fits_clauses, open_length_high}
 use Rattle.master.proofs.Answered.{by_verdict}
 use Rattle.master.proofs.Cases.{keeping, taken_by, accepted_state}
 use Rattle.master.proofs.Lengths.{data_inside}
 use Rattle.master.proofs.PendingFits.{received_keeps}
 use Rattle.master.proofs.ReadBack.{untouched_data}
+use Rattle.std.specs.Prelude.{Ok, Err}
+use Rattle.cluster.specs.Check.{Verdict}
+use Rattle.master.specs.Answers.{ByteResult}
+use Rattle.master.specs.Answers.{handed}
 
 -- ---- the pending bits
 
@@ -43,7 +43,7 @@ accepted_successful t s Request nine bs = refl
 accepted_successful t s Response nine bs = refl
 
 -- the pending bits behind an answer
-abbrev pub bits_after : State → ByteAnswer → List Bool
+abbrev pub bits_after : State → ByteResult → List Bool
 bits_after s a = cond (successful a) (pending_sent s.transfer.opened s.transfer.written s.pending) s.pending
 
 -- a byte in that answers success ends the pending of its frame, unless it was written since; every other one leaves the pending bits
@@ -52,7 +52,7 @@ pub byte_pending : (t : List ℕ) (s : State) (bs : List ℕ) (b : ℕ)
 unfolding byte_of byte_verdict passed failed sent received
 byte_pending t s bs b =
     by_verdict (λ (w : Step Took). w.given.state.pending ≡ bits_after s w.given.answer) (byte_verdict t (length bs) s)
-    (λ r. keeping (no_response s (answer.Refused r)) bs) (byte_effect t s bs b)
+    (λ r. keeping (handed s (Err r)) bs) (byte_effect t s bs b)
     (λ r e. refl)
     (λ a. taken_by t s bs b (λ w. w.given.state.pending ≡ bits_after s w.given.answer) (λ nine e. refl) refl (λ y. refl)
     (λ n. let o = s.transfer.opened in let nine = with_byte s.transfer b in
@@ -111,7 +111,7 @@ unfolding byte_of byte_effect
 byte_by_copy t s bs cs b e h = rw (e, h) (by_copy (byte_verdict t (length cs) s))
   where
     by_copy : (v : Verdict) →
-        (answered {A = Step Took} v (λ r. record { given = no_response s (answer.Refused r); left = bs }) (record { given = sent_byte t s b; left = bs })).given
-        ≡ (answered {A = Step Took} v (λ r. record { given = no_response s (answer.Refused r); left = cs }) (record { given = sent_byte t s b; left = cs })).given
-    by_copy Accepted = refl
-    by_copy (Refused r) = refl
+        (answered {A = Step Took} v (λ r. record { given = handed s (Err r); left = bs }) (record { given = sent_byte t s b; left = bs })).given
+        ≡ (answered {A = Step Took} v (λ r. record { given = handed s (Err r); left = cs }) (record { given = sent_byte t s b; left = cs })).given
+    by_copy (Ok tt) = refl
+    by_copy (Err r) = refl

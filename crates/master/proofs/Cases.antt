@@ -6,22 +6,23 @@ use mathlib.Core.List.{List}
 use lib.Dec.{eqb}
 use lib.ListN.{get_or}
 use Rattle.transport.proofs.Tests.{whether}
-use Rattle.master.specs.declared.state.Current.{Current}
-use Rattle.master.specs.declared.state.Current.TheVariants as current
 use Rattle.master.specs.declared.state.Opened.{Opened}
 use Rattle.master.specs.declared.state.Opened.TheVariants.{Nothing, Frame, Request, Response}
 use Rattle.master.specs.declared.state.State.{State}
 use Rattle.master.specs.declared.byte.ByteAnswer.TheVariants as byte
-use Rattle.master.specs.declared.byte.Took.{Took}
+use Rattle.master.specs.Answers.{Took}
 use Rattle.master.specs.declared.tick.TickAnswer.TheVariants as tick
-use Rattle.master.specs.declared.tick.Ticked.{Ticked}
+use Rattle.master.specs.Answers.{Ticked}
 use Rattle.master.specs.Admit.{Step}
 use Rattle.master.specs.Transfers.{is_open, sends, open_protected, opening}
 use Rattle.master.specs.Plan.{waits, waited, entry_due, begun}
 use Rattle.master.specs.Closing.{failed, sent, received}
 use Rattle.master.specs.Tick.{slot_opens, abandoned, opens_or_silent, slot_at, slot, tick_effect}
-use Rattle.master.specs.Byte.{no_response, passed, early, sent_byte, with_byte, checksum_right, accepted, last_byte, received_byte, byte_effect}
+use Rattle.master.specs.Byte.{passed, early, sent_byte, with_byte, checksum_right, accepted, last_byte, received_byte, byte_effect}
 use Rattle.master.specs.State.{with_plan, with_transfer}
+use Rattle.std.specs.Prelude.{Ok}
+use Rattle.std.specs.Prelude.{Some, None, Option}
+use Rattle.master.specs.Answers.{handed}
 
 -- a byte that changes no frame byte
 abbrev pub keeping : Took → List ℕ → Step Took
@@ -30,9 +31,9 @@ keeping r bs = record { given = r; left = bs }
 module _ (t : List ℕ) (s : State) (bs : List ℕ) (b : ℕ) (P : Step Took → Type 0) where
   -- a byte is one of more, the failing one, the last of a sent transfer, or the last of a received one with a right checksum
   pub taken_by :
-      ((nine : List ℕ) → early t s.transfer ≡ true → P (keeping (no_response (passed s nine) byte.More) bs))
-      → P (keeping (no_response (failed t s true) byte.Failure) bs)
-      → (sends t s.transfer.opened ≡ true → P (keeping (no_response (sent t s) byte.Success) bs))
+      ((nine : List ℕ) → early t s.transfer ≡ true → P (keeping (handed (passed s nine) (Ok byte.More)) bs))
+      → P (keeping (handed (failed t s true) (Ok byte.Failure)) bs)
+      → (sends t s.transfer.opened ≡ true → P (keeping (handed (sent t s) (Ok byte.Success)) bs))
       → (sends t s.transfer.opened ≡ false → P (accepted t s s.transfer.opened (with_byte s.transfer b) bs))
       → P (byte_effect t s bs b)
   unfolding byte_effect sent_byte received_byte last_byte
@@ -61,31 +62,31 @@ opened t bs m s o = with_transfer s (opening t bs s.message m o)
 
 module _ (t bs m : List ℕ) (P : Ticked → Type 0) where
   opens_by : (s : State) (o : Opened)
-      → (is_open o ≡ false → P (record { state = s; answer = tick.Silent }))
-      → (is_open o ≡ true → P (record { state = opened t bs m s o; answer = tick.Opened (open_protected t o) }))
+      → (is_open o ≡ false → P (record { state = s; answer = Ok tick.Silent }))
+      → (is_open o ≡ true → P (record { state = opened t bs m s o; answer = Ok (tick.Opened (open_protected t o)) }))
       → P (opens_or_silent t bs m s o)
   unfolding opens_or_silent
   opens_by s o silent opening = whether (is_open o) (λ y. rw y (opening y)) (λ n. rw n (silent n))
 
-  slot_by_lem : (s : State) (c : Current)
-      → (c ≡ current.None → P (record { state = s; answer = tick.Idle }))
-      → ((e : ℕ) → c ≡ current.Entry e → P (opens_or_silent t bs m (with_plan s (begun t e)) (slot_opens t s.pending s.message e)))
+  slot_by_lem : (s : State) (c : Option ℕ)
+      → (c ≡ None → P (record { state = s; answer = Ok tick.Idle }))
+      → ((e : ℕ) → c ≡ Some e → P (opens_or_silent t bs m (with_plan s (begun t e)) (slot_opens t s.pending s.message e)))
       → P (slot_at t bs m s c)
   unfolding slot_at
-  slot_by_lem s current.None idle entry = idle refl
-  slot_by_lem s (current.Entry e) idle entry = entry e refl
+  slot_by_lem s None idle entry = idle refl
+  slot_by_lem s (Some e) idle entry = entry e refl
 
   -- a tick waits, or starts a slot that is idle, silent or opens something
   pub ticked_by : (s : State)
-      → (waits s.plan ≡ true → P (record { state = with_plan s (waited s.plan); answer = tick.Waiting }))
-      → (waits s.plan ≡ false → entry_due t s.plan.requested s.plan.current ≡ current.None
-      → P (record { state = abandoned t s; answer = tick.Idle }))
-      → ((e : ℕ) → waits s.plan ≡ false → entry_due t s.plan.requested s.plan.current ≡ current.Entry e
+      → (waits s.plan ≡ true → P (record { state = with_plan s (waited s.plan); answer = Ok tick.Waiting }))
+      → (waits s.plan ≡ false → entry_due t s.plan.requested s.plan.current ≡ None
+      → P (record { state = abandoned t s; answer = Ok tick.Idle }))
+      → ((e : ℕ) → waits s.plan ≡ false → entry_due t s.plan.requested s.plan.current ≡ Some e
       → is_open (slot_opens t (abandoned t s).pending (abandoned t s).message e) ≡ false
-      → P (record { state = with_plan (abandoned t s) (begun t e); answer = tick.Silent }))
-      → ((e : ℕ) (o : Opened) → waits s.plan ≡ false → entry_due t s.plan.requested s.plan.current ≡ current.Entry e
+      → P (record { state = with_plan (abandoned t s) (begun t e); answer = Ok tick.Silent }))
+      → ((e : ℕ) (o : Opened) → waits s.plan ≡ false → entry_due t s.plan.requested s.plan.current ≡ Some e
       → o ≡ slot_opens t (abandoned t s).pending (abandoned t s).message e → is_open o ≡ true
-      → P (record { state = opened t bs m (with_plan (abandoned t s) (begun t e)) o; answer = tick.Opened (open_protected t o) }))
+      → P (record { state = opened t bs m (with_plan (abandoned t s) (begun t e)) o; answer = Ok (tick.Opened (open_protected t o)) }))
       → P (tick_effect t bs m s)
   unfolding tick_effect slot
   ticked_by s waiting idle silent opening =

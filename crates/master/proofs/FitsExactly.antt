@@ -19,17 +19,11 @@ use Rattle.transport.specs.Cutting.{is_length, message_frames}
 use Rattle.transport.proofs.CuttingLaws.{frames_one, frames_more}
 use Rattle.transport.proofs.Tests.{and_left, and_right, whether, order}
 use Rattle.master.specs.declared.state.Plan.{Plan}
-use Rattle.master.specs.declared.state.Current.{Current}
-use Rattle.master.specs.declared.state.Current.TheVariants as current
-use Rattle.master.specs.declared.state.Requested.{Requested}
-use Rattle.master.specs.declared.state.Requested.TheVariants as requested
 use Rattle.master.specs.declared.state.Opened.{Opened}
 use Rattle.master.specs.declared.state.Opened.TheVariants.{Nothing, Frame, Request, Response}
 use Rattle.master.specs.declared.state.Sending.{Sending}
 use Rattle.master.specs.declared.state.Message.{Message}
 use Rattle.master.specs.declared.state.Message.TheVariants as message
-use Rattle.master.specs.declared.state.Last.{Last}
-use Rattle.master.specs.declared.state.Last.TheVariants.{Never, Placement}
 use Rattle.master.specs.declared.state.State.{State}
 use Rattle.master.specs.Received.{last_of, last_fits, received_fits}
 use Rattle.master.specs.Transfers.{is_open, format_of}
@@ -37,12 +31,13 @@ use Rattle.master.specs.Fits.{entry_there, schedule_there, frame_there, wait_fit
 use Rattle.master.proofs.Admitted.{Fits, fits_clauses, fits_all}
 use Rattle.master.proofs.ReceivedLaws.{fits_at, at_fits}
 use Rattle.master.proofs.Tests.{and_true, never}
+use Rattle.std.specs.Prelude.{Some, None, Option}
 
 -- ---- the clauses
 
 -- an entry is running
 abbrev Runs : Plan → ℕ → Type 0
-Runs p e = p.current ≡ current.Entry e
+Runs p e = p.current ≡ Some e
 
 -- what an entry can open as frame f: the frame that it names, or a member of the list that it names, "whatever is pending now"
 abbrev OpensFrame : List ℕ → ℕ → ℕ → Type 0
@@ -56,12 +51,12 @@ FrameLeft length next = (next ≡ 0) ⊎ ((7 ≤ length) × (5 + 6 * (next - 1) 
 
 pub record Clauses (t : List ℕ) (s : State) : Type 0 where
   -- "it names a schedule, entry or frame not there"
-  pub schedule : (n : ℕ) → s.plan.requested ≡ requested.Schedule n → (e : ℕ) × (e < entry_count t) × (entry_schedule t e ≡ n)
+  pub schedule : (n : ℕ) → s.plan.requested ≡ Some n → (e : ℕ) × (e < entry_count t) × (entry_schedule t e ≡ n)
   pub entry : (e : ℕ) → Runs s.plan e → e < entry_count t
   pub frame : (f : ℕ) → s.transfer.opened ≡ Frame f → f < frame_count t
   -- "wait above the current delay (0 with no schedule)"
   pub wait : (e : ℕ) → Runs s.plan e → s.plan.wait ≤ entry_delay t e
-  pub no_wait : s.plan.current ≡ current.None → s.plan.wait ≡ 0
+  pub no_wait : s.plan.current ≡ None → s.plan.wait ≡ 0
   -- "a pending bit of a frame not published"
   pub pending : (f : ℕ) → get_or s.pending f false ≡ true → (f < frame_count t) × (published t f ≡ true)
   -- "an open transfer the current entry cannot open (a list entry can open each member of its list, whatever is pending now; for kind 2 also:
@@ -79,7 +74,7 @@ pub record Clauses (t : List ℕ) (s : State) : Type 0 where
   pub length_high : (x : Sending) → s.message ≡ message.Sending x → x.length ≤ 4095
   pub frame_left : (x : Sending) → s.message ≡ message.Sending x → FrameLeft x.length x.next
   -- document 02, Req 03: "also a last reception in a published frame or one without the signal"; of the 256 signals that a state keeps
-  pub reception : (i k : ℕ) → (get_or s.received i (record { last = Never })).last ≡ Placement k
+  pub reception : (i k : ℕ) → (get_or s.received i (record { last = None })).last ≡ Some k
       → (i < signal_count t) × (k < placement_count t) × (placement_signal t k ≡ i) × (published t (placement_frame t k) ≡ false)
 
 -- ---- the pending bits
@@ -144,11 +139,11 @@ module _ (t : List ℕ) (x : Message) (e : ℕ) where
   )
 
 -- where something is open an entry runs that opens it
-runs : (t : List ℕ) (x : Message) (c : Current) (o : Opened) → is_open o ≡ true → can_open t x c o ≡ true
-    → (e : ℕ) × (c ≡ current.Entry e) × (entry_opens t x e o ≡ true)
+runs : (t : List ℕ) (x : Message) (c : Option ℕ) (o : Opened) → is_open o ≡ true → can_open t x c o ≡ true
+    → (e : ℕ) × (c ≡ Some e) × (entry_opens t x e o ≡ true)
 unfolding can_open
-runs t x current.None o p h = never (rw p at h)
-runs t x (current.Entry e) o p h = (e, refl, h)
+runs t x None o p h = never (rw p at h)
+runs t x (Some e) o p h = (e, refl, h)
 
 -- ---- a message being sent
 
@@ -179,7 +174,7 @@ module _ (t : List ℕ) (i k : ℕ) where
   abbrev Received : Type 0
   Received = (i < signal_count t) × (k < placement_count t) × (placement_signal t k ≡ i) × (published t (placement_frame t k) ≡ false)
 
-  last_clauses : last_fits t i (Placement k) ≡ true → Received
+  last_clauses : last_fits t i (Some k) ≡ true → Received
   unfolding last_fits
   last_clauses h =
       let a = ltb i (signal_count t) in
@@ -193,14 +188,14 @@ module _ (t : List ℕ) (i k : ℕ) where
         not-true (published t (placement_frame t k)) (and_right (a && b && c) (not (published t (placement_frame t k))) h),
       )
 
-  clauses_last : Received → last_fits t i (Placement k) ≡ true
+  clauses_last : Received → last_fits t i (Some k) ≡ true
   unfolding last_fits
   clauses_last w = rw (lt-ltb i (signal_count t) w.0, lt-ltb k (placement_count t) w.1, eq-eqb (placement_signal t k) i w.2, w.3)
 
 -- ---- both directions
 
 module _ (t : List ℕ) (ok : RightTable t) (s : State) where
-  abbrev c : Current
+  abbrev c : Option ℕ
   c = s.plan.current
 
   abbrev o : Opened
@@ -232,7 +227,7 @@ module _ (t : List ℕ) (ok : RightTable t) (s : State) where
       fits_last : received_fits t 0 s.received ≡ true → (i : ℕ) → last_fits t i (last_of s.received i) ≡ true
       fits_last h i = let z : 0 + i ≡ i = omega arith in rw z at (fits_at t 0 i s.received h)
 
-      opened : (p : Opened) → o ≡ p → is_open p ≡ true → (e : ℕ) × (c ≡ current.Entry e) × (entry_opens t s.message e p ≡ true)
+      opened : (p : Opened) → o ≡ p → is_open p ≡ true → (e : ℕ) × (c ≡ Some e) × (entry_opens t s.message e p ≡ true)
       opened p q y = runs t s.message c p y (rw q at f.can_open_lem)
 
       request_kind : (e : ℕ) → entry_opens t s.message e Request ≡ true → entry_kind t e ≡ 2
@@ -259,13 +254,13 @@ module _ (t : List ℕ) (ok : RightTable t) (s : State) where
         receptions_fit = at_fits t 0 s.received (λ i b. let z : 0 + i ≡ i = omega arith in rw z (received i (last_of s.received i) refl));
       }
     where
-      there : (d : Current) → c ≡ d → entry_there t d ≡ true
-      there current.None q = refl
-      there (current.Entry e) q = lt-ltb e (entry_count t) (w.entry e q)
+      there : (d : Option ℕ) → c ≡ d → entry_there t d ≡ true
+      there None q = refl
+      there (Some e) q = lt-ltb e (entry_count t) (w.entry e q)
 
-      asked : (r : Requested) → s.plan.requested ≡ r → schedule_there t r ≡ true
-      asked requested.None q = refl
-      asked (requested.Schedule n) q =
+      asked : (r : Option ℕ) → s.plan.requested ≡ r → schedule_there t r ≡ true
+      asked None q = refl
+      asked (Some n) q =
           let v = w.schedule n q in
           lt-ltb n (schedule_count t) (rw v.2 at (schedule_below t ok v.0 v.1))
 
@@ -275,16 +270,16 @@ module _ (t : List ℕ) (ok : RightTable t) (s : State) where
       frame_there_lem Request q = refl
       frame_there_lem Response q = refl
 
-      waiting : (d : Current) → c ≡ d → wait_fits t s.plan ≡ true
-      waiting current.None q = rw q (le-leb s.plan.wait 0 (omega (arith, w.no_wait q)))
-      waiting (current.Entry e) q = rw q (le-leb s.plan.wait (entry_delay t e) (w.wait e q))
+      waiting : (d : Option ℕ) → c ≡ d → wait_fits t s.plan ≡ true
+      waiting None q = rw q (le-leb s.plan.wait 0 (omega (arith, w.no_wait q)))
+      waiting (Some e) q = rw q (le-leb s.plan.wait (entry_delay t e) (w.wait e q))
 
       opened : (p : Opened) → o ≡ p → can_open t s.message c o ≡ true
       opened Nothing q = rw q (nothing c)
         where
-          nothing : (d : Current) → can_open t s.message d Nothing ≡ true
-          nothing current.None = refl
-          nothing (current.Entry e) = refl
+          nothing : (d : Option ℕ) → can_open t s.message d Nothing ≡ true
+          nothing None = refl
+          nothing (Some e) = refl
       opened (Frame f) q = let v = w.opens_frame f q in rw (q, v.1) ((entry_opens_lem t s.message v.0 f).1 v.2)
       opened Request q =
           let v = w.opens_request q in
@@ -298,9 +293,9 @@ module _ (t : List ℕ) (ok : RightTable t) (s : State) where
       counted Request q = rw q (le-leb s.transfer.count 8 (omega (arith, w.request_bytes q)))
       counted Response q = rw q (le-leb s.transfer.count 8 (omega (arith, w.response_bytes q)))
 
-      received : (i : ℕ) (l : Last) → last_of s.received i ≡ l → last_fits t i l ≡ true
-      received i Never q = refl
-      received i (Placement k) q = clauses_last t i k (w.reception i k q)
+      received : (i : ℕ) (l : Option ℕ) → last_of s.received i ≡ l → last_fits t i l ≡ true
+      received i None q = refl
+      received i (Some k) q = clauses_last t i k (w.reception i k q)
 
       sending : (m : Message) → s.message ≡ m → message_fits m ≡ true
       sending message.None q = refl

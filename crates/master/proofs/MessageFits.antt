@@ -9,8 +9,6 @@ use Rattle.cluster.specs.Table.{entry_kind}
 use Rattle.transport.specs.Cutting.{is_length, message_frames}
 use Rattle.transport.proofs.CuttingLaws.{frames_low}
 use Rattle.transport.proofs.Tests.{and_left, whether}
-use Rattle.master.specs.declared.state.Current.{Current}
-use Rattle.master.specs.declared.state.Current.TheVariants as current
 use Rattle.master.specs.declared.state.Opened.{Opened}
 use Rattle.master.specs.declared.state.Opened.TheVariants.{Nothing, Frame, Request, Response}
 use Rattle.master.specs.declared.state.Sending as state
@@ -19,6 +17,7 @@ use Rattle.master.specs.declared.state.Message.TheVariants as message
 use Rattle.master.specs.Fits.{is_sending, entry_opens, can_open, message_fits}
 use Rattle.master.specs.Message.{sending_at, moved, message_sent, message_failed}
 use Rattle.master.proofs.Tests.{and_true}
+use Rattle.std.specs.Prelude.{Some, None, Option}
 
 -- ---- the message
 
@@ -61,10 +60,10 @@ first_frame_fits nad n h = and_true (is_length n) (ltb 0 (message_frames n)) h (
 -- ---- what the current entry can open
 
 -- nothing open, which every entry can do
-pub nothing_open : (t : List ℕ) (x : Message) (c : Current) → can_open t x c Nothing ≡ true
+pub nothing_open : (t : List ℕ) (x : Message) (c : Option ℕ) → can_open t x c Nothing ≡ true
 unfolding can_open entry_opens
-nothing_open t x current.None = refl
-nothing_open t x (current.Entry e) = refl
+nothing_open t x None = refl
+nothing_open t x (Some e) = refl
 
 entry_sending : (t : List ℕ) (x y : Message) (e : ℕ) (o : Opened) → is_sending y ≡ true → entry_opens t x e o ≡ true → entry_opens t y e o ≡ true
 unfolding entry_opens
@@ -74,7 +73,7 @@ entry_sending t x y e Request h k = and_true (eqb (entry_kind t e) 2) (is_sendin
 entry_sending t x y e Response h k = k
 
 -- what could be open can be open while a message is being sent
-pub open_sending : (t : List ℕ) (x y : Message) (c : Current) (o : Opened) → is_sending y ≡ true → can_open t x c o ≡ true → can_open t y c o ≡ true
+pub open_sending : (t : List ℕ) (x y : Message) (c : Option ℕ) (o : Opened) → is_sending y ≡ true → can_open t x c o ≡ true → can_open t y c o ≡ true
 unfolding can_open
-open_sending t x y current.None o h k = k
-open_sending t x y (current.Entry e) o h k = entry_sending t x y e o h k
+open_sending t x y None o h k = k
+open_sending t x y (Some e) o h k = entry_sending t x y e o h k

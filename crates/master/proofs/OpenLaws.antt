@@ -10,7 +10,7 @@ use lib.ListN.{length, replicate, length-append, length-take, length-drop, lengt
 use Rattle.cluster.specs.Check.{RightTable}
 use Rattle.cluster.specs.Table.{frame_count, frame_length, published}
 use Rattle.cluster.proofs.FrameLaws.{frame_length_high}
-use Rattle.transport.specs.Cutting.{is_length, message_frames, message_frame, cut_of}
+use Rattle.transport.specs.Cutting.{is_length, message_frames, message_frame, cut_of, cut_bytes}
 use Rattle.transport.proofs.CuttingLaws.{frame_length_lem}
 use Rattle.transport.proofs.Tests.{whether}
 use Rattle.master.specs.declared.state.Opened.{Opened}
@@ -33,7 +33,7 @@ unfolding frame_data buffer_size
 frame_data_length t ok bs f h size = simp (length-take, length-drop) (omega (arith, frame_length_high t ok f h))
 
 -- a frame that is there is cut
-cut_frame : (nad : ℕ) (m : List ℕ) (k : ℕ) → is_length (length m) ≡ true → k < message_frames (length m) → (cut_of nad m k).bytes ≡ message_frame nad m k
+cut_frame : (nad : ℕ) (m : List ℕ) (k : ℕ) → is_length (length m) ≡ true → k < message_frames (length m) → cut_bytes (cut_of nad m k) ≡ message_frame nad m k
 unfolding cut_of
 cut_frame nad m k y h = rw (y, lt-ltb k (message_frames (length m)) h)
 
@@ -43,7 +43,7 @@ pub request_data_lem : (x : state.Sending) (m : List ℕ) → message_fits (Send
 request_data_lem x m h e = cut_frame x.nad m x.next (rw (← e) at (sending_length x h)) (rw (← e) at (sending_next x h))
 
 -- a cut is of eight bytes, also where there is no frame
-cut_length : (nad : ℕ) (m : List ℕ) (k : ℕ) → length (cut_of nad m k).bytes ≡ 8
+cut_length : (nad : ℕ) (m : List ℕ) (k : ℕ) → length (cut_bytes (cut_of nad m k)) ≡ 8
 unfolding cut_of
 cut_length nad m k =
     whether (is_length (length m))

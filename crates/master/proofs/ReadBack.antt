@@ -9,7 +9,6 @@ use lib.ListN.{length, get_or, take, drop, replicate, length-take, length-drop, 
 use lib.Seq.{get_or-take, get_or-drop, ext_get_or}
 use Rattle.wire.specs.Bits.{Bytes}
 use Rattle.signal.specs.Signal.{bit_at}
-use Rattle.cluster.specs.declared.Verdict.TheVariants.{Accepted}
 use Rattle.cluster.specs.Check.{then, RightTable}
 use Rattle.cluster.specs.Table.{frame_count, frame_length, signal_count, is_array}
 use Rattle.cluster.specs.Places.{occupies}
@@ -20,14 +19,10 @@ use Rattle.cluster.proofs.FrameLaws.{frame_length_high}
 use Rattle.cluster.proofs.PlacementLaws.{first_there}
 use Rattle.cluster.proofs.ValueLaws.{scalar_length, array_length_stays, read_scalar_at, read_array_at, scalar_untouched, array_untouched, scalar_outside, array_outside}
 use Rattle.transport.proofs.Tests.{order}
-use Rattle.master.specs.declared.state.Last.TheVariants.{Placement}
 use Rattle.master.specs.declared.state.Reception.{Reception}
 use Rattle.master.specs.declared.state.State.{State}
 use Rattle.master.specs.Received.{source_of, scalar_from, array_from}
-use Rattle.master.specs.declared.write.WriteAnswer.TheVariants.{Written}
-use Rattle.master.specs.declared.write.Wrote.{Wrote}
-use Rattle.master.specs.declared.read.ReadAnswer.TheVariants as read
-use Rattle.master.specs.declared.read.ArrayAnswer.TheVariants as bytes
+use Rattle.master.specs.Answers.{Wrote}
 use Rattle.master.specs.Admit.{admitted, buffer_size, Step}
 use Rattle.master.specs.Transfers.{frame_data}
 use Rattle.master.specs.Write.{marked, writable, write_verdict, write_of}
@@ -38,18 +33,20 @@ use Rattle.master.proofs.Answered.{by_verdict, Writable, writable_signal}
 use Rattle.master.proofs.WriteLaws.{write_accepts, write_state, write_left}
 use Rattle.master.specs.Put.{Value, scalar, array, Put, put, with_value}
 use Rattle.master.specs.Write.{is_bytes, fits_signal}
+use Rattle.std.specs.Prelude.{Ok}
+use Rattle.std.specs.Prelude.{Some}
 
 -- ---- reading
 
 -- a read of a signal of the right kind accepts where the call is admitted
-readable : (t : List ℕ) (n : ℕ) (x : State) (s : ℕ) (kind : Bool) → admitted t n x ≡ Accepted → s < signal_count t → is_array t s ≡ kind
-    → read_verdict t n x s kind ≡ Accepted
+readable : (t : List ℕ) (n : ℕ) (x : State) (s : ℕ) (kind : Bool) → admitted t n x ≡ Ok tt → s < signal_count t → is_array t s ≡ kind
+    → read_verdict t n x s kind ≡ Ok tt
 unfolding read_verdict
 readable t n x s true a h k = rw (a, lt-ltb s (signal_count t) h, k)
 readable t n x s false a h k = rw (a, lt-ltb s (signal_count t) h, k)
 
 -- a published signal is read from its first placement
-pub source_published : (t : List ℕ) (rs : List Reception) (s : ℕ) → signal_published t s ≡ true → source_of t rs s ≡ Placement (first_placement t s)
+pub source_published : (t : List ℕ) (rs : List Reception) (s : ℕ) → signal_published t s ≡ true → source_of t rs s ≡ Some (first_placement t s)
 unfolding source_of
 source_published t rs s p = rw p
 
@@ -58,9 +55,9 @@ record Known (t : List ℕ) (x : State) (bs : List ℕ) (s : ℕ) (kind fits : B
   table_right : RightTable t
   size_right : length bs ≡ buffer_size t
   signal : Writable t s kind fits
-  admits_after : admitted t (length bs) (marked t s x) ≡ Accepted
+  admits_after : admitted t (length bs) (marked t s x) ≡ Ok tt
 
-known : (t : List ℕ) (x : State) (bs : List ℕ) (s : ℕ) (kind fits : Bool) → then (admitted t (length bs) x) (writable t s kind fits) ≡ Accepted
+known : (t : List ℕ) (x : State) (bs : List ℕ) (s : ℕ) (kind fits : Bool) → then (admitted t (length bs) x) (writable t s kind fits) ≡ Ok tt
     → Known t x bs s kind fits
 known t x bs s kind fits a =
     let ad = then_first (admitted t (length bs) x) (writable t s kind fits) a in
@@ -78,8 +75,8 @@ known t x bs s kind fits a =
     }
 
 -- a scalar reads as the value that an accepted write put there
-pub write_value : (t : List ℕ) (x : State) (bs : List ℕ) (s v : ℕ) → (write_of t x bs (put s (scalar v))).given.answer ≡ Written
-    → read_scalar_of t (write_of t x bs (put s (scalar v))).given.state (write_of t x bs (put s (scalar v))).left s ≡ read.Value v
+pub write_value : (t : List ℕ) (x : State) (bs : List ℕ) (s v : ℕ) → (write_of t x bs (put s (scalar v))).given.answer ≡ Ok tt
+    → read_scalar_of t (write_of t x bs (put s (scalar v))).given.state (write_of t x bs (put s (scalar v))).left s ≡ Ok v
 unfolding read_scalar_of scalar_from buffer_size
 write_value t x bs s v k =
     let w = put s (scalar v) in
@@ -96,9 +93,9 @@ write_value t x bs s v k =
 
 -- an array reads as the bytes that an accepted write put there, and as many
 pub write_array_value : (t : List ℕ) (x : State) (bs : List ℕ) (s : ℕ) (vs : List ℕ) → Bytes vs
-    → (write_of t x bs (put s (array vs))).given.answer ≡ Written
+    → (write_of t x bs (put s (array vs))).given.answer ≡ Ok tt
     → read_array_of t (write_of t x bs (put s (array vs))).given.state (write_of t x bs (put s (array vs))).left s
-    ≡ record { answer = bytes.Bytes (length vs); bytes = vs ++ replicate (8 - length vs) 255 }
+    ≡ Ok (record { count = length vs; bytes = vs ++ replicate (8 - length vs) 255 })
 unfolding read_array_of array_from array_read handed_out buffer_size array_fits
 write_array_value t x bs s vs hv k =
     let w = put s (array vs) in

@@ -16,7 +16,6 @@ use Rattle.cluster.specs.Values.{touches, placement_in}
 use Rattle.cluster.proofs.PlacementLaws.{placement_signal_below, one_a_frame, in_touched}
 use Rattle.cluster.proofs.SomePlacement.{Of, some_none}
 use Rattle.transport.proofs.Tests.{whether, order}
-use Rattle.master.specs.declared.state.Last.TheVariants.{Never, Placement}
 use Rattle.master.specs.declared.state.Opened.{Opened}
 use Rattle.master.specs.declared.state.Opened.TheVariants.{Nothing, Frame, Request, Response}
 use Rattle.master.specs.declared.state.Reception.{Reception}
@@ -24,10 +23,11 @@ use Rattle.master.specs.Fresh.{never_received}
 use Rattle.master.specs.Received.{reception_of, last_of, received_up_to, received_by, last_fits, received_fits}
 use Rattle.master.specs.Transfers.{format_of, sends}
 use Rattle.master.proofs.Tests.{and_true}
+use Rattle.std.specs.Prelude.{Some, None}
 
 -- ---- one of them set
 
-pub set_last : (rs : List Reception) (s k x : ℕ) → s < length rs → last_of (set rs s (reception_of k)) x ≡ cond (eqb s x) (Placement k) (last_of rs x)
+pub set_last : (rs : List Reception) (s k x : ℕ) → s < length rs → last_of (set rs s (reception_of k)) x ≡ cond (eqb s x) (Some k) (last_of rs x)
 unfolding last_of
 set_last rs s k x h =
     elim (ℕ_discrete x s) [
@@ -67,7 +67,7 @@ module _ (t : List ℕ) where
   never_fits s zero = refl
   never_fits s (suc n) = never_fits (suc s) n
 
-  pub never_last : (n s : ℕ) → last_of (replicate n never_received) s ≡ Never
+  pub never_last : (n s : ℕ) → last_of (replicate n never_received) s ≡ None
   unfolding last_of
   never_last n s =
       order n s
@@ -111,7 +111,7 @@ module _ (t : List ℕ) where
       eqb-false (placement_frame t k) f (some_none t s (λ j. eqb (placement_frame t j) f) n k (record { there = b; is = q })) e
 
   -- a placement that is not in a published frame may be received
-  may_receive : RightTable t → (k : ℕ) → k < placement_count t → published t (placement_frame t k) ≡ false → last_fits t (placement_signal t k) (Placement k) ≡ true
+  may_receive : RightTable t → (k : ℕ) → k < placement_count t → published t (placement_frame t k) ≡ false → last_fits t (placement_signal t k) (Some k) ≡ true
   unfolding last_fits
   may_receive ok k h p =
       rw (
@@ -138,7 +138,7 @@ module _ (t : List ℕ) where
   module _ (ok : RightTable t) (f : ℕ) where
     -- the placement of a signal in the frame is the one received last
     up_to_own : (n : ℕ) (rs : List Reception) → n ≤ placement_count t → (s k : ℕ) → Of t s k → k < n → placement_frame t k ≡ f → s < length rs
-        → last_of (received_up_to t f n rs) s ≡ Placement k
+        → last_of (received_up_to t f n rs) s ≡ Some k
     unfolding received_up_to
     up_to_own zero rs a s k o b e l = absurd (omega arith)
     up_to_own (suc n) rs a s k o b e l =
@@ -154,7 +154,7 @@ module _ (t : List ℕ) where
 
     -- of every signal, by the frames that it touches
     pub frame_received : (rs : List Reception) (s : ℕ) → signal_count t ≤ length rs
-        → last_of (received_up_to t f (placement_count t) rs) s ≡ cond (touches t s f) (Placement (placement_in t s f)) (last_of rs s)
+        → last_of (received_up_to t f (placement_count t) rs) s ≡ cond (touches t s f) (Some (placement_in t s f)) (last_of rs s)
     frame_received rs s l =
         whether (touches t s f)
         (λ y. let w = in_touched t ok s f y in

@@ -13,14 +13,11 @@ use Rattle.cluster.specs.Values.{touches, placement_in}
 use Rattle.cluster.proofs.HeaderLaws.{signal_count_lem}
 use Rattle.cluster.proofs.PlacementLaws.{one_a_frame, in_touched}
 use Rattle.transport.proofs.Tests.{whether}
-use Rattle.master.specs.declared.state.Last.{Last}
-use Rattle.master.specs.declared.state.Last.TheVariants.{Never, Placement}
 use Rattle.master.specs.declared.state.Opened.{Opened}
 use Rattle.master.specs.declared.state.Opened.TheVariants.{Nothing, Frame, Request, Response}
 use Rattle.master.specs.declared.state.State.{State}
-use Rattle.master.specs.declared.byte.ByteAnswer.{ByteAnswer}
 use Rattle.master.specs.declared.byte.ByteAnswer.TheVariants as byte
-use Rattle.master.specs.declared.byte.Took.{Took}
+use Rattle.master.specs.Answers.{Took}
 use Rattle.master.specs.Admit.{Step}
 use Rattle.master.specs.Transfers.{format_of, sends}
 use Rattle.master.specs.Received.{last_of, received_by}
@@ -39,23 +36,26 @@ use Rattle.master.proofs.StepLaws.{kept as by-effect}
 use Rattle.master.proofs.Tests.{never}
 use Rattle.master.proofs.Verdicts.{byte_table}
 use Rattle.master.proofs.WriteLaws.{write_beside}
+use Rattle.std.specs.Prelude.{Ok}
+use Rattle.master.specs.Answers.{ByteResult}
+use Rattle.std.specs.Prelude.{Some, None, Option}
 
 -- ---- the paper's sentences
 
 -- "A success of a received frame": success was answered, and placement k, one of signal x, stands in the frame that was open and that the master does not
 -- publish
-pub record Receives (t : List ℕ) (s : State) (a : ByteAnswer) (x k : ℕ) : Type 0 where
-  pub success : a ≡ byte.Success
+pub record Receives (t : List ℕ) (s : State) (a : ByteResult) (x k : ℕ) : Type 0 where
+  pub success : a ≡ Ok byte.Success
   pub opened : s.transfer.opened ≡ Frame (placement_frame t k)
   pub not_published_lem : published t (placement_frame t k) ≡ false
   pub there : k < placement_count t
   pub its : placement_signal t k ≡ x
 
 -- what is kept of signal x after a byte: the placement that it received, and what was kept before where it received none
-pub record ReceptionSays (t : List ℕ) (s : State) (a : ByteAnswer) (x : ℕ) (l : Last) : Type 0 where
+pub record ReceptionSays (t : List ℕ) (s : State) (a : ByteResult) (x : ℕ) (l : Option ℕ) : Type 0 where
   pub placement : (k : ℕ)
-      → (l ≡ Placement k) ↔ (Receives t s a x k ⊎ ((kept s.received x ≡ Placement k) × ((j : ℕ) → ¬ Receives t s a x j)))
-  pub never_yet : (l ≡ Never) ↔ ((kept s.received x ≡ Never) × ((j : ℕ) → ¬ Receives t s a x j))
+      → (l ≡ Some k) ↔ (Receives t s a x k ⊎ ((kept s.received x ≡ Some k) × ((j : ℕ) → ¬ Receives t s a x j)))
+  pub never_yet : (l ≡ None) ↔ ((kept s.received x ≡ None) × ((j : ℕ) → ¬ Receives t s a x j))
 
 -- ---- a byte
 
@@ -64,7 +64,7 @@ module _ (t : List ℕ) (s : State) (bs : List ℕ) (b x : ℕ) where
   abbrev Either : Step Took → Type 0
   Either w =
       ((k : ℕ) × Receives t s w.given.answer x k × ((j : ℕ) → Receives t s w.given.answer x j → k ≡ j)
-      × (last_of w.given.state.received x ≡ Placement k))
+      × (last_of w.given.state.received x ≡ Some k))
       ⊎ (((k : ℕ) → ¬ Receives t s w.given.answer x k) × (last_of w.given.state.received x ≡ last_of s.received x))
 
   either_says : (w : Step Took) → Either w → ReceptionSays t s w.given.answer x (kept w.given.state.received x)
@@ -73,7 +73,7 @@ module _ (t : List ℕ) (s : State) (bs : List ℕ) (b x : ℕ) where
       (λ v. record {
         placement = λ k. (
           (λ e. let q : v.0 ≡ k = cc in inl (rw q at v.1)),
-          ⊎_elim (λ r. v.3 ∙ ap Placement (v.2 k r)) (λ u. absurd (u.1 v.0 v.1)),
+          ⊎_elim (λ r. v.3 ∙ ap Some (v.2 k r)) (λ u. absurd (u.1 v.0 v.1)),
         );
         never_yet = (λ e. let z : ◌≡◌ {A = ℕ} 0 1 = cc in absurd (omega arith), λ u. absurd (u.1 v.0 v.1));
       })
@@ -83,7 +83,7 @@ module _ (t : List ℕ) (s : State) (bs : List ℕ) (b x : ℕ) where
       })
 
   module _ (all : length s.received ≡ 256) (ok : RightTable t) where
-    one_received : (a : ByteAnswer) (j k : ℕ) → Receives t s a x j → Receives t s a x k → j ≡ k
+    one_received : (a : ByteResult) (j k : ℕ) → Receives t s a x j → Receives t s a x k → j ≡ k
     one_received a j k p q = one_a_frame t ok x j k (record { there = p.there; is = p.its }) (record { there = q.there; is = q.its }) (cc)
 
     -- the last byte of a transfer that the master receives
@@ -94,14 +94,14 @@ module _ (t : List ℕ) (s : State) (bs : List ℕ) (b x : ℕ) where
         let sets = frame_received t ok f s.received x (omega (arith, signal_count_lem t ok)) in
         whether (touches t x f)
         (λ y. let w = in_touched t ok x f y in
-        let r : Receives t s byte.Success x (placement_in t x f) = record {
+        let r : Receives t s (Ok byte.Success) x (placement_in t x f) = record {
           success = refl;
           opened = rw w.1 e;
           not_published_lem = rw w.1 n;
           there = w.0.there;
           its = w.0.is;
         } in
-        inl (placement_in t x f, r, (λ j q. one_received byte.Success (placement_in t x f) j r q), rw (e, sets, y)))
+        inl (placement_in t x f, r, (λ j q. one_received (Ok byte.Success) (placement_in t x f) j r q), rw (e, sets, y)))
         (λ z. inr ((λ k r. not_touched t x f z k r.there (cc) r.its), rw (e, sets, z)))
     received_either Request e n nine = inr ((λ k r. let z : ◌≡◌ {A = ℕ} 0 1 = cc in omega arith), rw e)
     received_either Response e n nine = inr ((λ k r. let z : ◌≡◌ {A = ℕ} 0 1 = cc in omega arith), rw e)
@@ -126,7 +126,7 @@ module _ (t : List ℕ) (s : State) (bs : List ℕ) (b x : ℕ) where
 
 module _ (t : List ℕ) (s : State) (bs : List ℕ) (b : ℕ) where
   abbrev Leaves : Step Took → Type 0
-  Leaves w = ¬ (w.given.answer ≡ byte.Success) → w.given.state.received ≡ s.received
+  Leaves w = ¬ (w.given.answer ≡ Ok byte.Success) → w.given.state.received ≡ s.received
 
   last_leaves : (o : Opened) → s.transfer.opened ≡ o → Leaves (accepted t s o (with_byte s.transfer b) bs)
   unfolding accepted received received_by
@@ -136,7 +136,7 @@ module _ (t : List ℕ) (s : State) (bs : List ℕ) (b : ℕ) where
   last_leaves Response e n = rw e
 
   -- a byte that does not answer success
-  byte_leaves : ¬ ((byte_of t s bs b).given.answer ≡ byte.Success) → (byte_of t s bs b).given.state.received ≡ s.received
+  byte_leaves : ¬ ((byte_of t s bs b).given.answer ≡ Ok byte.Success) → (byte_of t s bs b).given.state.received ≡ s.received
   unfolding byte_of passed failed
   byte_leaves = by_verdict Leaves (byte_verdict t (length bs) s) _ _ (λ r e n. refl)
       (λ a. taken_by t s bs b Leaves (λ nine e n. refl) (λ n. refl) (λ y n. absurd (n refl)) (λ y. last_leaves s.transfer.opened refl))
@@ -148,7 +148,7 @@ Succeeds (call.read s) a = ⊥
 Succeeds (call.read_array s) a = ⊥
 Succeeds (call.select n) a = ⊥
 Succeeds (call.tick m) a = ⊥
-Succeeds (call.byte_in b) a = a.answer ≡ byte.Success
+Succeeds (call.byte_in b) a = a ≡ Ok byte.Success
 Succeeds call.read_status a = ⊥
 Succeeds (call.send nad n) a = ⊥
 Succeeds call.message_state a = ⊥

@@ -8,7 +8,6 @@ use native.Mathlib.Omega.{arith}
 use lib.Dec.{leb, ltb}
 use lib.ListN.{length}
 use borrow.Author.Tests.{ltb-true, ltb-false, eqb-true, eqb-false, leb-true, leb-false, le-leb}
-use Rattle.cluster.specs.declared.Verdict.TheVariants as verdict
 use Rattle.cluster.specs.Check.{RightTable}
 use Rattle.cluster.specs.Table.{signal_count, signal_kind, signal_width, is_array}
 use Rattle.cluster.specs.Table.{member_count, member_frame, entry_count, entry_schedule, schedule_count}
@@ -50,6 +49,7 @@ use Rattle.master.proofs.Rows.{scalar_into_array, array_into_scalar, scalar_of_a
 use Rattle.master.proofs.Rows.{no_transfer_lem, message_empty, message_too_long, message_sending}
 use Rattle.master.proofs.Answered.{then_accepted}
 use Rattle.master.proofs.RowTests.{NoneBelow, one_more, skip, all_none, Lowest, tested, not_3, head}
+use Rattle.std.specs.Prelude.{Ok}
 
 -- ---- the signal of a write or a read
 
@@ -271,7 +271,7 @@ module _ (t : List ℕ) (x : Held) where
   asking_lowest : (c : Call) → lent c ≡ false → NoTick c → ((k : ℕ) → Row t x c k → k < 4) → Lowest t x c (admitted t (buffer_size t) x.state)
   asking_lowest c l n high =
       rw (← then_accepted (admitted t (buffer_size t) x.state))
-      (head t x c (buffer_size t) verdict.Accepted (λ y. never (sym l ∙ y)) (λ y. refl) (λ ok w n2. all_none _ 4 (behind c n w n2) high))
+      (head t x c (buffer_size t) (Ok tt) (λ y. never (sym l ∙ y)) (λ y. refl) (λ ok w n2. all_none _ 4 (behind c n w n2) high))
 
   status_lowest : Lowest t x call.read_status (admitted t (buffer_size t) x.state)
   status_lowest = asking_lowest call.read_status refl (λ m e. let z : ◌≡◌ {A = ℕ} 0 1 = cc in omega arith) high

@@ -10,8 +10,6 @@ use lib.Dec.{eqb}
 use lib.ListN.{length}
 use borrow.Author.Tests.{eqb-true, eqb-false}
 use Rattle.refusal.specs.declared.Refusal.{Refusal}
-use Rattle.cluster.specs.declared.Verdict.{Verdict}
-use Rattle.cluster.specs.declared.Verdict.TheVariants as verdict
 use Rattle.cluster.specs.Check.{judged, taken_of, then, RightTable}
 use Rattle.cluster.specs.Table.{frame_count}
 use Rattle.cluster.proofs.TakenLaws.{taken_right, taken_refused}
@@ -25,6 +23,8 @@ use Rattle.master.specs.Run.{Held}
 use Rattle.master.proofs.FitsExactly.{Clauses, fits_exactly}
 use Rattle.master.proofs.Tests.{never}
 use Rattle.master.proofs.Rows.{lent, Row, table_fault, buffer_size_lem, state_unfit, lent_length}
+use Rattle.std.specs.Prelude.{Ok, Err}
+use Rattle.cluster.specs.Check.{Verdict}
 
 -- ---- the lowest of some rows
 
@@ -48,13 +48,13 @@ module _ (R : ℕ → Type 0) where
 
 -- a refusal tells no place, or is that of the table check
 abbrev pub Placed : List ℕ → Refusal → Type 0
-Placed t r = (r.place ≡ 0) ⊎ (judged t ≡ verdict.Refused r)
+Placed t r = (r.place ≡ 0) ⊎ (judged t ≡ Err r)
 
 module _ (t : List ℕ) (x : Held) (c : Call) where
   -- the row of a refusal is the lowest that applies, and where all is accepted none does
   abbrev pub Lowest : Verdict → Type 0
-  Lowest verdict.Accepted = (k : ℕ) → ¬ Row t x c k
-  Lowest (verdict.Refused r) = Row t x c r.number × NoneBelow (Row t x c) r.number × Placed t r
+  Lowest (Ok tt) = (k : ℕ) → ¬ Row t x c k
+  Lowest (Err r) = Row t x c r.number × NoneBelow (Row t x c) r.number × Placed t r
 
   -- a test in front of a verdict: its row applies where it fails
   pub tested : (b : Bool) (n : ℕ) (v : Verdict) → NoneBelow (Row t x c) n → (b ≡ false → Row t x c n) → (b ≡ true → Lowest v) → Lowest (unless b n v)
@@ -75,7 +75,7 @@ module _ (t : List ℕ) (x : Held) where
       by c (suc k) b r = omega arith
 
   not_1 : (c : Call) → RightTable t → ¬ R c 1
-  not_1 c ok (table_fault r e) = let q : verdict.Accepted ≡ verdict.Refused r = sym ok ∙ e in let z : ◌≡◌ {A = ℕ} 0 1 = cc in omega arith
+  not_1 c ok (table_fault r e) = let q : (Ok tt) ≡ Err r = sym ok ∙ e in let z : ◌≡◌ {A = ℕ} 0 1 = cc in omega arith
 
   not_2 : (c : Call) → (lent c ≡ true → length x.bytes ≡ 8 * frame_count t) → ¬ R c 2
   not_2 c h (buffer_size_lem l n) = n (h l)
@@ -94,11 +94,11 @@ module _ (t : List ℕ) (x : Held) where
       lends differs = whether (lent c) (λ y. y) (λ q. absurd (differs (else q)))
 
       by : (w : Verdict) → taken_of t ≡ w → Lowest t x c (then (admitted t n x.state) v)
-      by (verdict.Refused r) e =
+      by (Err r) e =
           let q = (taken_refused t r).0 e in
           let i = (first_fault t r q).number in
           rw e (rw i (table_fault r q), rw i (not_0 c), inr q)
-      by verdict.Accepted e =
+      by (Ok tt) e =
           let ok = taken_right t e in
           let none_1 = one_more (R c) 1 (not_0 c) (not_1 c ok) in
           whether (eqb n (8 * frame_count t))

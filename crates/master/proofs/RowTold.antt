@@ -6,14 +6,12 @@ use mathlib.Core.List.{List, [], ◌∷◌}
 use lib.Dec.{ltb, eqb}
 use lib.ListN.{length}
 use Rattle.refusal.specs.Answers.{Told, test, first_failing, behind, told_at}
-use Rattle.cluster.specs.declared.Verdict.{Verdict}
-use Rattle.cluster.specs.declared.Verdict.TheVariants.{Accepted, Refused}
 use Rattle.cluster.specs.Check.{taken_of, then}
 use Rattle.cluster.specs.Answers.{behind_table}
 use Rattle.cluster.specs.Table.{signal_count, is_array}
 use Rattle.cluster.specs.Values.{signal_published}
 use Rattle.master.specs.declared.state.State.{State}
-use Rattle.master.specs.declared.write.Wrote.{Wrote}
+use Rattle.master.specs.Answers.{Wrote}
 use Rattle.master.specs.Fits.{state_fits}
 use Rattle.master.specs.Admit.{unless, buffer_size, admitted, Step, Leaves}
 use Rattle.master.specs.Answers.{write_told}
@@ -23,10 +21,12 @@ use Rattle.master.specs.WriteRow.{at_place, first_bad, row_verdict, row_of}
 use Rattle.master.specs.Run.{held}
 use Rattle.master.specs.Told.{told_as, pairs_told, row_told}
 use Rattle.master.proofs.Answered.{by_verdict}
+use Rattle.std.specs.Prelude.{Ok, Err}
+use Rattle.cluster.specs.Check.{Verdict}
 
 -- a pair, and then what the later ones tell
 pair_told : (i : ℕ) (a b c d : Bool) (v : Verdict) (x : Told) → told_as v [] ≡ x
-    → told_as (then (at_place i (unless a 4 (unless b 5 (unless c 6 (unless d 7 Accepted))))) v) []
+    → told_as (then (at_place i (unless a 4 (unless b 5 (unless c 6 (unless d 7 (Ok tt)))))) v) []
     ≡ behind (told_at i (first_failing (test 4 a ∷ test 5 b ∷ test 6 c ∷ test 7 d ∷ []) [])) x
 unfolding behind told_at first_failing
 pair_told i true true true true v x e = e
@@ -44,14 +44,14 @@ pairs_told_lem t i (w ∷ ws) =
 
 -- 1, 2, 3 and 12, and then what the pairs tell
 head_told : (w : Verdict) (a b c : Bool) (v : Verdict) (x : Told) → told_as v [] ≡ x
-    → told_as (then (then w (unless a 2 (unless b 3 Accepted))) (unless c 12 v)) []
+    → told_as (then (then w (unless a 2 (unless b 3 (Ok tt)))) (unless c 12 v)) []
     ≡ behind_table w (behind (first_failing (test 2 a ∷ test 3 b ∷ test 12 c ∷ []) []) x)
 unfolding behind first_failing
-head_told Accepted true true true v x e = e
-head_told Accepted true true false v x e = refl
-head_told Accepted true false c v x e = refl
-head_told Accepted false b c v x e = refl
-head_told (Refused r) a b c v x e = refl
+head_told (Ok tt) true true true v x e = e
+head_told (Ok tt) true true false v x e = refl
+head_told (Ok tt) true false c v x e = refl
+head_told (Ok tt) false b c v x e = refl
+head_told (Err r) a b c v x e = refl
 
 verdict_told_lem : (t : List ℕ) (x : State) (bs ss vs : List ℕ) → told_as (row_verdict t (length bs) x ss vs) [] ≡ row_told t (held x bs) ss vs
 unfolding row_verdict row_told admitted buffer_size

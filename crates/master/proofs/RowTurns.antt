@@ -9,8 +9,6 @@ use borrow.Author.Tests.{eqb-true}
 use lib.Dec.{eqb}
 use lib.ListN.{length, get_or, drop}
 use lib.Seq.{drop-cons, drop-length}
-use Rattle.cluster.specs.declared.Verdict.{Verdict}
-use Rattle.cluster.specs.declared.Verdict.TheVariants.{Accepted, Refused}
 use Rattle.cluster.specs.Check.{RightTable, then}
 use Rattle.cluster.specs.Values.{value_fits, with_scalar}
 use Rattle.cluster.proofs.Accepted.{then_first, then_second}
@@ -24,6 +22,8 @@ use Rattle.master.specs.Write.{writable, marked_from, rewritten}
 use Rattle.master.specs.WriteRow.{at_place, first_bad, row_verdict, marked_bits, rewritten_by, with_row}
 use Rattle.master.proofs.Admitted.{unless_test, unless_rest, admitted_table}
 use Rattle.master.proofs.Answered.{writable_signal}
+use Rattle.std.specs.Prelude.{Ok, Err}
+use Rattle.cluster.specs.Check.{Verdict}
 
 -- behind the end of a row nothing is left
 none_left : (ss : List ℕ) (i : ℕ) → length ss ≤ i → i ≤ length ss → drop i ss ≡ []
@@ -52,9 +52,9 @@ abbrev pub puts_from : ℕ → List ℕ → List ℕ → List Put
 puts_from i ss vs = puts (drop i ss) (drop i vs)
 
 -- a verdict on a pair accepts wherever the pair stands
-pub placed_accepted : (i : ℕ) (v : Verdict) → at_place i v ≡ Accepted → v ≡ Accepted
-placed_accepted i Accepted e = refl
-placed_accepted i (Refused r) e = let z : ◌≡◌ {A = ℕ} 0 1 = cc in absurd (omega arith)
+pub placed_accepted : (i : ℕ) (v : Verdict) → at_place i v ≡ Ok tt → v ≡ Ok tt
+placed_accepted i (Ok tt) e = refl
+placed_accepted i (Err r) e = let z : ◌≡◌ {A = ℕ} 0 1 = cc in absurd (omega arith)
 
 module _ (ss vs : List ℕ) (same : length ss ≡ length vs) (i : ℕ) where
   pub puts_turn : i < length ss → puts_from i ss vs ≡ put (get_or ss i 0) (scalar (get_or vs i 0)) ∷ puts_from (i + 1) ss vs
@@ -73,7 +73,7 @@ module _ (t ss vs : List ℕ) (same : length ss ≡ length vs) (i : ℕ) where
   unfolding first_bad
   first_turn h = rw (puts_turn ss vs same i h, add-one)
 
-  pub first_end : length ss ≤ i → i ≤ length ss → first_bad t i (puts_from i ss vs) ≡ Accepted
+  pub first_end : length ss ≤ i → i ≤ length ss → first_bad t i (puts_from i ss vs) ≡ Ok tt
   unfolding first_bad
   first_end a b = rw (puts_end ss vs same i a b)
 
@@ -86,12 +86,12 @@ module _ (t ss vs : List ℕ) (same : length ss ≡ length vs) (i : ℕ) where
   unfolding with_row
   put_end a b bs = rw (puts_end ss vs same i a b)
 
-  module _ (h : i < length ss) (good : first_bad t i (puts_from i ss vs) ≡ Accepted) where
-    turned : then (at_place i (writable t (get_or ss i 0) false (value_fits t (get_or ss i 0) (get_or vs i 0)))) (first_bad t (i + 1) (puts_from (i + 1) ss vs)) ≡ Accepted
+  module _ (h : i < length ss) (good : first_bad t i (puts_from i ss vs) ≡ Ok tt) where
+    turned : then (at_place i (writable t (get_or ss i 0) false (value_fits t (get_or ss i 0) (get_or vs i 0)))) (first_bad t (i + 1) (puts_from (i + 1) ss vs)) ≡ Ok tt
     turned = sym (first_turn h) ∙ good
 
     -- where no pair from here on is bad, none is behind this one
-    pub good_turn : first_bad t (i + 1) (puts_from (i + 1) ss vs) ≡ Accepted
+    pub good_turn : first_bad t (i + 1) (puts_from (i + 1) ss vs) ≡ Ok tt
     good_turn = then_second (at_place i (writable t (get_or ss i 0) false (value_fits t (get_or ss i 0) (get_or vs i 0)))) _ turned
 
     -- and its value is a number of 16 bits
@@ -103,11 +103,11 @@ module _ (t ss vs : List ℕ) (same : length ss ≡ length vs) (i : ℕ) where
 
 -- what a row that is not refused knows
 pub record RowKnows (t : List ℕ) (size : ℕ) (x : State) (ss vs : List ℕ) : Type 0 where
-  pub admits : admitted t size x ≡ Accepted
+  pub admits : admitted t size x ≡ Ok tt
   pub equal : length ss ≡ length vs
-  pub good : first_bad t 0 (puts ss vs) ≡ Accepted
+  pub good : first_bad t 0 (puts ss vs) ≡ Ok tt
 
-pub row_knows : (t : List ℕ) (size : ℕ) (x : State) (ss vs : List ℕ) → row_verdict t size x ss vs ≡ Accepted → RowKnows t size x ss vs
+pub row_knows : (t : List ℕ) (size : ℕ) (x : State) (ss vs : List ℕ) → row_verdict t size x ss vs ≡ Ok tt → RowKnows t size x ss vs
 unfolding row_verdict
 row_knows t size x ss vs e =
     let rest = then_second (admitted t size x) _ e in

@@ -5,7 +5,6 @@ use mathlib.Core.Bool.{Bool, true, false}
 use mathlib.Core.List.{List}
 use lib.ListN.{length}
 use Rattle.refusal.specs.declared.Refusal.{Refusal}
-use Rattle.cluster.specs.declared.Verdict.TheVariants as verdict
 use Rattle.cluster.specs.Check.{judged}
 use Rattle.cluster.specs.Table.{frame_count, signal_count, published, signal_kind, signal_width, placement_count, placement_signal, placement_frame}
 use Rattle.cluster.specs.Table.{member_count, member_frame, entry_count, entry_schedule}
@@ -17,6 +16,7 @@ use Rattle.master.specs.Calls as call
 use Rattle.master.specs.Calls.{Call}
 use Rattle.master.specs.Run.{Held}
 use Rattle.master.proofs.FitsExactly.{Clauses}
+use Rattle.std.specs.Prelude.{Err}
 
 -- the calls that are lent the frame buffer
 abbrev pub lent : Call → Bool
@@ -34,7 +34,7 @@ lent (call.number_ahead f) = false
 -- the rows of the paper's table: a number, and when it applies to a call
 pub data Row (t : List ℕ) (x : Held) : Call → ℕ → Type 0 where
   -- "the table check finds a fault"
-  table_fault : {c : Call} → (r : Refusal) → judged t ≡ verdict.Refused r → Row t x c 1
+  table_fault : {c : Call} → (r : Refusal) → judged t ≡ Err r → Row t x c 1
   -- "the frame buffer isn't 8F bytes"
   buffer_size_lem : {c : Call} → lent c ≡ true → ¬ (length x.bytes ≡ 8 * frame_count t) → Row t x c 2
   -- "the state doesn't fit the table"

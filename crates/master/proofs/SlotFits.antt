@@ -9,8 +9,6 @@ use lib.Dec.{ltb}
 use Rattle.cluster.specs.Check.{RightTable}
 use Rattle.cluster.specs.Table.{entry_count, entry_delay}
 use Rattle.transport.proofs.Tests.{whether}
-use Rattle.master.specs.declared.state.Current.{Current}
-use Rattle.master.specs.declared.state.Current.TheVariants as current
 use Rattle.master.specs.declared.state.Opened.{Opened}
 use Rattle.master.specs.declared.state.Opened.TheVariants.{Nothing, Frame, Request, Response}
 use Rattle.master.specs.declared.state.State.{State}
@@ -24,6 +22,7 @@ use Rattle.master.proofs.FitsKept.{waited_fits, failed_fits}
 use Rattle.master.proofs.MessageFits.{nothing_open}
 use Rattle.master.proofs.SlotOpens.{Opens, slot_opens_lem, due_there}
 use Rattle.master.specs.State.{with_plan}
+use Rattle.std.specs.Prelude.{Some, None, Option}
 
 -- what is not open is nothing
 pub not_open : (o : Opened) → is_open o ≡ false → o ≡ Nothing
@@ -58,7 +57,7 @@ module _ (t : List ℕ) (s : State) where
 
 module _ (t bs m : List ℕ) (s : State) (fits : Fits t s) where
   -- a state whose entry begins fits, with nothing open
-  begun_fits : (e : ℕ) → entry_there t (current.Entry e) ≡ true → s.transfer.opened ≡ Nothing → Fits t (with_plan s (begun t e))
+  begun_fits : (e : ℕ) → entry_there t (Some e) ≡ true → s.transfer.opened ≡ Nothing → Fits t (with_plan s (begun t e))
   unfolding wait_fits count_fits
   begun_fits e h n = record {
     entry_there_lem = h;
@@ -66,14 +65,14 @@ module _ (t bs m : List ℕ) (s : State) (fits : Fits t s) where
     frame_there_lem = fits.frame_there_lem;
     wait_fits_lem = le-leb (entry_delay t e) (entry_delay t e) (omega arith);
     pending_fits_lem = fits.pending_fits_lem;
-    can_open_lem = rw n (nothing_open t s.message (current.Entry e));
+    can_open_lem = rw n (nothing_open t s.message (Some e));
     count_fits_lem = fits.count_fits_lem;
     message_fits_lem = fits.message_fits_lem;
     receptions_fit = fits.receptions_fit;
   }
 
   -- a state that opens what its entry can open fits
-  pub opens_fits : (e : ℕ) (o : Opened) → s.plan.current ≡ current.Entry e → Opens t s.message e o → Fits t (opens_or_silent t bs m s o).state
+  pub opens_fits : (e : ℕ) (o : Opened) → s.plan.current ≡ Some e → Opens t s.message e o → Fits t (opens_or_silent t bs m s o).state
   unfolding opens_or_silent opening can_open count_fits
   opens_fits e o c w =
       whether (is_open o)
@@ -92,10 +91,10 @@ module _ (t bs m : List ℕ) (s : State) (fits : Fits t s) where
 
 module _ (t : List ℕ) (ok : RightTable t) (bs m : List ℕ) where
   -- the state that a slot leaves with an entry that is there fits
-  pub slot_at_fits : (s : State) (c : Current) → Fits t s → s.transfer.opened ≡ Nothing → entry_there t c ≡ true → Fits t (slot_at t bs m s c).state
+  pub slot_at_fits : (s : State) (c : Option ℕ) → Fits t s → s.transfer.opened ≡ Nothing → entry_there t c ≡ true → Fits t (slot_at t bs m s c).state
   unfolding slot_at
-  slot_at_fits s current.None fits n h = fits
-  slot_at_fits s (current.Entry e) fits n h =
+  slot_at_fits s None fits n h = fits
+  slot_at_fits s (Some e) fits n h =
       opens_fits t bs m (with_plan s (begun t e)) (begun_fits t bs m s fits e h n) e (slot_opens t s.pending s.message e) refl
       (slot_opens_lem t ok s.pending s.message e (ltb-true e (entry_count t) h))
 

@@ -14,10 +14,6 @@ use Rattle.cluster.proofs.EntryLaws.{entry_kind_high, frame_target}
 use Rattle.cluster.proofs.ListLaws.{listed_below}
 use Rattle.cluster.proofs.ScheduleLaws.{first_entry_below, next_entry_below}
 use Rattle.transport.proofs.Tests.{whether}
-use Rattle.master.specs.declared.state.Current.{Current}
-use Rattle.master.specs.declared.state.Current.TheVariants as current
-use Rattle.master.specs.declared.state.Requested.{Requested}
-use Rattle.master.specs.declared.state.Requested.TheVariants as requested
 use Rattle.master.specs.declared.state.Opened.{Opened}
 use Rattle.master.specs.declared.state.Opened.TheVariants.{Nothing, Frame, Request, Response}
 use Rattle.master.specs.declared.state.Message.{Message}
@@ -25,9 +21,10 @@ use Rattle.master.specs.Fits.{entry_there, schedule_there, frame_there, is_sendi
 use Rattle.cluster.specs.Lists.{is_one_of}
 use Rattle.master.specs.Plan.{entry_due}
 use Rattle.master.specs.Tick.{first_pending, slot_opens}
+use Rattle.std.specs.Prelude.{Some, None, Option}
 
 -- an entry that is there is one of the table's
-pub entry_below : (t : List ℕ) (e : ℕ) → entry_there t (current.Entry e) ≡ true → e < entry_count t
+pub entry_below : (t : List ℕ) (e : ℕ) → entry_there t (Some e) ≡ true → e < entry_count t
 entry_below t e h = ltb-true e (entry_count t) h
 
 -- ---- what a slot opens
@@ -114,9 +111,9 @@ module _ (t : List ℕ) (ok : RightTable t) where
   -- ---- the entry due
 
   -- the entry due is there
-  pub due_there : (r : Requested) (c : Current) → schedule_there t r ≡ true → entry_there t c ≡ true → entry_there t (entry_due t r c) ≡ true
-  due_there (requested.Schedule n) c h k =
+  pub due_there : (r : Option ℕ) (c : Option ℕ) → schedule_there t r ≡ true → entry_there t c ≡ true → entry_there t (entry_due t r c) ≡ true
+  due_there (Some n) c h k =
       lt-ltb (first_entry t n) (entry_count t) (first_entry_below t ok n (ltb-true n (schedule_count t) h))
-  due_there requested.None current.None h k = k
-  due_there requested.None (current.Entry e) h k =
+  due_there None None h k = k
+  due_there None (Some e) h k =
       lt-ltb (next_entry t e) (entry_count t) (next_entry_below t ok e (ltb-true e (entry_count t) k))

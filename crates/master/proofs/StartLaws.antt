@@ -8,53 +8,52 @@ use borrow.Author.Tests.{eqb-true, eqb-false}
 use lib.Dec.{eqb}
 use lib.ListN.{length}
 use Rattle.refusal.specs.declared.Refusal.{Refusal}
-use Rattle.cluster.specs.declared.Verdict.{Verdict}
-use Rattle.cluster.specs.declared.Verdict.TheVariants as verdict
 use Rattle.cluster.specs.Check.{judged, taken_of, RightTable}
 use Rattle.cluster.specs.Table.{frame_count}
 use Rattle.cluster.proofs.FirstFault.{first_fault}
 use Rattle.cluster.proofs.TakenLaws.{taken_right, taken_refused}
 use Rattle.transport.proofs.Tests.{whether}
-use Rattle.master.specs.declared.start.FreshAnswer.{FreshAnswer}
-use Rattle.master.specs.declared.start.FreshAnswer.TheVariants as start
-use Rattle.master.specs.declared.start.Started.{Started}
+use Rattle.master.specs.Answers.{Started}
 use Rattle.master.specs.Admit.{buffer_size, Step}
 use Rattle.master.specs.Answers.{fresh_told}
 use Rattle.master.specs.Start.{fresh_verdict, fresh_of}
 use Rattle.master.proofs.Answered.{by_verdict}
+use Rattle.std.specs.Prelude.{Ok, Err}
+use Rattle.cluster.specs.Check.{Verdict}
+use Rattle.master.specs.Answers.{FreshAnswer}
 
 -- a refused fresh leaves the frame bytes
-pub fresh_refused : (t bs : List ℕ) (r : Refusal) → (fresh_of t bs).given.answer ≡ start.Refused r → (fresh_of t bs).left ≡ bs
+pub fresh_refused : (t bs : List ℕ) (r : Refusal) → (fresh_of t bs).given.answer ≡ Err r → (fresh_of t bs).left ≡ bs
 unfolding fresh_of
 fresh_refused t bs =
-    by_verdict (λ (w : Step Started). (r : Refusal) → w.given.answer ≡ start.Refused r → w.left ≡ bs) (fresh_verdict t (length bs)) _ _
+    by_verdict (λ (w : Step Started). (r : Refusal) → w.given.answer ≡ Err r → w.left ≡ bs) (fresh_verdict t (length bs)) _ _
     (λ q e r k. refl)
     (λ a r k. cc)
 
 -- "Refusal numbers", of the fresh call: 1 if and only if the table check finds a fault, and then as it tells it; else 2 if and only if the buffer
 -- isn't 8F bytes; else none
 pub record FreshRows (t bs : List ℕ) (a : FreshAnswer) : Type 0 where
-  pub fault : (r : Refusal) → (judged t ≡ verdict.Refused r) ↔ (((fresh_told a).number ≡ 1) × (a ≡ start.Refused r))
-  pub size : (RightTable t × ¬ (length bs ≡ 8 * frame_count t)) ↔ (a ≡ start.Refused (record { number = 2; place = 0 }))
-  pub none : (RightTable t × (length bs ≡ 8 * frame_count t)) ↔ (a ≡ start.Fresh)
+  pub fault : (r : Refusal) → (judged t ≡ Err r) ↔ (((fresh_told a).number ≡ 1) × (a ≡ Err r))
+  pub size : (RightTable t × ¬ (length bs ≡ 8 * frame_count t)) ↔ (a ≡ Err (record { number = 2; place = 0 }))
+  pub none : (RightTable t × (length bs ≡ 8 * frame_count t)) ↔ (a ≡ Ok tt)
 
 pub fresh_rows : (t bs : List ℕ) → FreshRows t bs (fresh_of t bs).given.answer
 unfolding fresh_of fresh_verdict buffer_size
 fresh_rows t bs = by (taken_of t) refl
   where
     by : (v : Verdict) → taken_of t ≡ v → FreshRows t bs (fresh_of t bs).given.answer
-    by (verdict.Refused q) e =
+    by (Err q) e =
         let j = (taken_refused t q).0 e in
         let n = (first_fault t q j).number in
         rw e (record {
-          fault = λ r. (λ k. let same : q ≡ r = cc in (n, ap start.Refused same), λ w. let same : q ≡ r = cc in rw same at j);
+          fault = λ r. (λ k. let same : q ≡ r = cc in (n, ap Err same), λ w. let same : q ≡ r = cc in rw same at j);
           size = (
             (λ w. let k = w.0 in let z : ◌≡◌ {A = ℕ} 0 1 = cc in absurd (omega arith)),
             (λ k. let m : q.number ≡ 2 = cc in absurd (omega arith)),
           );
           none = (λ w. let k = w.0 in let z : ◌≡◌ {A = ℕ} 0 1 = cc in absurd (omega arith), λ k. let z : ◌≡◌ {A = ℕ} 0 1 = cc in absurd (omega arith));
         })
-    by verdict.Accepted e =
+    by (Ok tt) e =
         let ok = taken_right t e in
         whether (eqb (length bs) (8 * frame_count t))
         (λ y. let l = eqb-true (length bs) (8 * frame_count t) y in rw (e, y) (record {

@@ -8,10 +8,10 @@ use lib.ListN.{length}
 use Rattle.transport.proofs.Tests.{whether}
 use Rattle.master.specs.declared.state.Status.{Status}
 use Rattle.master.specs.declared.state.State.{State}
-use Rattle.master.specs.declared.select.Chosen.{Chosen}
-use Rattle.master.specs.declared.tick.Ticked.{Ticked}
-use Rattle.master.specs.declared.byte.Took.{Took}
-use Rattle.master.specs.declared.send.Sent.{Sent}
+use Rattle.master.specs.Answers.{Chosen}
+use Rattle.master.specs.Answers.{Ticked}
+use Rattle.master.specs.Answers.{Took}
+use Rattle.master.specs.Answers.{Sent}
 use Rattle.master.specs.Transfers.{is_open, open_protected}
 use Rattle.master.specs.Admit.{Step}
 use Rattle.master.specs.Select.{select_verdict, select_of}

@@ -11,8 +11,7 @@ use Rattle.wire.proofs.Tests.{digit_below}
 use Rattle.transport.proofs.Tests.{whether}
 use Rattle.master.specs.declared.state.Status.{Status}
 use Rattle.master.specs.declared.state.State.{State}
-use Rattle.master.specs.declared.read.StatusAnswer.TheVariants.{Word}
-use Rattle.master.specs.declared.read.StatusRead.{StatusRead}
+use Rattle.master.specs.Answers.{StatusRead}
 use Rattle.master.specs.Transfers.{is_open}
 use Rattle.master.specs.Admit.{admitted, buffer_size}
 use Rattle.master.specs.Status.{with_counted, status_after, status_word, status_of}
@@ -24,6 +23,7 @@ use Rattle.master.proofs.Tests.{or_true, or_false}
 use Rattle.master.proofs.Answered.{by_verdict}
 use Rattle.master.specs.State.{with_status}
 use Rattle.master.specs.Fresh.{no_status}
+use Rattle.std.specs.Prelude.{Ok}
 
 -- ---- what a counted transfer does
 
@@ -103,16 +103,16 @@ uncounted t s h = whether (is_open s.transfer.opened) (λ y. rw (y, h)) (λ n. r
 
 -- what an accepted reading answers, the state that it leaves, and what another one answers then
 pub record Cleared (t : List ℕ) (s : State) : Type 0 where
-  pub answers : (status_of t s).answer ≡ Word (status_word s.status)
+  pub answers : (status_of t s).answer ≡ Ok (status_word s.status)
   pub cleared : status_word (status_of t s).state.status ≡ 0
-  pub again : (status_of t (status_of t s).state).answer ≡ Word 0
+  pub again : (status_of t (status_of t s).state).answer ≡ Ok 0
 
 -- "Reading sets it to 0."
-pub status_cleared : (t : List ℕ) (s : State) (w : ℕ) → (status_of t s).answer ≡ Word w → Cleared t s
+pub status_cleared : (t : List ℕ) (s : State) (w : ℕ) → (status_of t s).answer ≡ Ok w → Cleared t s
 unfolding status_of status_word
 status_cleared t s =
     let n = buffer_size t in
-    by_verdict (λ (r : StatusRead). (w : ℕ) → r.answer ≡ Word w → Cleared t s) (admitted t n s) _ _
+    by_verdict (λ (r : StatusRead). (w : ℕ) → r.answer ≡ Ok w → Cleared t s) (admitted t n s) _ _
     (λ r e w k. let z : ◌≡◌ {A = ℕ} 0 1 = cc in absurd (omega arith))
     (λ a w k.
     let after =

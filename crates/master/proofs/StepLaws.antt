@@ -12,8 +12,6 @@ use lib.ListN.{length}
 use Rattle.refusal.specs.declared.Refusal.{Refusal}
 use Rattle.refusal.specs.Answers.{Told, gives, refuses as refusing}
 use Rattle.refusal.specs.Numbers as number
-use Rattle.cluster.specs.declared.Verdict.{Verdict}
-use Rattle.cluster.specs.declared.Verdict.TheVariants.{Accepted, Refused}
 use Rattle.cluster.specs.Check.{RightTable}
 use Rattle.cluster.specs.Table.{schedule_count}
 use Rattle.cluster.proofs.Accepted.{then_first, then_second}
@@ -23,16 +21,13 @@ use Rattle.master.specs.declared.state.Opened.TheVariants as opened
 use Rattle.master.specs.declared.state.Message.{Message}
 use Rattle.master.specs.declared.state.Message.TheVariants.{None, Sending, Completed, Failed}
 use Rattle.master.specs.declared.state.State.{State}
-use Rattle.master.specs.declared.write.Wrote.{Wrote}
-use Rattle.master.specs.declared.read.ReadArray.{ReadArray}
-use Rattle.master.specs.declared.read.StatusRead.{StatusRead}
-use Rattle.master.specs.declared.select.Chosen.{Chosen}
-use Rattle.master.specs.declared.tick.Ticked.{Ticked}
-use Rattle.master.specs.declared.tick.TickAnswer.TheVariants as tick
-use Rattle.master.specs.declared.byte.Took.{Took}
-use Rattle.master.specs.declared.byte.ByteAnswer.TheVariants as byte
-use Rattle.master.specs.declared.send.Sent.{Sent}
-use Rattle.master.specs.declared.send.MessageAnswer.TheVariants as tells
+use Rattle.master.specs.Answers.{Wrote}
+use Rattle.master.specs.Answers.{ArrayAnswer}
+use Rattle.master.specs.Answers.{StatusRead}
+use Rattle.master.specs.Answers.{Chosen}
+use Rattle.master.specs.Answers.{Ticked}
+use Rattle.master.specs.Answers.{Took}
+use Rattle.master.specs.Answers.{Sent}
 use Rattle.master.specs.Fits.{state_fits}
 use Rattle.master.specs.Transfers.{opening}
 use Rattle.master.specs.Admit.{Step, admitted, answered, buffer_size}
@@ -48,7 +43,7 @@ use Rattle.master.specs.Status.{status_of}
 use Rattle.master.specs.Message.{send_verdict, send_of, told, message_of}
 use Rattle.master.specs.Ahead.{ahead_verdict, ahead_of}
 use Rattle.master.specs.Calls as call
-use Rattle.master.specs.Calls.{Call, Reply}
+use Rattle.master.specs.Calls.{Call}
 use Rattle.master.specs.Run.{Held, held, answer_of, left_by}
 use Rattle.master.specs.Step.{verdict_of, effect_of, refusal_of, told_of}
 use Rattle.master.proofs.Admitted.{unless_test, admitted_table, admitted_size, admitted_fits, Fits, fits_clauses, fits_all}
@@ -62,17 +57,19 @@ use Rattle.master.proofs.Lengths.{taken_length}
 use Rattle.master.proofs.PendingLength.{ticked_pending, marked_length, sent_length}
 use Rattle.master.proofs.ReadBack.{value_length}
 use Rattle.master.specs.Write.{is_bytes, fits_signal}
+use Rattle.std.specs.Prelude.{Ok, Err}
+use Rattle.cluster.specs.Check.{Verdict}
 
 -- ---- verdict, then effect
 
 -- a function of what is answered, by the verdict
 commute : {A B : Type 0} (f : A → B) (v : Verdict) (refuse : Refusal → A) (go : A) → f (answered v refuse go) ≡ answered v (λ r. f (refuse r)) (f go)
-commute f Accepted refuse go = refl
-commute f (Refused r) refuse go = refl
+commute f (Ok tt) refuse go = refl
+commute f (Err r) refuse go = refl
 
 either_way : {A : Type 0} (v : Verdict) (a : A) → a ≡ answered v (λ r. a) a
-either_way Accepted a = refl
-either_way (Refused r) a = refl
+either_way (Ok tt) a = refl
+either_way (Err r) a = refl
 
 -- what a call leaves: all as it was where it is refused, and otherwise its effect
 pub left_by_verdict : (t : List ℕ) (x : Held) (c : Call) → left_by t x c ≡ answered (verdict_of t x c) (λ r. x) (effect_of t x c)
@@ -90,14 +87,14 @@ left_by_verdict t x (call.number_ahead f) = either_way (ahead_verdict t x.state 
 
 -- ---- refusals
 
-refuses : {A : Type 0} (v : Verdict) (refuse : Refusal → A) (go : A) (r : Refusal) → v ≡ Refused r → answered v refuse go ≡ refuse r
+refuses : {A : Type 0} (v : Verdict) (refuse : Refusal → A) (go : A) (r : Refusal) → v ≡ Err r → answered v refuse go ≡ refuse r
 refuses v refuse go r e = rw e
 
-pub goes : {A : Type 0} (v : Verdict) (refuse : Refusal → A) (go : A) → v ≡ Accepted → answered v refuse go ≡ go
+pub goes : {A : Type 0} (v : Verdict) (refuse : Refusal → A) (go : A) → v ≡ Ok tt → answered v refuse go ≡ go
 goes v refuse go e = rw e
 
 -- a refused call answers its refusal
-pub refused_answer : (t : List ℕ) (x : Held) (c : Call) (r : Refusal) → verdict_of t x c ≡ Refused r → answer_of t x c ≡ refusal_of c r
+pub refused_answer : (t : List ℕ) (x : Held) (c : Call) (r : Refusal) → verdict_of t x c ≡ Err r → answer_of t x c ≡ refusal_of c r
 unfolding answer_of verdict_of refusal_of write_of read_scalar_of read_array_of select_of tick_of byte_of status_of send_of message_of ahead_of
 refused_answer t x (call.write w) r e = ap (λ (z : Step Wrote). z.given.answer) (refuses _ _ _ r e)
 refused_answer t x (call.read s) r e = refuses _ _ _ r e
@@ -105,71 +102,65 @@ refused_answer t x (call.read_array s) r e = refuses _ _ _ r e
 refused_answer t x (call.select n) r e = ap (λ (z : Chosen). z.answer) (refuses _ _ _ r e)
 refused_answer t x (call.tick m) r e = ap (λ (z : Ticked). z.answer) (refuses _ _ _ r e)
 refused_answer t x (call.byte_in b) r e =
-    ap (λ (z : Step Took). record { answer = z.given.answer; response = z.given.response }) (refuses _ _ _ r e)
+    ap (λ (z : Step Took). z.given.answer) (refuses _ _ _ r e)
 refused_answer t x call.read_status r e = ap (λ (z : StatusRead). z.answer) (refuses _ _ _ r e)
 refused_answer t x (call.send nad n) r e = ap (λ (z : Sent). z.answer) (refuses _ _ _ r e)
 refused_answer t x call.message_state r e = refuses _ _ _ r e
 refused_answer t x (call.number_ahead f) r e = refuses _ _ _ r e
 
-accepted_answers : (t : List ℕ) (s : State) (o : Opened) (nine bs : List ℕ) (r : Refusal) → (accepted t s o nine bs).given.answer ≡ byte.Refused r → ⊥
+accepted_answers : (t : List ℕ) (s : State) (o : Opened) (nine bs : List ℕ) (r : Refusal) → (accepted t s o nine bs).given.answer ≡ Err r → ⊥
 unfolding accepted
 accepted_answers t s opened.Nothing nine bs r k = let z : ◌≡◌ {A = ℕ} 0 1 = cc in omega arith
 accepted_answers t s (opened.Frame f) nine bs r k = let z : ◌≡◌ {A = ℕ} 0 1 = cc in omega arith
 accepted_answers t s opened.Request nine bs r k = let z : ◌≡◌ {A = ℕ} 0 1 = cc in omega arith
 accepted_answers t s opened.Response nine bs r k = let z : ◌≡◌ {A = ℕ} 0 1 = cc in omega arith
 
-told_answers : (m : Message) (r : Refusal) → told m ≡ tells.Refused r → ⊥
-told_answers None r k = let z : ◌≡◌ {A = ℕ} 0 1 = cc in omega arith
-told_answers (Sending s) r k = let z : ◌≡◌ {A = ℕ} 0 1 = cc in omega arith
-told_answers Completed r k = let z : ◌≡◌ {A = ℕ} 0 1 = cc in omega arith
-told_answers Failed r k = let z : ◌≡◌ {A = ℕ} 0 1 = cc in omega arith
-
 -- an accepted one answers none
-accepted_answer : (t : List ℕ) (x : Held) (c : Call) (r : Refusal) → verdict_of t x c ≡ Accepted → answer_of t x c ≡ refusal_of c r → ⊥
+accepted_answer : (t : List ℕ) (x : Held) (c : Call) (r : Refusal) → verdict_of t x c ≡ Ok tt → answer_of t x c ≡ refusal_of c r → ⊥
 unfolding answer_of verdict_of refusal_of write_of read_scalar_of read_array_of select_of tick_of byte_of status_of send_of message_of ahead_of
 accepted_answer t x (call.write w) r a k = let z = sym (ap (λ (z : Step Wrote). z.given.answer) (goes _ _ _ a)) ∙ k in let y : ◌≡◌ {A = ℕ} 0 1 = cc in omega arith
 accepted_answer t x (call.read s) r a k = let z = sym (goes _ _ _ a) ∙ k in let y : ◌≡◌ {A = ℕ} 0 1 = cc in omega arith
-accepted_answer t x (call.read_array s) r a k = let z = ap (λ (w : ReadArray). w.answer) (sym (goes _ _ _ a) ∙ k) in let y : ◌≡◌ {A = ℕ} 0 1 = cc in omega arith
+accepted_answer t x (call.read_array s) r a k = let z = sym (goes _ _ _ a) ∙ k in let y : ◌≡◌ {A = ℕ} 0 1 = cc in omega arith
 accepted_answer t x (call.select n) r a k = let z = sym (ap (λ (z : Chosen). z.answer) (goes _ _ _ a)) ∙ k in let y : ◌≡◌ {A = ℕ} 0 1 = cc in omega arith
 accepted_answer t x (call.tick m) r a k =
-    ticked_by t x.bytes m (λ w. w.answer ≡ tick.Refused r → ⊥) x.state
+    ticked_by t x.bytes m (λ w. w.answer ≡ Err r → ⊥) x.state
     (λ y z. let q : ◌≡◌ {A = ℕ} 0 1 = cc in omega arith)
     (λ n c z. let q : ◌≡◌ {A = ℕ} 0 1 = cc in omega arith)
     (λ e n c p z. let q : ◌≡◌ {A = ℕ} 0 1 = cc in omega arith)
     (λ e o n c p y z. let q : ◌≡◌ {A = ℕ} 0 1 = cc in omega arith)
     (sym (ap (λ (z : Ticked). z.answer) (goes _ _ _ a)) ∙ k)
 accepted_answer t x (call.byte_in b) r a k =
-    taken_by t x.state x.bytes b (λ w. w.given.answer ≡ byte.Refused r → ⊥)
+    taken_by t x.state x.bytes b (λ w. w.given.answer ≡ Err r → ⊥)
     (λ nine e z. let q : ◌≡◌ {A = ℕ} 0 1 = cc in omega arith)
     (λ z. let q : ◌≡◌ {A = ℕ} 0 1 = cc in omega arith)
     (λ y z. let q : ◌≡◌ {A = ℕ} 0 1 = cc in omega arith)
     (λ n z. accepted_answers t x.state x.state.transfer.opened (with_byte x.state.transfer b) x.bytes r z)
-    (sym (ap (λ (z : Step Took). z.given.answer) (goes _ _ _ a)) ∙ ap (λ (w : Reply). w.answer) k)
+    (sym (ap (λ (z : Step Took). z.given.answer) (goes _ _ _ a)) ∙ k)
 accepted_answer t x call.read_status r a k = let z = sym (ap (λ (z : StatusRead). z.answer) (goes _ _ _ a)) ∙ k in let y : ◌≡◌ {A = ℕ} 0 1 = cc in omega arith
 accepted_answer t x (call.send nad n) r a k = let z = sym (ap (λ (z : Sent). z.answer) (goes _ _ _ a)) ∙ k in let y : ◌≡◌ {A = ℕ} 0 1 = cc in omega arith
-accepted_answer t x call.message_state r a k = told_answers x.state.message r (sym (goes _ _ _ a) ∙ k)
+accepted_answer t x call.message_state r a k = let z = sym (goes _ _ _ a) ∙ k in let y : ◌≡◌ {A = ℕ} 0 1 = cc in omega arith
 accepted_answer t x (call.number_ahead f) r a k = let z = sym (goes _ _ _ a) ∙ k in let y : ◌≡◌ {A = ℕ} 0 1 = cc in omega arith
 
 same_refusal : (c : Call) (r q : Refusal) → refusal_of c r ≡ refusal_of c q → r ≡ q
 unfolding refusal_of
 same_refusal (call.write w) r q e = cc
 same_refusal (call.read s) r q e = cc
-same_refusal (call.read_array s) r q e = let z = ap (λ (w : ReadArray). w.answer) e in cc
+same_refusal (call.read_array s) r q e = cc
 same_refusal (call.select n) r q e = cc
 same_refusal (call.tick m) r q e = cc
-same_refusal (call.byte_in b) r q e = let z = ap (λ (w : Reply). w.answer) e in cc
+same_refusal (call.byte_in b) r q e = cc
 same_refusal call.read_status r q e = cc
 same_refusal (call.send nad n) r q e = cc
 same_refusal call.message_state r q e = cc
 same_refusal (call.number_ahead f) r q e = cc
 
 -- a refusal is answered exactly when it is the verdict
-pub refused_exactly : (t : List ℕ) (x : Held) (c : Call) (r : Refusal) → (answer_of t x c ≡ refusal_of c r) ↔ (verdict_of t x c ≡ Refused r)
+pub refused_exactly : (t : List ℕ) (x : Held) (c : Call) (r : Refusal) → (answer_of t x c ≡ refusal_of c r) ↔ (verdict_of t x c ≡ Err r)
 refused_exactly t x c r = (by (verdict_of t x c) refl, refused_answer t x c r)
   where
-    by : (v : Verdict) → verdict_of t x c ≡ v → answer_of t x c ≡ refusal_of c r → verdict_of t x c ≡ Refused r
-    by Accepted e k = absurd (accepted_answer t x c r e k)
-    by (Refused q) e k = e ∙ ap Refused (same_refusal c q r (sym (refused_answer t x c q e) ∙ k))
+    by : (v : Verdict) → verdict_of t x c ≡ v → answer_of t x c ≡ refusal_of c r → verdict_of t x c ≡ Err r
+    by (Ok tt) e k = absurd (accepted_answer t x c r e k)
+    by (Err q) e k = e ∙ ap Err (same_refusal c q r (sym (refused_answer t x c q e) ∙ k))
 
 -- "All change nothing": a refused call hands back the state and every lent byte as they were
 pub refused_changes_nothing : (t : List ℕ) (x : Held) (c : Call) (r : Refusal) → answer_of t x c ≡ refusal_of c r → left_by t x c ≡ x
@@ -178,8 +169,8 @@ refused_changes_nothing t x c r k = left_by_verdict t x c ∙ rw ((refused_exact
 -- what is told is the verdict, and the values where it accepts
 telling : {A : Type 0} (tell : A → Told) (v : Verdict) (refuse : Refusal → A) (go : A) (vs : List ℕ) → ((r : Refusal) → tell (refuse r) ≡ refusing r)
     → tell go ≡ gives vs → tell (answered v refuse go) ≡ told_as v vs
-telling tell Accepted refuse go vs other rest = rest
-telling tell (Refused r) refuse go vs other rest = other r
+telling tell (Ok tt) refuse go vs other rest = rest
+telling tell (Err r) refuse go vs other rest = other r
 
 accepted_told : (t : List ℕ) (s : State) (o : Opened) (nine bs : List ℕ) → byte_told (accepted t s o nine bs).given.answer ≡ gives []
 unfolding accepted
@@ -188,7 +179,7 @@ accepted_told t s (opened.Frame f) nine bs = refl
 accepted_told t s opened.Request nine bs = refl
 accepted_told t s opened.Response nine bs = refl
 
-message_told_lem : (x : Message) → message_told (told x) ≡ gives []
+message_told_lem : (x : Message) → message_told (Ok (told x)) ≡ gives []
 message_told_lem None = refl
 message_told_lem (Sending x) = refl
 message_told_lem Completed = refl
@@ -198,7 +189,7 @@ pub verdict_told_lem : (t : List ℕ) (x : Held) (c : Call) → told_of c (answe
 unfolding told_of answer_of verdict_of values_of opening write_of read_scalar_of read_array_of select_of tick_of byte_of status_of send_of message_of ahead_of
 verdict_told_lem t x (call.write w) = telling (λ (z : Step Wrote). write_told z.given.answer) (write_verdict t (length x.bytes) x.state w) _ _ _ (λ r. refl) refl
 verdict_told_lem t x (call.read s) = telling read_told (read_verdict t (length x.bytes) x.state s false) _ _ _ (λ r. refl) refl
-verdict_told_lem t x (call.read_array s) = telling (λ (z : ReadArray). array_told z.answer) (read_verdict t (length x.bytes) x.state s true) _ _ _ (λ r. refl) refl
+verdict_told_lem t x (call.read_array s) = telling (λ (z : ArrayAnswer). array_told z) (read_verdict t (length x.bytes) x.state s true) _ _ _ (λ r. refl) refl
 verdict_told_lem t x (call.select n) = telling (λ (z : Chosen). select_told z.answer) (select_verdict t x.state n) _ _ _ (λ r. refl) refl
 verdict_told_lem t x (call.tick m) =
     telling (λ (z : Ticked). tick_told z.answer) (tick_verdict t (length x.bytes) (length m) x.state) _ _ _ (λ r. refl)
@@ -216,7 +207,7 @@ verdict_told_lem t x (call.number_ahead f) = telling ahead_told (ahead_verdict t
 -- ---- what every call keeps
 
 -- tests 1, 2 and 3 hold of an accepted call
-admitted_first : (t : List ℕ) (x : Held) (c : Call) → verdict_of t x c ≡ Accepted → (n : ℕ) × (admitted t n x.state ≡ Accepted)
+admitted_first : (t : List ℕ) (x : Held) (c : Call) → verdict_of t x c ≡ Ok tt → (n : ℕ) × (admitted t n x.state ≡ Ok tt)
 unfolding verdict_of read_verdict select_verdict tick_verdict byte_verdict send_verdict ahead_verdict
 admitted_first t x (call.write w) a = (_, then_first (admitted t (length x.bytes) x.state) _ a)
 admitted_first t x (call.read s) a = (_, then_first (admitted t (length x.bytes) x.state) _ a)
@@ -229,7 +220,7 @@ admitted_first t x (call.send nad n) a = (_, then_first (admitted t (buffer_size
 admitted_first t x call.message_state a = (_, a)
 admitted_first t x (call.number_ahead f) a = (_, then_first (admitted t (buffer_size t) x.state) _ a)
 
-effect_fits : (t : List ℕ) (x : Held) (c : Call) → verdict_of t x c ≡ Accepted → state_fits t (effect_of t x c).state ≡ true
+effect_fits : (t : List ℕ) (x : Held) (c : Call) → verdict_of t x c ≡ Ok tt → state_fits t (effect_of t x c).state ≡ true
 unfolding effect_of verdict_of select_verdict send_verdict
 effect_fits t x c a =
     let s = x.state in
@@ -239,7 +230,7 @@ effect_fits t x c a =
     let fits = fits_clauses t s h in
     by c a ok h fits
   where
-    by : (c : Call) → verdict_of t x c ≡ Accepted → RightTable t → state_fits t x.state ≡ true → Fits t x.state → state_fits t (effect_of t x c).state ≡ true
+    by : (c : Call) → verdict_of t x c ≡ Ok tt → RightTable t → state_fits t x.state ≡ true → Fits t x.state → state_fits t (effect_of t x c).state ≡ true
     by (call.write w) a ok h fits =
         let k = writable_signal t w.signal (is_bytes w.value) (fits_signal t w.signal w.value) (then_second (admitted t (length x.bytes) x.state) _ a) in
         fits_all t (marked t w.signal x.state) (marked_fits t x.state fits ok w.signal k.below k.is_published)
@@ -258,14 +249,14 @@ effect_fits t x c a =
     by (call.number_ahead f) a ok h fits = h
 
 -- what holds of the old, and of each effect, holds of what a call leaves
-pub kept : (t : List ℕ) (x : Held) (c : Call) (P : Held → Type 0) → P x → (verdict_of t x c ≡ Accepted → P (effect_of t x c)) → P (left_by t x c)
+pub kept : (t : List ℕ) (x : Held) (c : Call) (P : Held → Type 0) → P x → (verdict_of t x c ≡ Ok tt → P (effect_of t x c)) → P (left_by t x c)
 kept t x c P old new = rw (left_by_verdict t x c) (by_verdict P (verdict_of t x c) (λ r. x) (effect_of t x c) (λ r e. old) new)
 
 -- the state that a call hands back fits the table, refused or not
 pub keeps_fit : (t : List ℕ) (x : Held) (c : Call) → state_fits t x.state ≡ true → state_fits t (left_by t x c).state ≡ true
 keeps_fit t x c h = kept t x c (λ y. state_fits t y.state ≡ true) h (effect_fits t x c)
 
-effect_length : (t : List ℕ) (x : Held) (c : Call) → verdict_of t x c ≡ Accepted → length (effect_of t x c).bytes ≡ length x.bytes
+effect_length : (t : List ℕ) (x : Held) (c : Call) → verdict_of t x c ≡ Ok tt → length (effect_of t x c).bytes ≡ length x.bytes
 unfolding effect_of verdict_of byte_verdict
 effect_length t x (call.write w) a = value_length t x.bytes w.signal w.value
 effect_length t x (call.read s) a = refl

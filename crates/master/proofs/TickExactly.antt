@@ -11,22 +11,16 @@ use Rattle.wire.specs.Bits.{bit}
 use Rattle.wire.specs.Identifier.{p0, p1, protected_byte}
 use Rattle.cluster.specs.Table.{identifier, entry_kind, entry_target, entry_delay}
 use Rattle.cluster.specs.Lists.{members, first_entry, next_entry}
-use Rattle.cluster.specs.declared.Verdict.TheVariants.{Accepted}
 use Rattle.transport.proofs.Tests.{whether, order}
 use Rattle.master.specs.declared.state.Plan.{Plan}
-use Rattle.master.specs.declared.state.Current.{Current}
-use Rattle.master.specs.declared.state.Current.TheVariants as current
-use Rattle.master.specs.declared.state.Requested.{Requested}
-use Rattle.master.specs.declared.state.Requested.TheVariants as requested
 use Rattle.master.specs.declared.state.Opened.{Opened}
 use Rattle.master.specs.declared.state.Opened.TheVariants.{Nothing, Frame, Request, Response}
 use Rattle.master.specs.declared.state.Sending.{Sending}
 use Rattle.master.specs.declared.state.Message.{Message}
 use Rattle.master.specs.declared.state.Message.TheVariants as message
 use Rattle.master.specs.declared.state.State.{State}
-use Rattle.master.specs.declared.tick.TickAnswer.{TickAnswer}
 use Rattle.master.specs.declared.tick.TickAnswer.TheVariants.{Waiting, Idle, Silent, Opened as Opens}
-use Rattle.master.specs.declared.tick.Ticked.{Ticked}
+use Rattle.master.specs.Answers.{Ticked}
 use Rattle.master.specs.Fits.{is_sending}
 use Rattle.master.specs.Transfers.{is_open, format_of, open_protected, opening}
 use Rattle.master.specs.Plan.{entry_due}
@@ -39,42 +33,45 @@ use Rattle.master.proofs.PendingLaws.{NonePending, First, first_pending_is, firs
 use Rattle.master.proofs.PendingLength.{abandoned_pending}
 use Rattle.master.proofs.SlotFits.{abandoned_nothing, abandoned_plan}
 use Rattle.master.proofs.Tests.{never}
+use Rattle.std.specs.Prelude.{Ok}
+use Rattle.master.specs.Answers.{TickResult}
+use Rattle.std.specs.Prelude.{Some, None, Option}
 
 -- ---- the paper's sentences
 
 -- the entry that is due: "the requested schedule begins", "at its entry 0", "or the next entry follows, cyclically"
 abbrev EntryDue : List ℕ → Plan → ℕ → Type 0
 EntryDue t p e =
-    ((n : ℕ) × (p.requested ≡ requested.Schedule n) × (e ≡ first_entry t n))
-    ⊎ ((p.requested ≡ requested.None) × ((c : ℕ) × (p.current ≡ current.Entry c) × (e ≡ next_entry t c)))
+    ((n : ℕ) × (p.requested ≡ Some n) × (e ≡ first_entry t n))
+    ⊎ ((p.requested ≡ None) × ((c : ℕ) × (p.current ≡ Some c) × (e ≡ next_entry t c)))
 
 -- a message is being sent, and none of its frames is being closed as failed by the slot's start
 abbrev StillSending : State → Type 0
 StillSending s = ((y : Sending) × (s.message ≡ message.Sending y)) × ¬ (s.transfer.opened ≡ Request)
 
 -- what a slot with entry e answers, and what is open after it
-pub record SlotSays (t : List ℕ) (s : State) (e : ℕ) (a : TickAnswer) (o : Opened) : Type 0 where
+pub record SlotSays (t : List ℕ) (s : State) (e : ℕ) (a : TickResult) (o : Opened) : Type 0 where
   -- "Kind 0 opens its frame."
-  pub frame : entry_kind t e ≡ 0 → (a ≡ Opens (protected_byte (identifier t (entry_target t e)))) × (o ≡ Frame (entry_target t e))
+  pub frame : entry_kind t e ≡ 0 → (a ≡ Ok (Opens (protected_byte (identifier t (entry_target t e))))) × (o ≡ Frame (entry_target t e))
   -- "Kind 1 opens the first pending member, or is silent."
   pub list : entry_kind t e ≡ 1
-      → ((f : ℕ) × First s.pending (members t (entry_target t e)) f × (a ≡ Opens (protected_byte (identifier t f))) × (o ≡ Frame f))
-      ⊎ (NonePending s.pending (members t (entry_target t e)) × (a ≡ Silent) × (o ≡ Nothing))
+      → ((f : ℕ) × First s.pending (members t (entry_target t e)) f × (a ≡ Ok (Opens (protected_byte (identifier t f)))) × (o ≡ Frame f))
+      ⊎ (NonePending s.pending (members t (entry_target t e)) × (a ≡ Ok Silent) × (o ≡ Nothing))
   -- "Kind 2 opens identifier 60 if a message is being sent, or is silent."
-  pub request : entry_kind t e ≡ 2 → (StillSending s × (a ≡ Opens 60) × (o ≡ Request)) ⊎ (¬ StillSending s × (a ≡ Silent) × (o ≡ Nothing))
+  pub request : entry_kind t e ≡ 2 → (StillSending s × (a ≡ Ok (Opens 60)) × (o ≡ Request)) ⊎ (¬ StillSending s × (a ≡ Ok Silent) × (o ≡ Nothing))
   -- "Kind 3 always opens identifier 61": 7D in hexadecimal
-  pub response : entry_kind t e ≡ 3 → (a ≡ Opens 125) × (o ≡ Response)
+  pub response : entry_kind t e ≡ 3 → (a ≡ Ok (Opens 125)) × (o ≡ Response)
 
 pub record TickSays (t : List ℕ) (s : State) (r : Ticked) : Type 0 where
   -- "If the wait is above 1, it falls by one and the answer is "waiting"."
-  pub waiting : (r.answer ≡ Waiting) ↔ (1 < s.plan.wait)
+  pub waiting : (r.answer ≡ Ok Waiting) ↔ (1 < s.plan.wait)
   pub falls : 1 < s.plan.wait → r.state ≡ with_plan s (record { wait = s.plan.wait - 1; current = s.plan.current; requested = s.plan.requested })
   -- "Otherwise a slot starts": "with no schedule the answer is "idle" and the wait stays 0"
-  pub idle : (r.answer ≡ Idle) ↔ ((s.plan.wait ≤ 1) × (s.plan.requested ≡ requested.None) × (s.plan.current ≡ current.None))
-  pub stays : r.answer ≡ Idle → r.state.plan ≡ s.plan
+  pub idle : (r.answer ≡ Ok Idle) ↔ ((s.plan.wait ≤ 1) × (s.plan.requested ≡ None) × (s.plan.current ≡ None))
+  pub stays : r.answer ≡ Ok Idle → r.state.plan ≡ s.plan
   -- "The wait becomes the entry's delay."
   pub begins : (e : ℕ) → s.plan.wait ≤ 1 → EntryDue t s.plan e
-      → r.state.plan ≡ record { wait = entry_delay t e; current = current.Entry e; requested = requested.None }
+      → r.state.plan ≡ record { wait = entry_delay t e; current = Some e; requested = None }
   pub opens : (e : ℕ) → s.plan.wait ≤ 1 → EntryDue t s.plan e → SlotSays t s e r.answer r.state.transfer.opened
 
 -- ---- the message behind the slot's start
@@ -123,15 +120,15 @@ protected_diagnostic = (refl, refl)
 module _ (t bs m : List ℕ) (s : State) (e : ℕ) where
   -- the slot behind the closing
   abbrev began : Ticked
-  began = slot_at t bs m (abandoned t s) (current.Entry e)
+  began = slot_at t bs m (abandoned t s) (Some e)
 
   -- what it opens is answered and open
   opened_as_lem : (o : Opened) → is_open o ≡ true → slot_opens t (abandoned t s).pending (abandoned t s).message e ≡ o
-      → (began.answer ≡ Opens (open_protected t o)) × (began.state.transfer.opened ≡ o)
+      → (began.answer ≡ Ok (Opens (open_protected t o))) × (began.state.transfer.opened ≡ o)
   unfolding slot_at opens_or_silent opening
   opened_as_lem o y q = rw (q, y) (refl, refl)
 
-  silent_as : slot_opens t (abandoned t s).pending (abandoned t s).message e ≡ Nothing → (began.answer ≡ Silent) × (began.state.transfer.opened ≡ Nothing)
+  silent_as : slot_opens t (abandoned t s).pending (abandoned t s).message e ≡ Nothing → (began.answer ≡ Ok Silent) × (began.state.transfer.opened ≡ Nothing)
   unfolding slot_at opens_or_silent
   silent_as q = rw q (refl, abandoned_nothing t s)
 
@@ -157,16 +154,16 @@ module _ (t bs m : List ℕ) (s : State) (e : ℕ) where
 
 module _ (t bs m : List ℕ) (s : State) where
   -- a slot with the entry that is due
-  due : (e : ℕ) → EntryDue t s.plan e → entry_due t s.plan.requested s.plan.current ≡ current.Entry e
+  due : (e : ℕ) → EntryDue t s.plan e → entry_due t s.plan.requested s.plan.current ≡ Some e
   due e = ⊎_elim (λ w. rw (w.1, w.2)) (λ w. rw (w.0, w.1.1, w.1.2))
 
-  began_plan : (e : ℕ) → (slot_at t bs m (abandoned t s) (current.Entry e)).state.plan
-      ≡ record { wait = entry_delay t e; current = current.Entry e; requested = requested.None }
+  began_plan : (e : ℕ) → (slot_at t bs m (abandoned t s) (Some e)).state.plan
+      ≡ record { wait = entry_delay t e; current = Some e; requested = None }
   unfolding slot_at opens_or_silent
   began_plan e = whether (is_open (slot_opens t (abandoned t s).pending (abandoned t s).message e)) (λ y. rw y) (λ n. rw n)
 
   -- a slot with an entry neither waits nor is idle
-  slot_answers : (e : ℕ) → ¬ ((slot_at t bs m (abandoned t s) (current.Entry e)).answer ≡ Waiting) × ¬ ((slot_at t bs m (abandoned t s) (current.Entry e)).answer ≡ Idle)
+  slot_answers : (e : ℕ) → ¬ ((slot_at t bs m (abandoned t s) (Some e)).answer ≡ Ok Waiting) × ¬ ((slot_at t bs m (abandoned t s) (Some e)).answer ≡ Ok Idle)
   unfolding slot_at opens_or_silent
   slot_answers e = whether (is_open (slot_opens t (abandoned t s).pending (abandoned t s).message e))
       (λ y. rw y ((λ q. let z : ◌≡◌ {A = ℕ} 0 1 = cc in omega arith), λ q. let z : ◌≡◌ {A = ℕ} 0 1 = cc in omega arith))
@@ -174,15 +171,15 @@ module _ (t bs m : List ℕ) (s : State) where
 
   -- no schedule is requested and none runs, or an entry is due
   abbrev NoSchedule : Type 0
-  NoSchedule = (s.plan.requested ≡ requested.None) × (s.plan.current ≡ current.None)
+  NoSchedule = (s.plan.requested ≡ None) × (s.plan.current ≡ None)
 
   none_or_due : NoSchedule ⊎ ((e : ℕ) × EntryDue t s.plan e)
   none_or_due = by s.plan.requested refl s.plan.current refl
     where
-      by : (r : Requested) → s.plan.requested ≡ r → (c : Current) → s.plan.current ≡ c → NoSchedule ⊎ ((e : ℕ) × EntryDue t s.plan e)
-      by (requested.Schedule n) p c q = inr (first_entry t n, inl (n, p, refl))
-      by requested.None p current.None q = inl (p, q)
-      by requested.None p (current.Entry e) q = inr (next_entry t e, inr (p, (e, q, refl)))
+      by : (r : Option ℕ) → s.plan.requested ≡ r → (c : Option ℕ) → s.plan.current ≡ c → NoSchedule ⊎ ((e : ℕ) × EntryDue t s.plan e)
+      by (Some n) p c q = inr (first_entry t n, inl (n, p, refl))
+      by None p None q = inl (p, q)
+      by None p (Some e) q = inr (next_entry t e, inr (p, (e, q, refl)))
 
   not_due : (e : ℕ) → EntryDue t s.plan e → ¬ NoSchedule
   not_due e d n = ⊎_elim
@@ -203,7 +200,7 @@ module _ (t bs m : List ℕ) (s : State) where
 
   tick_idles : s.plan.wait ≤ 1 → NoSchedule → TickSays t s (tick_effect t bs m s)
   unfolding tick_effect slot slot_at
-  tick_idles h n = let c : entry_due t s.plan.requested s.plan.current ≡ current.None = rw (n.0, n.1) in rw (le-ltb 1 s.plan.wait h, c) (record {
+  tick_idles h n = let c : entry_due t s.plan.requested s.plan.current ≡ None = rw (n.0, n.1) in rw (le-ltb 1 s.plan.wait h, c) (record {
     waiting = (λ q. let z : ◌≡◌ {A = ℕ} 0 1 = cc in absurd (omega arith), λ q. absurd (omega arith));
     falls = λ q. absurd (omega arith);
     idle = (λ q. (h, n.0, n.1), λ w. refl);
@@ -214,7 +211,7 @@ module _ (t bs m : List ℕ) (s : State) where
 
   -- only one entry is due
   one_due : (d e : ℕ) → EntryDue t s.plan d → EntryDue t s.plan e → d ≡ e
-  one_due d e p q = let u = due d p in let v = due e q in let w : current.Entry d ≡ current.Entry e = sym u ∙ v in cc
+  one_due d e p q = let u = due d p in let v = due e q in let w : Some d ≡ Some e = sym u ∙ v in cc
 
   tick_begins : s.plan.wait ≤ 1 → (e : ℕ) → EntryDue t s.plan e → TickSays t s (tick_effect t bs m s)
   unfolding tick_effect slot
@@ -234,6 +231,6 @@ module _ (t bs m : List ℕ) (s : State) where
       tick_waits
 
   -- an accepted tick, of every state
-  pub tick_exactly : tick_verdict t (length bs) (length m) s ≡ Accepted → TickSays t s (tick_of t bs m s)
+  pub tick_exactly : tick_verdict t (length bs) (length m) s ≡ Ok tt → TickSays t s (tick_of t bs m s)
   unfolding tick_of
   tick_exactly a = rw a effect_exactly

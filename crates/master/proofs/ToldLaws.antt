@@ -8,8 +8,6 @@ use lib.Dec.{ltb, eqb}
 use lib.ListN.{length}
 use Rattle.refusal.specs.declared.Refusal.{Refusal}
 use Rattle.refusal.specs.Answers.{Test, test, first_failing}
-use Rattle.cluster.specs.declared.Verdict.{Verdict}
-use Rattle.cluster.specs.declared.Verdict.TheVariants.{Accepted, Refused}
 use Rattle.cluster.specs.Check.{taken_of, then}
 use Rattle.cluster.specs.Answers.{verdict_told, behind_table}
 use Rattle.cluster.specs.Table.{frame_count, signal_count, is_array, member_count, schedule_count}
@@ -17,8 +15,7 @@ use Rattle.cluster.specs.Lists.{member_of}
 use Rattle.cluster.specs.Values.{signal_published}
 use Rattle.transport.specs.Cutting.{is_length}
 use Rattle.cluster.specs.Fresh.{fresh_bytes}
-use Rattle.master.specs.declared.start.FreshAnswer.TheVariants as start
-use Rattle.master.specs.declared.start.Started.{Started}
+use Rattle.master.specs.Answers.{Started}
 use Rattle.master.specs.Fresh.{fresh}
 use Rattle.master.specs.declared.state.State.{State}
 use Rattle.master.specs.Fits.{state_fits, is_sending, lent_fits}
@@ -29,16 +26,13 @@ use Rattle.master.specs.Write.{is_bytes, fits_signal, writable, write_of}
 use Rattle.master.specs.Put.{Put}
 use Rattle.master.specs.Read.{read_verdict, read_scalar_of, read_array_of}
 use Rattle.master.specs.Select.{select_verdict, select_of}
-use Rattle.master.specs.declared.select.Chosen.{Chosen}
-use Rattle.master.specs.declared.write.Wrote.{Wrote}
-use Rattle.master.specs.declared.read.ReadAnswer.{ReadAnswer}
-use Rattle.master.specs.declared.read.ReadArray.{ReadArray}
-use Rattle.master.specs.declared.read.StatusRead.{StatusRead}
-use Rattle.master.specs.declared.tick.Ticked.{Ticked}
-use Rattle.master.specs.declared.byte.Took.{Took}
-use Rattle.master.specs.declared.send.Sent.{Sent}
-use Rattle.master.specs.declared.send.MessageAnswer.{MessageAnswer}
-use Rattle.master.specs.declared.ahead.AheadAnswer.{AheadAnswer}
+use Rattle.master.specs.Answers.{Chosen}
+use Rattle.master.specs.Answers.{Wrote}
+use Rattle.master.specs.Answers.{ArrayAnswer}
+use Rattle.master.specs.Answers.{StatusRead}
+use Rattle.master.specs.Answers.{Ticked}
+use Rattle.master.specs.Answers.{Took}
+use Rattle.master.specs.Answers.{Sent}
 use Rattle.master.specs.Tick.{tick_verdict, tick_of}
 use Rattle.master.specs.Byte.{byte_verdict, byte_of}
 use Rattle.master.specs.Message.{send_verdict, send_of, message_of}
@@ -52,13 +46,18 @@ use Rattle.master.specs.Step.{verdict_of, told_of}
 use Rattle.master.specs.Told.{told_as, size_test, state_test, tests_of, values_of, call_told, fresh_call_told, admit_told}
 use Rattle.master.proofs.Answered.{then_accepted}
 use Rattle.master.proofs.StepLaws.{verdict_told_lem}
+use Rattle.std.specs.Prelude.{Ok, Err}
+use Rattle.cluster.specs.Check.{Verdict}
+use Rattle.master.specs.Answers.{ReadAnswer}
+use Rattle.master.specs.Answers.{AheadAnswer}
+use Rattle.master.specs.Answers.{MessageResult}
 
 module _ (vs : List ℕ) where
   -- a verdict and some tests tell the same
   abbrev Alike : Verdict → List Test → Type 0
   Alike v tests = told_as v vs ≡ first_failing tests vs
 
-  done : Alike Accepted []
+  done : Alike (Ok tt) []
   unfolding first_failing
   done = refl
 
@@ -68,8 +67,8 @@ module _ (vs : List ℕ) where
   tested false n v tests e = refl
 
   behind_table_lem : (w v : Verdict) (tests : List Test) → Alike v tests → told_as (then w v) vs ≡ behind_table w (first_failing tests vs)
-  behind_table_lem Accepted v tests e = e
-  behind_table_lem (Refused r) v tests e = refl
+  behind_table_lem (Ok tt) v tests e = e
+  behind_table_lem (Err r) v tests e = refl
 
 -- tests 1, 2 and 3 and the rest, one after the other
 admitted_then : (t : List ℕ) (n : ℕ) (s : State) (v : Verdict)
@@ -77,11 +76,11 @@ admitted_then : (t : List ℕ) (n : ℕ) (s : State) (v : Verdict)
 unfolding admitted
 admitted_then t n s v = by (taken_of t) (eqb n (buffer_size t)) (state_fits t s)
   where
-    by : (w : Verdict) (a b : Bool) → then (then w (unless a 2 (unless b 3 Accepted))) v ≡ then w (unless a 2 (unless b 3 v))
-    by Accepted true true = refl
-    by Accepted true false = refl
-    by Accepted false b = refl
-    by (Refused r) a b = refl
+    by : (w : Verdict) (a b : Bool) → then (then w (unless a 2 (unless b 3 (Ok tt)))) v ≡ then w (unless a 2 (unless b 3 v))
+    by (Ok tt) true true = refl
+    by (Ok tt) true false = refl
+    by (Ok tt) false b = refl
+    by (Err r) a b = refl
 
 module _ (t : List ℕ) (s : State) (vs : List ℕ) where
   -- of a call that is lent the frame bytes
@@ -103,7 +102,7 @@ module _ (t : List ℕ) (s : State) (vs : List ℕ) where
 
   -- and of one with no test of its own
   asked_told : told_as (admitted t (buffer_size t) s) vs ≡ behind_table (taken_of t) (first_failing (state_test t s ∷ []) vs)
-  asked_told = ap (λ (w : Verdict). told_as w vs) (sym (then_accepted (admitted t (buffer_size t) s))) ∙ unlent_told Accepted [] (done vs)
+  asked_told = ap (λ (w : Verdict). told_as w vs) (sym (then_accepted (admitted t (buffer_size t) s))) ∙ unlent_told (Ok tt) [] (done vs)
 
 -- the tests of every call
 tests_told : (t : List ℕ) (x : Held) (c : Call) (vs : List ℕ) → told_as (verdict_of t x c) vs ≡ behind_table (taken_of t) (first_failing (tests_of t x c) vs)
@@ -143,11 +142,11 @@ fresh_told_lem t bs =
     ∙ behind_table_lem [] (taken_of t) _ _ (tested [] (eqb (length bs) (8 * frame_count t)) 2 _ _ (done []))
   where
     refuse : Refusal → Step Started
-    refuse r = record { given = record { state = fresh; answer = start.Refused r }; left = bs }
+    refuse r = record { given = record { state = fresh; answer = Err r }; left = bs }
 
-    by : (v : Verdict) → fresh_told (answered v refuse (record { given = record { state = fresh; answer = start.Fresh }; left = fresh_bytes t })).given.answer ≡ told_as v []
-    by Accepted = refl
-    by (Refused r) = refl
+    by : (v : Verdict) → fresh_told (answered v refuse (record { given = record { state = fresh; answer = Ok tt }; left = fresh_bytes t })).given.answer ≡ told_as v []
+    by (Ok tt) = refl
+    by (Err r) = refl
 
 -- and the tests at the head of the calls
 pub admit_told_lem : (t : List ℕ) (n : ℕ) (s : State) → verdict_told (admitted t n s) ≡ admit_told t n s
@@ -157,8 +156,8 @@ admit_told_lem t n s =
     ∙ behind_table_lem [] (taken_of t) _ _ (tested [] (eqb n (8 * frame_count t)) 2 _ _ (tested [] (state_fits t s) 3 _ _ (done [])))
   where
     by : (v : Verdict) → verdict_told v ≡ told_as v []
-    by Accepted = refl
-    by (Refused r) = refl
+    by (Ok tt) = refl
+    by (Err r) = refl
 
 -- ---- what the contract of each call says beside the answer, from the answer alone
 
@@ -171,8 +170,8 @@ pub read_told_lem : (t : List ℕ) (x : State) (bs : List ℕ) (s : ℕ) (r : Re
 unfolding answer_of told_of
 read_told_lem t x bs s r e = (e, rw e (call_told_lem t (held x bs) (call.read s)))
 
-pub read_array_told : (t : List ℕ) (x : State) (bs : List ℕ) (s : ℕ) (r : ReadArray) → r ≡ read_array_of t x bs s
-    → (r ≡ read_array_of t x bs s) × (array_told r.answer ≡ call_told t (held x bs) (call.read_array s))
+pub read_array_told : (t : List ℕ) (x : State) (bs : List ℕ) (s : ℕ) (r : ArrayAnswer) → r ≡ read_array_of t x bs s
+    → (r ≡ read_array_of t x bs s) × (array_told r ≡ call_told t (held x bs) (call.read_array s))
 unfolding answer_of told_of
 read_array_told t x bs s r e = (e, rw e (call_told_lem t (held x bs) (call.read_array s)))
 
@@ -191,7 +190,7 @@ pub send_told_lem : (t : List ℕ) (x : State) (nad n : ℕ) (r : Sent) → r �
 unfolding answer_of told_of
 send_told_lem t x nad n r e = (e, rw e (call_told_lem t (held x []) (call.send nad n)))
 
-pub message_told_lem : (t : List ℕ) (x : State) (r : MessageAnswer) → r ≡ message_of t x
+pub message_told_lem : (t : List ℕ) (x : State) (r : MessageResult) → r ≡ message_of t x
     → (r ≡ message_of t x) × (message_told r ≡ call_told t (held x []) call.message_state)
 unfolding answer_of told_of
 message_told_lem t x r e = (e, rw e (call_told_lem t (held x []) call.message_state))

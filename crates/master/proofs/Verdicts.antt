@@ -9,7 +9,6 @@ use borrow.Author.Tests.{ltb-true, leb-true}
 use Rattle.refusal.specs.Numbers as number
 use Rattle.transport.proofs.Tests.{and_right}
 use Rattle.transport.specs.Cutting.{is_length}
-use Rattle.cluster.specs.declared.Verdict.TheVariants.{Accepted}
 use Rattle.cluster.specs.Table.{signal_count, member_count}
 use Rattle.cluster.specs.Values.{value_fits}
 use Rattle.cluster.specs.Check.{TakenTable, RightTable, then}
@@ -28,10 +27,11 @@ use Rattle.master.specs.Ahead.{ahead_verdict}
 use Rattle.cluster.specs.Lists.{member_of}
 use Rattle.master.proofs.Answered.{Writable, writable_signal}
 use Rattle.master.proofs.Admitted.{unless_test, admits, admitted_table, admitted_size, admitted_fits, Fits, fits_clauses, open_identifier_lem, open_length_low, open_length_high, open_count}
+use Rattle.std.specs.Prelude.{Ok}
 
 -- ---- write
 
-module _ (t : List ℕ) (n : ℕ) (x : State) (s : ℕ) (array fits : Bool) (h : then (admitted t n x) (writable t s array fits) ≡ Accepted) where
+module _ (t : List ℕ) (n : ℕ) (x : State) (s : ℕ) (array fits : Bool) (h : then (admitted t n x) (writable t s array fits) ≡ Ok tt) where
   pub write_table : RightTable t
   write_table = admitted_table t n x (then_first (admitted t n x) (writable t s array fits) h)
 
@@ -40,7 +40,7 @@ module _ (t : List ℕ) (n : ℕ) (x : State) (s : ℕ) (array fits : Bool) (h :
 
 -- an accepted scalar is a number of 16 bits
 pub write_value_below : (t : List ℕ) (n : ℕ) (x : State) (s v : ℕ)
-    → then (admitted t n x) (writable t s false (value_fits t s v)) ≡ Accepted → v < 65536
+    → then (admitted t n x) (writable t s false (value_fits t s v)) ≡ Ok tt → v < 65536
 write_value_below t n x s v h =
     let fits = value_fits t s v in
     let w = write_signal t n x s false fits h in
@@ -48,7 +48,7 @@ write_value_below t n x s v h =
 
 -- ---- read
 
-module _ (t : List ℕ) (n : ℕ) (x : State) (s : ℕ) (array : Bool) (h : read_verdict t n x s array ≡ Accepted) where
+module _ (t : List ℕ) (n : ℕ) (x : State) (s : ℕ) (array : Bool) (h : read_verdict t n x s array ≡ Ok tt) where
   pub read_table : RightTable t
   unfolding read_verdict
   read_table = admitted_table t n x (then_first (admitted t n x) _ h)
@@ -59,14 +59,14 @@ module _ (t : List ℕ) (n : ℕ) (x : State) (s : ℕ) (array : Bool) (h : read
 
 -- ---- send
 
-pub send_length : (t : List ℕ) (s : State) (n : ℕ) → send_verdict t s n ≡ Accepted → n ≤ 4095
+pub send_length : (t : List ℕ) (s : State) (n : ℕ) → send_verdict t s n ≡ Ok tt → n ≤ 4095
 unfolding send_verdict
 send_length t s n h =
     leb-true n 4095 (and_right (leb 1 n) (leb n 4095) (unless_test (is_length n) number.message_length _ (then_second (admitted t (buffer_size t) s) _ h)))
 
 -- ---- number ahead
 
-module _ (t : List ℕ) (s : State) (f : ℕ) (h : ahead_verdict t s f ≡ Accepted) where
+module _ (t : List ℕ) (s : State) (f : ℕ) (h : ahead_verdict t s f ≡ Ok tt) where
   pub ahead_table : RightTable t
   unfolding ahead_verdict
   ahead_table = admitted_table t (buffer_size t) s (then_first (admitted t (buffer_size t) s) _ h)
@@ -75,12 +75,12 @@ module _ (t : List ℕ) (s : State) (f : ℕ) (h : ahead_verdict t s f ≡ Accep
   unfolding ahead_verdict
   ahead_member =
       ltb-true (member_of t f) (member_count t)
-      (unless_test (ltb (member_of t f) (member_count t)) number.unknown Accepted (then_second (admitted t (buffer_size t) s) _ h))
+      (unless_test (ltb (member_of t f) (member_count t)) number.unknown (Ok tt) (then_second (admitted t (buffer_size t) s) _ h))
 
 -- ---- tick
 
-module _ (t : List ℕ) (n lent : ℕ) (s : State) (h : tick_verdict t n lent s ≡ Accepted) where
-  pub tick_admitted : admitted t n s ≡ Accepted
+module _ (t : List ℕ) (n lent : ℕ) (s : State) (h : tick_verdict t n lent s ≡ Ok tt) where
+  pub tick_admitted : admitted t n s ≡ Ok tt
   unfolding tick_verdict
   tick_admitted = then_first (admitted t n s) _ h
 
@@ -98,8 +98,8 @@ module _ (t : List ℕ) (n lent : ℕ) (s : State) (h : tick_verdict t n lent s 
 
 -- ---- byte in
 
-module _ (t : List ℕ) (n : ℕ) (s : State) (h : byte_verdict t n s ≡ Accepted) where
-  byte_admitted : admitted t n s ≡ Accepted
+module _ (t : List ℕ) (n : ℕ) (s : State) (h : byte_verdict t n s ≡ Ok tt) where
+  byte_admitted : admitted t n s ≡ Ok tt
   unfolding byte_verdict
   byte_admitted = then_first (admitted t n s) _ h
 
@@ -114,7 +114,7 @@ module _ (t : List ℕ) (n : ℕ) (s : State) (h : byte_verdict t n s ≡ Accept
 
   pub byte_open : is_open s.transfer.opened ≡ true
   unfolding byte_verdict
-  byte_open = unless_test (is_open s.transfer.opened) number.no_transfer Accepted (then_second (admitted t n s) _ h)
+  byte_open = unless_test (is_open s.transfer.opened) number.no_transfer (Ok tt) (then_second (admitted t n s) _ h)
 
   pub byte_identifier : open_identifier t s.transfer.opened < 64
   byte_identifier = open_identifier_lem t byte_table s.transfer.opened byte_fits.frame_there_lem
@@ -133,6 +133,6 @@ module _ (t : List ℕ) (n : ℕ) (s : State) (h : byte_verdict t n s ≡ Accept
 
 -- in a state that fits, only a lent message of another length brings a 3 on tick
 pub tick_refusal : (t : List ℕ) (n lent : ℕ) (s : State) → TakenTable t → n ≡ buffer_size t → state_fits t s ≡ true
-    → tick_verdict t n lent s ≡ unless (lent_fits s.message lent) number.state Accepted
+    → tick_verdict t n lent s ≡ unless (lent_fits s.message lent) number.state (Ok tt)
 unfolding tick_verdict
 tick_refusal t n lent s ok e h = rw (admits t n s ok e h)

@@ -4,14 +4,13 @@ use mathlib.Core.Path.{◌≡◌, refl}
 use mathlib.Core.Bool.{◌||◌}
 use mathlib.Core.List.{List}
 use lib.ListN.{length}
-use Rattle.cluster.specs.declared.Verdict.TheVariants.{Accepted}
 use Rattle.master.specs.declared.state.State.{State}
-use Rattle.master.specs.declared.write.WriteAnswer.TheVariants.{Written}
-use Rattle.master.specs.declared.write.Wrote.{Wrote}
+use Rattle.master.specs.Answers.{Wrote}
 use Rattle.master.specs.Admit.{Step}
 use Rattle.master.specs.Write.{marked_from, touches_open, rewritten, marked, write_verdict, write_of}
 use Rattle.master.proofs.Answered.{by_verdict}
 use Rattle.master.specs.Put.{Put, with_value}
+use Rattle.std.specs.Prelude.{Ok}
 
 -- what a write, refused or not, leaves of the state
 pub record Beside (x y : State) : Type 0 where
@@ -39,23 +38,23 @@ marked_marks t s x y e = record {
 
 module _ (t : List ℕ) (x : State) (bs : List ℕ) (w : Put) where
   -- an accepted write is one that its verdict accepts
-  pub write_accepts : (write_of t x bs w).given.answer ≡ Written → write_verdict t (length bs) x w ≡ Accepted
+  pub write_accepts : (write_of t x bs w).given.answer ≡ Ok tt → write_verdict t (length bs) x w ≡ Ok tt
   unfolding write_of
-  write_accepts = by_verdict (λ (z : Step Wrote). z.given.answer ≡ Written → write_verdict t (length bs) x w ≡ Accepted)
+  write_accepts = by_verdict (λ (z : Step Wrote). z.given.answer ≡ Ok tt → write_verdict t (length bs) x w ≡ Ok tt)
       (write_verdict t (length bs) x w) _ _
       (λ r e k. cc) (λ a k. a)
 
   -- an accepted write changes no more of the state than the marks
-  pub write_state : (write_of t x bs w).given.answer ≡ Written → (write_of t x bs w).given.state ≡ marked t w.signal x
+  pub write_state : (write_of t x bs w).given.answer ≡ Ok tt → (write_of t x bs w).given.state ≡ marked t w.signal x
   unfolding write_of
   write_state k = rw (write_accepts k)
 
   -- an accepted write makes the frames pending that its signal touches, and marks an open transfer of one of them as written
-  pub write_marks : (write_of t x bs w).given.answer ≡ Written → Marks t w.signal x (write_of t x bs w).given.state
+  pub write_marks : (write_of t x bs w).given.answer ≡ Ok tt → Marks t w.signal x (write_of t x bs w).given.state
   write_marks k = marked_marks t w.signal x (write_of t x bs w).given.state (write_state k)
 
   -- an accepted write leaves the frame bytes with the value in the signal's bits
-  pub write_left : (write_of t x bs w).given.answer ≡ Written → (write_of t x bs w).left ≡ with_value t bs w.signal w.value
+  pub write_left : (write_of t x bs w).given.answer ≡ Ok tt → (write_of t x bs w).left ≡ with_value t bs w.signal w.value
   unfolding write_of
   write_left k = rw (write_accepts k)
 

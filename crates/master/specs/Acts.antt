@@ -1,20 +1,17 @@
 -- Document 01, "Histories": "Refused calls count for nothing." What counts of an event.
 use Rattle.std.specs.Prelude.{ℕ, Bool, true, false, List}
-use Rattle.master.specs.declared.write.WriteAnswer.{WriteAnswer}
-use Rattle.master.specs.declared.write.WriteAnswer.TheVariants as write
-use Rattle.master.specs.declared.select.SelectAnswer.{SelectAnswer}
-use Rattle.master.specs.declared.select.SelectAnswer.TheVariants as select
-use Rattle.master.specs.declared.tick.TickAnswer.{TickAnswer}
 use Rattle.master.specs.declared.tick.TickAnswer.TheVariants as tick
-use Rattle.master.specs.declared.byte.ByteAnswer.{ByteAnswer}
 use Rattle.master.specs.declared.byte.ByteAnswer.TheVariants as byte
-use Rattle.master.specs.declared.read.StatusAnswer.{StatusAnswer}
-use Rattle.master.specs.declared.read.StatusAnswer.TheVariants as status
-use Rattle.master.specs.declared.send.SendAnswer.{SendAnswer}
-use Rattle.master.specs.declared.send.SendAnswer.TheVariants as send
 use Rattle.master.specs.Calls as call
 use Rattle.master.specs.Calls.{Event, ◌⇒◌}
 use Rattle.master.specs.Put.{Value}
+use Rattle.std.specs.Prelude.{Ok, Err}
+use Rattle.master.specs.Answers.{WriteAnswer}
+use Rattle.master.specs.Answers.{SelectAnswer}
+use Rattle.master.specs.Answers.{SendAnswer}
+use Rattle.master.specs.Answers.{StatusAnswer}
+use Rattle.master.specs.Answers.{TickResult}
+use Rattle.master.specs.Answers.{ByteResult}
 
 -- an accepted call that changes something, with what it was given, and what a tick or a byte was answered
 pub data Act : Type 0 where
@@ -22,41 +19,41 @@ pub data Act : Type 0 where
   nothing : Act
   wrote : ℕ → Value → Act
   selected : ℕ → Act
-  ticked : List ℕ → TickAnswer → Act
-  took : ℕ → ByteAnswer → Act
+  ticked : List ℕ → TickResult → Act
+  took : ℕ → ByteResult → Act
   status_read : Act
   sending : ℕ → ℕ → Act
 
 -- what counts of each call that can change something, by its answer
 abbrev pub write_act : ℕ → Value → WriteAnswer → Act
-write_act s v write.Written = wrote s v
-write_act s v (write.Refused r) = nothing
+write_act s v (Ok tt) = wrote s v
+write_act s v (Err r) = nothing
 
 abbrev pub select_act : ℕ → SelectAnswer → Act
-select_act n select.Selected = selected n
-select_act n (select.Refused r) = nothing
+select_act n (Ok tt) = selected n
+select_act n (Err r) = nothing
 
-abbrev pub tick_act : List ℕ → TickAnswer → Act
-tick_act m tick.Waiting = ticked m tick.Waiting
-tick_act m tick.Idle = ticked m tick.Idle
-tick_act m tick.Silent = ticked m tick.Silent
-tick_act m (tick.Opened p) = ticked m (tick.Opened p)
-tick_act m (tick.Refused r) = nothing
+abbrev pub tick_act : List ℕ → TickResult → Act
+tick_act m (Ok tick.Waiting) = ticked m (Ok tick.Waiting)
+tick_act m (Ok tick.Idle) = ticked m (Ok tick.Idle)
+tick_act m (Ok tick.Silent) = ticked m (Ok tick.Silent)
+tick_act m (Ok (tick.Opened p)) = ticked m (Ok (tick.Opened p))
+tick_act m (Err r) = nothing
 
-abbrev pub byte_act : ℕ → ByteAnswer → Act
-byte_act b byte.More = took b byte.More
-byte_act b byte.Success = took b byte.Success
-byte_act b byte.Failure = took b byte.Failure
-byte_act b byte.Response = took b byte.Response
-byte_act b (byte.Refused r) = nothing
+abbrev pub byte_act : ℕ → ByteResult → Act
+byte_act b (Ok byte.More) = took b (Ok byte.More)
+byte_act b (Ok byte.Success) = took b (Ok byte.Success)
+byte_act b (Ok byte.Failure) = took b (Ok byte.Failure)
+byte_act b (Ok (byte.Response bs)) = took b (Ok (byte.Response bs))
+byte_act b (Err r) = nothing
 
 abbrev pub status_act : StatusAnswer → Act
-status_act (status.Word w) = status_read
-status_act (status.Refused r) = nothing
+status_act (Ok w) = status_read
+status_act (Err r) = nothing
 
 abbrev pub send_act : ℕ → ℕ → SendAnswer → Act
-send_act nad n send.Sending = sending nad n
-send_act nad n (send.Refused r) = nothing
+send_act nad n (Ok tt) = sending nad n
+send_act nad n (Err r) = nothing
 
 -- what counts of an event
 abbrev pub act_of : Event → Act
@@ -65,7 +62,7 @@ act_of (call.read s ⇒ a) = nothing
 act_of (call.read_array s ⇒ a) = nothing
 act_of (call.select n ⇒ a) = select_act n a
 act_of (call.tick m ⇒ a) = tick_act m a
-act_of (call.byte_in b ⇒ r) = byte_act b r.answer
+act_of (call.byte_in b ⇒ r) = byte_act b r
 act_of (call.read_status ⇒ a) = status_act a
 act_of (call.send nad n ⇒ a) = send_act nad n a
 act_of (call.message_state ⇒ a) = nothing
@@ -82,7 +79,7 @@ on_write f other (took b a) = other
 on_write f other status_read = other
 on_write f other (sending nad n) = other
 
-abbrev pub on_tick : {A : Type 0} → (List ℕ → TickAnswer → A) → A → Act → A
+abbrev pub on_tick : {A : Type 0} → (List ℕ → TickResult → A) → A → Act → A
 on_tick f other nothing = other
 on_tick f other (wrote s v) = other
 on_tick f other (selected n) = other
@@ -91,7 +88,7 @@ on_tick f other (took b a) = other
 on_tick f other status_read = other
 on_tick f other (sending nad n) = other
 
-abbrev pub on_byte : {A : Type 0} → (ℕ → ByteAnswer → A) → A → Act → A
+abbrev pub on_byte : {A : Type 0} → (ℕ → ByteResult → A) → A → Act → A
 on_byte f other nothing = other
 on_byte f other (wrote s v) = other
 on_byte f other (selected n) = other

@@ -14,8 +14,6 @@ use Rattle.transport.specs.Cutting.{message_frames, message_frame}
 use Rattle.transport.specs.Reassembly as lent
 use Rattle.master.specs.declared.state.Opened.{Opened}
 use Rattle.master.specs.declared.state.Opened.TheVariants.{Nothing, Frame, Request, Response}
-use Rattle.master.specs.declared.state.Last.{Last}
-use Rattle.master.specs.declared.state.Last.TheVariants.{Never, Placement}
 use Rattle.master.specs.declared.state.Message.{Message}
 use Rattle.master.specs.declared.state.Message.TheVariants as message
 use Rattle.master.specs.Seq.{Seq, ∅, ◌▹◌}
@@ -23,6 +21,7 @@ use Rattle.master.specs.Acts.{on_write, on_tick, on_send, is_status_read}
 use Rattle.master.specs.Schedule.{Scheduled, act}
 use Rattle.master.specs.History.{opens, closes, succeeds, open_after, is_transfer, written_bytes, response_of, got_by, got_after}
 use Rattle.master.specs.Put.{with_value}
+use Rattle.std.specs.Prelude.{Some, None, Option}
 
 -- ---- the message
 
@@ -95,30 +94,30 @@ bytes_after t (h ▹ x) =
 -- ---- the receptions
 
 -- what is known of a signal after a success of a transfer: the placement in a received frame that has it
-unfoldable pub received_in : List ℕ → Opened → ℕ → Last → Last
+unfoldable pub received_in : List ℕ → Opened → ℕ → Option ℕ → Option ℕ
 received_in t Nothing s x = x
-received_in t (Frame f) s x = cond (not (published t f) && touches t s f) (Placement (placement_in t s f)) x
+received_in t (Frame f) s x = cond (not (published t f) && touches t s f) (Some (placement_in t s f)) x
 received_in t Request s x = x
 received_in t Response s x = x
 
 -- "the placement received last", after a history
-unfoldable pub received_after : List ℕ → Seq Scheduled → ℕ → Last
-received_after t ∅ s = Never
+unfoldable pub received_after : List ℕ → Seq Scheduled → ℕ → Option ℕ
+received_after t ∅ s = None
 received_after t (h ▹ x) s = cond (succeeds x) (received_in t (open_after t h) s (received_after t h s)) (received_after t h s)
 
 -- what a read gives after a history: "the placement received last; before any reception, the start value; of a published one, its first placement"
-unfoldable pub read_from : List ℕ → Seq Scheduled → ℕ → Last
-read_from t h s = cond (signal_published t s) (Placement (first_placement t s)) (received_after t h s)
+unfoldable pub read_from : List ℕ → Seq Scheduled → ℕ → Option ℕ
+read_from t h s = cond (signal_published t s) (Some (first_placement t s)) (received_after t h s)
 
 -- the value of a scalar there
-unfoldable pub scalar_read : List ℕ → List ℕ → ℕ → Last → ℕ
-scalar_read t bs s Never = signal_start t s
-scalar_read t bs s (Placement k) = scalar_at t bs s k
+unfoldable pub scalar_read : List ℕ → List ℕ → ℕ → Option ℕ → ℕ
+scalar_read t bs s None = signal_start t s
+scalar_read t bs s (Some k) = scalar_at t bs s k
 
 -- the bytes of an array, as they are handed out
-unfoldable pub array_given : List ℕ → List ℕ → ℕ → Last → Array
-array_given t bs s Never = start_read t s
-array_given t bs s (Placement k) = array_read t bs s k
+unfoldable pub array_given : List ℕ → List ℕ → ℕ → Option ℕ → Array
+array_given t bs s None = start_read t s
+array_given t bs s (Some k) = array_read t bs s k
 
 -- ---- status
 

@@ -1,97 +1,151 @@
--- The answers in the paper's terms: of each case the refusal number, 0 where it refuses nothing, the place and the values.
-use Rattle.std.specs.Prelude.{Bool, true, false, [], ◌∷◌}
+-- The answers of the calls, and in the paper's terms: of each case the refusal number, 0 where it refuses nothing, the place and the values.
+use Rattle.std.specs.Prelude.{ℕ, Bool, true, false, [], ◌∷◌, Result, Ok, Err, ⊤}
 use Rattle.refusal.specs.Answers.{Told, gives, refuses}
-use Rattle.master.specs.declared.start.FreshAnswer.{FreshAnswer}
-use Rattle.master.specs.declared.start.FreshAnswer.TheVariants as start
-use Rattle.master.specs.declared.write.WriteAnswer.{WriteAnswer}
-use Rattle.master.specs.declared.write.WriteAnswer.TheVariants as write
-use Rattle.master.specs.declared.read.ReadAnswer.{ReadAnswer}
-use Rattle.master.specs.declared.read.ReadAnswer.TheVariants as read
-use Rattle.master.specs.declared.read.ArrayAnswer.{ArrayAnswer}
-use Rattle.master.specs.declared.read.ArrayAnswer.TheVariants as array
-use Rattle.master.specs.declared.select.SelectAnswer.{SelectAnswer}
-use Rattle.master.specs.declared.select.SelectAnswer.TheVariants as select
+use Rattle.refusal.specs.declared.Refusal.{Refusal}
+use Rattle.cluster.specs.declared.values.Array.{Array}
+use Rattle.master.specs.declared.state.State.{State}
 use Rattle.master.specs.declared.tick.TickAnswer.{TickAnswer}
 use Rattle.master.specs.declared.tick.TickAnswer.TheVariants as tick
 use Rattle.master.specs.declared.byte.ByteAnswer.{ByteAnswer}
 use Rattle.master.specs.declared.byte.ByteAnswer.TheVariants as byte
-use Rattle.master.specs.declared.read.StatusAnswer.{StatusAnswer}
-use Rattle.master.specs.declared.read.StatusAnswer.TheVariants as status
-use Rattle.master.specs.declared.send.SendAnswer.{SendAnswer}
-use Rattle.master.specs.declared.send.SendAnswer.TheVariants as send
 use Rattle.master.specs.declared.send.MessageAnswer.{MessageAnswer}
 use Rattle.master.specs.declared.send.MessageAnswer.TheVariants as message
-use Rattle.master.specs.declared.ahead.AheadAnswer.{AheadAnswer}
-use Rattle.master.specs.declared.ahead.AheadAnswer.TheVariants as ahead
+
+-- ---- what each call answers, or the refusal
+
+abbrev pub FreshAnswer : Type 0
+FreshAnswer = Result ⊤ Refusal
+
+abbrev pub WriteAnswer : Type 0
+WriteAnswer = Result ⊤ Refusal
+
+abbrev pub ReadAnswer : Type 0
+ReadAnswer = Result ℕ Refusal
+
+abbrev pub ArrayAnswer : Type 0
+ArrayAnswer = Result Array Refusal
+
+abbrev pub SelectAnswer : Type 0
+SelectAnswer = Result ⊤ Refusal
+
+abbrev pub TickResult : Type 0
+TickResult = Result TickAnswer Refusal
+
+abbrev pub ByteResult : Type 0
+ByteResult = Result ByteAnswer Refusal
+
+abbrev pub StatusAnswer : Type 0
+StatusAnswer = Result ℕ Refusal
+
+abbrev pub SendAnswer : Type 0
+SendAnswer = Result ⊤ Refusal
+
+abbrev pub MessageResult : Type 0
+MessageResult = Result MessageAnswer Refusal
+
+abbrev pub AheadAnswer : Type 0
+AheadAnswer = Result ℕ Refusal
+
+-- ---- the state that a call leaves beside its answer
+
+pub record Handed (A : Type 0) : Type 0 where
+  pub state : State
+  pub answer : A
+
+abbrev pub handed : {A : Type 0} → State → A → Handed A
+handed s a = record { state = s; answer = a }
+
+abbrev pub Started : Type 0
+Started = Handed FreshAnswer
+
+abbrev pub Wrote : Type 0
+Wrote = Handed WriteAnswer
+
+abbrev pub Chosen : Type 0
+Chosen = Handed SelectAnswer
+
+abbrev pub Ticked : Type 0
+Ticked = Handed TickResult
+
+abbrev pub Took : Type 0
+Took = Handed ByteResult
+
+abbrev pub StatusRead : Type 0
+StatusRead = Handed StatusAnswer
+
+abbrev pub Sent : Type 0
+Sent = Handed SendAnswer
+
+-- ---- in the paper's terms
 
 -- of fresh
 abbrev pub fresh_told : FreshAnswer → Told
-fresh_told start.Fresh = gives []
-fresh_told (start.Refused r) = refuses r
+fresh_told (Ok tt) = gives []
+fresh_told (Err r) = refuses r
 
 -- of a write
 abbrev pub write_told : WriteAnswer → Told
-write_told write.Written = gives []
-write_told (write.Refused r) = refuses r
+write_told (Ok tt) = gives []
+write_told (Err r) = refuses r
 
 -- of a read of a scalar: its value
 abbrev pub read_told : ReadAnswer → Told
-read_told (read.Value v) = gives (v ∷ [])
-read_told (read.Refused r) = refuses r
+read_told (Ok v) = gives (v ∷ [])
+read_told (Err r) = refuses r
 
--- of a read of an array: how many bytes it has, which stand beside the answer
+-- of a read of an array: how many bytes it has, which stand beside the number
 abbrev pub array_told : ArrayAnswer → Told
-array_told (array.Bytes n) = gives (n ∷ [])
-array_told (array.Refused r) = refuses r
+array_told (Ok a) = gives (a.count ∷ [])
+array_told (Err r) = refuses r
 
 -- of select
 abbrev pub select_told : SelectAnswer → Told
-select_told select.Selected = gives []
-select_told (select.Refused r) = refuses r
+select_told (Ok tt) = gives []
+select_told (Err r) = refuses r
 
 -- of tick: the protected identifier of what is opened
-abbrev pub tick_told : TickAnswer → Told
-tick_told tick.Waiting = gives []
-tick_told tick.Idle = gives []
-tick_told tick.Silent = gives []
-tick_told (tick.Opened p) = gives (p ∷ [])
-tick_told (tick.Refused r) = refuses r
+abbrev pub tick_told : TickResult → Told
+tick_told (Ok tick.Waiting) = gives []
+tick_told (Ok tick.Idle) = gives []
+tick_told (Ok tick.Silent) = gives []
+tick_told (Ok (tick.Opened p)) = gives (p ∷ [])
+tick_told (Err r) = refuses r
 
--- of byte in; the eight bytes of a response stand beside the answer
-abbrev pub byte_told : ByteAnswer → Told
-byte_told byte.More = gives []
-byte_told byte.Success = gives []
-byte_told byte.Failure = gives []
-byte_told byte.Response = gives []
-byte_told (byte.Refused r) = refuses r
+-- of byte in; the eight bytes of a response are no value of the paper's
+abbrev pub byte_told : ByteResult → Told
+byte_told (Ok byte.More) = gives []
+byte_told (Ok byte.Success) = gives []
+byte_told (Ok byte.Failure) = gives []
+byte_told (Ok (byte.Response bs)) = gives []
+byte_told (Err r) = refuses r
 
 -- of a status reading: the word
 abbrev pub status_told : StatusAnswer → Told
-status_told (status.Word w) = gives (w ∷ [])
-status_told (status.Refused r) = refuses r
+status_told (Ok w) = gives (w ∷ [])
+status_told (Err r) = refuses r
 
 -- of send
 abbrev pub send_told : SendAnswer → Told
-send_told send.Sending = gives []
-send_told (send.Refused r) = refuses r
+send_told (Ok tt) = gives []
+send_told (Err r) = refuses r
 
 -- of the message state
-abbrev pub message_told : MessageAnswer → Told
-message_told message.None = gives []
-message_told message.Sending = gives []
-message_told message.Completed = gives []
-message_told message.Failed = gives []
-message_told (message.Refused r) = refuses r
+abbrev pub message_told : MessageResult → Told
+message_told (Ok message.None) = gives []
+message_told (Ok message.Sending) = gives []
+message_told (Ok message.Completed) = gives []
+message_told (Ok message.Failed) = gives []
+message_told (Err r) = refuses r
 
 -- of number ahead: the number
 abbrev pub ahead_told : AheadAnswer → Told
-ahead_told (ahead.Count n) = gives (n ∷ [])
-ahead_told (ahead.Refused r) = refuses r
+ahead_told (Ok n) = gives (n ∷ [])
+ahead_told (Err r) = refuses r
 
 -- byte in answered success: "success", or the bytes of a response
-abbrev pub successful : ByteAnswer → Bool
-successful byte.More = false
-successful byte.Success = true
-successful byte.Failure = false
-successful byte.Response = true
-successful (byte.Refused r) = false
+abbrev pub successful : ByteResult → Bool
+successful (Ok byte.More) = false
+successful (Ok byte.Success) = true
+successful (Ok byte.Failure) = false
+successful (Ok (byte.Response bs)) = true
+successful (Err r) = false

@@ -1,16 +1,16 @@
 -- Document 01, "Histories": "A history is the calls with their arguments and answers".
 use Rattle.std.specs.Prelude.{ℕ, List}
-use Rattle.master.specs.declared.write.WriteAnswer.{WriteAnswer}
-use Rattle.master.specs.declared.read.ReadAnswer.{ReadAnswer}
-use Rattle.master.specs.declared.read.ReadArray.{ReadArray}
-use Rattle.master.specs.declared.select.SelectAnswer.{SelectAnswer}
-use Rattle.master.specs.declared.tick.TickAnswer.{TickAnswer}
-use Rattle.master.specs.declared.byte.ByteAnswer.{ByteAnswer}
-use Rattle.master.specs.declared.read.StatusAnswer.{StatusAnswer}
-use Rattle.master.specs.declared.send.SendAnswer.{SendAnswer}
-use Rattle.master.specs.declared.send.MessageAnswer.{MessageAnswer}
-use Rattle.master.specs.declared.ahead.AheadAnswer.{AheadAnswer}
+use Rattle.master.specs.Answers.{ArrayAnswer}
 use Rattle.master.specs.Put.{Put}
+use Rattle.master.specs.Answers.{WriteAnswer}
+use Rattle.master.specs.Answers.{SelectAnswer}
+use Rattle.master.specs.Answers.{SendAnswer}
+use Rattle.master.specs.Answers.{ReadAnswer}
+use Rattle.master.specs.Answers.{StatusAnswer}
+use Rattle.master.specs.Answers.{AheadAnswer}
+use Rattle.master.specs.Answers.{TickResult}
+use Rattle.master.specs.Answers.{ByteResult}
+use Rattle.master.specs.Answers.{MessageResult}
 
 -- a call behind the fresh one, with what it is given beside the table, the state and the frame bytes; "Values, arrays and lent
 -- messages may be anything"
@@ -32,22 +32,17 @@ pub data Call : Type 0 where
   -- a frame
   number_ahead : ℕ → Call
 
--- what byte in answers, with the eight bytes beside it
-pub record Reply : Type 0 where
-  pub answer : ByteAnswer
-  pub response : List ℕ
-
 -- each call has its own answers
 abbrev pub Answer : Call → Type 0
 Answer (write w) = WriteAnswer
 Answer (read s) = ReadAnswer
-Answer (read_array s) = ReadArray
+Answer (read_array s) = ArrayAnswer
 Answer (select n) = SelectAnswer
-Answer (tick m) = TickAnswer
-Answer (byte_in b) = Reply
+Answer (tick m) = TickResult
+Answer (byte_in b) = ByteResult
 Answer read_status = StatusAnswer
 Answer (send nad n) = SendAnswer
-Answer message_state = MessageAnswer
+Answer message_state = MessageResult
 Answer (number_ahead f) = AheadAnswer
 
 infix 60 ◌⇒◌

@@ -3,19 +3,20 @@ use Rattle.std.specs.Prelude.{ℕ, ◌<◌, ◌≡◌, ◌↔◌, true, false, g
 use mathlib.Core.List.{List, [], ◌∷◌, ◌++◌, Memᴰ}
 use Rattle.cluster.specs.Table.{frame_count, published, entry_kind, entry_target}
 use Rattle.cluster.specs.Lists.{members}
-use Rattle.master.specs.declared.state.Last.TheVariants.{Never}
 use Rattle.master.specs.declared.state.Opened.TheVariants.{Nothing, Frame}
-use Rattle.master.specs.declared.tick.TickAnswer.{TickAnswer}
 use Rattle.master.specs.declared.byte.ByteAnswer.TheVariants as byte
-use Rattle.master.specs.declared.ahead.AheadAnswer.{AheadAnswer}
 use Rattle.master.specs.Seq.{Seq, ∅, ◌▹◌, ◌⋈◌, Each}
-use Rattle.master.specs.Calls.{Call, tick, byte_in, number_ahead, Answer, Reply, Event, ◌⇒◌}
+use Rattle.master.specs.Calls.{Call, tick, byte_in, number_ahead, Answer, Event, ◌⇒◌}
 use Rattle.master.specs.Run.{Held, answer_of, held_after, history_of}
 use Rattle.master.specs.Acts.{nothing, act_of}
 use Rattle.master.specs.Schedule.{Slot, entry, Scheduled, scheduled}
 use Rattle.master.specs.History.{writes, opens, closes, open_after, Succeeded, Pending, successes, written_bytes, eight_of, response_of, got_after}
 use Rattle.master.specs.Answering.{bytes_after, received_after}
 use Rattle.master.specs.Replies.{Takes, Count, AheadReply, Replies}
+use Rattle.master.specs.Answers.{AheadAnswer}
+use Rattle.master.specs.Answers.{TickResult, ByteResult}
+use Rattle.std.specs.Prelude.{Ok}
+use Rattle.std.specs.Prelude.{None}
 
 -- the history of some calls after a fresh call, each event with its slots
 abbrev pub record_of : List ℕ → List ℕ → Seq Call → Seq Scheduled
@@ -38,24 +39,24 @@ pub record HeldClaim (t : List ℕ) (h : Seq Scheduled) (x : Held) : Type 0 wher
   -- (a) and all frame bytes are as fresh, the accepted writes and the frames received with success left them
   pub all_bytes : x.bytes ≡ bytes_after t h
   -- (a) and of each signal the placement received last is kept
-  pub receptions : (s : ℕ) → (get_or x.state.received s (record { last = Never })).last ≡ received_after t h s
+  pub receptions : (s : ℕ) → (get_or x.state.received s (record { last = None })).last ≡ received_after t h s
 
 -- what demand 3 says of one history under a table, parts (b) to (e)
 pub record HistoryClaim (t : List ℕ) (h : Seq Scheduled) : Type 0 where
   -- (b) a slot of a list opens the first member that is pending just before its tick, and is silent exactly when there is none
   pub slots :
-      (before after : Seq Scheduled) (m : List ℕ) (a : TickAnswer) (e : ℕ) (k : Slot) →
+      (before after : Seq Scheduled) (m : List ℕ) (a : TickResult) (e : ℕ) (k : Slot) →
       h ≡ before ▹ event (tick m) a (entry e) k ⋈ after →
       entry_kind t e ≡ 1 →
       Takes t (Pending t before) (members t (entry_target t e)) a
   -- (c) in a transfer of a published frame success is answered exactly at byte length + 1, when the bytes were those at its opening tick
   pub success :
-      (before : Seq Scheduled) (start : Scheduled) (during after : Seq Scheduled) (b : ℕ) (r : Reply) (s k : Slot) (f : ℕ) →
+      (before : Seq Scheduled) (start : Scheduled) (during after : Seq Scheduled) (b : ℕ) (r : ByteResult) (s k : Slot) (f : ℕ) →
       h ≡ before ▹ start ⋈ during ▹ event (byte_in b) r s k ⋈ after →
       opens t start ≡ Frame f →
       published t f ≡ true →
       Each (λ x. closes x ≡ false) during →
-      (r.answer ≡ byte.Success) ↔ (got_after during ++ (b ∷ []) ≡ response_of t (written_bytes t before) f)
+      (r ≡ Ok byte.Success) ↔ (got_after during ++ (b ∷ []) ≡ response_of t (written_bytes t before) f)
   -- (d) number ahead is the number of pending members ahead in the frame's list
   pub ahead :
       (before after : Seq Scheduled) (f : ℕ) (a : AheadAnswer) (s k : Slot) →

@@ -4,10 +4,6 @@ use Rattle.cluster.specs.Table.{frame_count, published, entry_count, schedule_co
 use Rattle.cluster.specs.Lists.{is_one_of, members}
 use Rattle.transport.specs.Cutting.{is_length, message_frames}
 use Rattle.master.specs.declared.state.Plan.{Plan}
-use Rattle.master.specs.declared.state.Current.{Current}
-use Rattle.master.specs.declared.state.Current.TheVariants as current
-use Rattle.master.specs.declared.state.Requested.{Requested}
-use Rattle.master.specs.declared.state.Requested.TheVariants as requested
 use Rattle.master.specs.declared.state.Opened.{Opened}
 use Rattle.master.specs.declared.state.Opened.TheVariants.{Nothing, Frame, Request, Response}
 use Rattle.master.specs.declared.state.Transfer.{Transfer}
@@ -16,16 +12,17 @@ use Rattle.master.specs.declared.state.Message.TheVariants as message
 use Rattle.master.specs.declared.state.State.{State}
 use Rattle.master.specs.Transfers.{is_open, open_length}
 use Rattle.master.specs.Received.{received_fits}
+use Rattle.std.specs.Prelude.{Some, None, Option}
 
 -- ---- "it names a schedule, entry or frame not there"
 
-abbrev pub entry_there : List ℕ → Current → Bool
-entry_there t current.None = true
-entry_there t (current.Entry e) = ltb e (entry_count t)
+abbrev pub entry_there : List ℕ → Option ℕ → Bool
+entry_there t None = true
+entry_there t (Some e) = ltb e (entry_count t)
 
-abbrev pub schedule_there : List ℕ → Requested → Bool
-schedule_there t requested.None = true
-schedule_there t (requested.Schedule n) = ltb n (schedule_count t)
+abbrev pub schedule_there : List ℕ → Option ℕ → Bool
+schedule_there t None = true
+schedule_there t (Some n) = ltb n (schedule_count t)
 
 abbrev pub frame_there : List ℕ → Opened → Bool
 frame_there t Nothing = true
@@ -35,9 +32,9 @@ frame_there t Response = true
 
 -- ---- "wait above the current delay (0 with no schedule)"
 
-abbrev pub current_delay : List ℕ → Current → ℕ
-current_delay t current.None = 0
-current_delay t (current.Entry e) = entry_delay t e
+abbrev pub current_delay : List ℕ → Option ℕ → ℕ
+current_delay t None = 0
+current_delay t (Some e) = entry_delay t e
 
 unfoldable pub wait_fits : List ℕ → Plan → Bool
 wait_fits t p = leb p.wait (current_delay t p.current)
@@ -72,9 +69,9 @@ entry_opens t x e Request = eqb (entry_kind t e) 2 && is_sending x
 entry_opens t x e Response = eqb (entry_kind t e) 3
 
 -- without a schedule nothing can be open
-unfoldable pub can_open : List ℕ → Message → Current → Opened → Bool
-can_open t x current.None o = not (is_open o)
-can_open t x (current.Entry e) o = entry_opens t x e o
+unfoldable pub can_open : List ℕ → Message → Option ℕ → Opened → Bool
+can_open t x None o = not (is_open o)
+can_open t x (Some e) o = entry_opens t x e o
 
 -- "or with as many bytes as close it": length + 1
 unfoldable pub count_fits : List ℕ → Transfer → Bool

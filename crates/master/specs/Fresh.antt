@@ -3,19 +3,17 @@ use Rattle.std.specs.Prelude.{ℕ, false, List, [], ◌∷◌, replicate}
 use Rattle.cluster.specs.Table.{most_frames, most_signals}
 use Rattle.transport.specs.Cutting.{longest}
 use Rattle.master.specs.declared.state.Plan.{Plan}
-use Rattle.master.specs.declared.state.Current.TheVariants as current
-use Rattle.master.specs.declared.state.Requested.TheVariants as requested
 use Rattle.master.specs.declared.state.Transfer.{Transfer}
 use Rattle.master.specs.declared.state.Opened.TheVariants as opened
 use Rattle.master.specs.declared.state.Message.TheVariants as message
 use Rattle.master.specs.declared.state.Status.{Status}
 use Rattle.master.specs.declared.state.Reception.{Reception}
-use Rattle.master.specs.declared.state.Last.TheVariants as last
 use Rattle.master.specs.declared.state.State.{State}
+use Rattle.std.specs.Prelude.{None}
 
 -- "no schedule"
 abbrev pub no_plan : Plan
-no_plan = record { wait = 0; current = current.None; requested = requested.None }
+no_plan = record { wait = 0; current = None; requested = None }
 
 -- "no transfer"
 abbrev pub no_transfer : Transfer
@@ -27,7 +25,7 @@ no_status = record { error = false; success = false; overrun = false; last = 0 }
 
 -- "before any reception"
 abbrev pub never_received : Reception
-never_received = record { last = last.Never }
+never_received = record { last = None }
 
 -- "a state with nothing pending, no schedule, no transfer, no message, status 0", and no reception
 unfoldable pub fresh : State

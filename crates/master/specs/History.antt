@@ -10,14 +10,15 @@ use Rattle.cluster.specs.Values.{touches}
 use Rattle.cluster.specs.Fresh.{fresh_bytes}
 use Rattle.master.specs.declared.state.Opened.{Opened}
 use Rattle.master.specs.declared.state.Opened.TheVariants.{Nothing, Frame, Request, Response}
-use Rattle.master.specs.declared.tick.TickAnswer.{TickAnswer}
 use Rattle.master.specs.declared.tick.TickAnswer.TheVariants as tick
-use Rattle.master.specs.declared.byte.ByteAnswer.{ByteAnswer}
 use Rattle.master.specs.declared.byte.ByteAnswer.TheVariants as byte
 use Rattle.master.specs.Seq.{Seq, ∅, ◌▹◌, ◌⋈◌, Each}
 use Rattle.master.specs.Acts.{on_write, on_tick, on_byte}
 use Rattle.master.specs.Schedule.{Scheduled, act, is_start, starts, slot_after, of_list}
 use Rattle.master.specs.Put.{with_value}
+use Rattle.std.specs.Prelude.{Ok, Err}
+use Rattle.master.specs.Answers.{TickResult}
+use Rattle.master.specs.Answers.{ByteResult}
 
 -- ---- writes
 
@@ -40,32 +41,32 @@ transfer_named t p =
     Nothing))
 
 -- what the answer of a tick names
-abbrev pub opened_as : List ℕ → TickAnswer → Opened
-opened_as t tick.Waiting = Nothing
-opened_as t tick.Idle = Nothing
-opened_as t tick.Silent = Nothing
-opened_as t (tick.Opened p) = transfer_named t p
-opened_as t (tick.Refused r) = Nothing
+abbrev pub opened_as : List ℕ → TickResult → Opened
+opened_as t (Ok tick.Waiting) = Nothing
+opened_as t (Ok tick.Idle) = Nothing
+opened_as t (Ok tick.Silent) = Nothing
+opened_as t (Ok (tick.Opened p)) = transfer_named t p
+opened_as t (Err r) = Nothing
 
 -- "A slot opens the frame whose protected identifier its tick answers."
 unfoldable pub opens : List ℕ → Scheduled → Opened
 opens t x = on_tick (λ m a. cond (is_start x.slot) (opened_as t a) Nothing) Nothing (act x)
 
 -- success was answered: "success", or the eight bytes of a response
-abbrev pub is_success : ByteAnswer → Bool
-is_success byte.More = false
-is_success byte.Success = true
-is_success byte.Failure = false
-is_success byte.Response = true
-is_success (byte.Refused r) = false
+abbrev pub is_success : ByteResult → Bool
+is_success (Ok byte.More) = false
+is_success (Ok byte.Success) = true
+is_success (Ok byte.Failure) = false
+is_success (Ok (byte.Response bs)) = true
+is_success (Err r) = false
 
 -- success or failure was answered
-abbrev pub is_end : ByteAnswer → Bool
-is_end byte.More = false
-is_end byte.Success = true
-is_end byte.Failure = true
-is_end byte.Response = true
-is_end (byte.Refused r) = false
+abbrev pub is_end : ByteResult → Bool
+is_end (Ok byte.More) = false
+is_end (Ok byte.Success) = true
+is_end (Ok byte.Failure) = true
+is_end (Ok (byte.Response bs)) = true
+is_end (Err r) = false
 
 -- "The transfer is open until a byte in answers success or failure, or the next slot starts"
 unfoldable pub closes : Scheduled → Bool

@@ -6,8 +6,6 @@ use Rattle.wire.specs.Bits.{Bytes}
 use Rattle.signal.specs.Signal.{get_scalar, get_array}
 use Rattle.cluster.specs.Table.{published, is_array, signal_width, signal_start, placement_offset}
 use Rattle.cluster.specs.Values.{touches, placement_in, scalar_at, array_at}
-use Rattle.master.specs.declared.read.ReadAnswer.TheVariants as read
-use Rattle.master.specs.declared.read.ArrayAnswer.TheVariants as bytes
 use Rattle.master.specs.declared.state.Opened.{Opened}
 use Rattle.master.specs.declared.state.Opened.TheVariants.{Nothing, Frame, Request, Response}
 use Rattle.master.specs.Put.{Value, scalar, array}
@@ -17,6 +15,7 @@ use Rattle.master.specs.Run.{Held, answer_of}
 use Rattle.master.specs.Seq.{Seq, ∅, ◌▹◌, ◌⋈◌}
 use Rattle.master.specs.Schedule.{Scheduled, act}
 use Rattle.master.specs.History.{writes, succeeds, open_after, got_after, Succeeded}
+use Rattle.std.specs.Prelude.{Ok}
 
 -- a write to f was accepted in h
 pub record Written (t : List ℕ) (h : Seq Scheduled) (f : ℕ) : Type 0 where
@@ -58,9 +57,9 @@ Alike t bs s j k = (is_array t s ≡ false → scalar_at t bs s j ≡ scalar_at 
 
 -- a read of it answers a value: a number, or bytes with 255 in the unused ones of eight
 abbrev pub ReadsAs : List ℕ → Held → ℕ → Value → Type 0
-ReadsAs t x s (scalar v) = answer_of t x (call.read s) ≡ read.Value v
+ReadsAs t x s (scalar v) = answer_of t x (call.read s) ≡ Ok v
 ReadsAs t x s (array vs) =
-    Bytes vs → answer_of t x (call.read_array s) ≡ record { answer = bytes.Bytes (length vs); bytes = vs ++ replicate (8 - length vs) 255 }
+    Bytes vs → answer_of t x (call.read_array s) ≡ Ok (record { count = length vs; bytes = vs ++ replicate (8 - length vs) 255 })
 
 -- ---- what a received signal reads as
 

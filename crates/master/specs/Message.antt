@@ -1,8 +1,6 @@
 -- Document 01, "Diagnostic messages": the message being sent, from send to its last frame.
 use Rattle.std.specs.Prelude.{ℕ, ◌+◌, cond, not, List, ltb}
 use Rattle.refusal.specs.Numbers as number
-use Rattle.cluster.specs.declared.Verdict.{Verdict}
-use Rattle.cluster.specs.declared.Verdict.TheVariants as verdict
 use Rattle.cluster.specs.Check.{then}
 use Rattle.transport.specs.Cutting.{is_length, message_frames}
 use Rattle.master.specs.declared.state.Sending as state
@@ -11,13 +9,16 @@ use Rattle.master.specs.declared.state.Message.TheVariants.{None, Sending, Compl
 use Rattle.master.specs.declared.state.Opened.{Opened}
 use Rattle.master.specs.declared.state.Opened.TheVariants as opened
 use Rattle.master.specs.declared.state.State.{State}
-use Rattle.master.specs.declared.send.SendAnswer.TheVariants as send
-use Rattle.master.specs.declared.send.Sent.{Sent}
+use Rattle.master.specs.Answers.{Sent}
 use Rattle.master.specs.declared.send.MessageAnswer.{MessageAnswer}
 use Rattle.master.specs.declared.send.MessageAnswer.TheVariants as tells
 use Rattle.master.specs.State.{with_message}
 use Rattle.master.specs.Fits.{is_sending}
 use Rattle.master.specs.Admit.{unless, admitted, answered, buffer_size}
+use Rattle.std.specs.Prelude.{Ok}
+use Rattle.cluster.specs.Check.{Verdict}
+use Rattle.std.specs.Prelude.{Err}
+use Rattle.master.specs.Answers.{MessageResult}
 
 -- the message at one of its frames, or completed behind the last of them
 abbrev pub sending_at : state.Sending → ℕ → ℕ → Message
@@ -50,14 +51,14 @@ send_verdict t s n =
     then (admitted t (buffer_size t) s)
     (unless (is_length n) number.message_length
     (unless (not (is_sending s.message)) number.sending
-    verdict.Accepted))
+    (Ok tt)))
 
 -- what send hands back: "Send takes any NAD and the length."
 unfoldable pub send_of : List ℕ → State → ℕ → ℕ → Sent
 send_of t s nad n =
     answered (send_verdict t s n)
-    (λ r. record { state = s; answer = send.Refused r })
-    (record { state = with_message s (Sending (record { nad = nad; length = n; next = 0 })); answer = send.Sending })
+    (λ r. record { state = s; answer = Err r })
+    (record { state = with_message s (Sending (record { nad = nad; length = n; next = 0 })); answer = Ok tt })
 
 -- "A public call tells none, sending, completed or failed."
 abbrev pub told : Message → MessageAnswer
@@ -67,5 +68,5 @@ told Completed = tells.Completed
 told Failed = tells.Failed
 
 -- what the message state answers
-unfoldable pub message_of : List ℕ → State → MessageAnswer
-message_of t s = answered (admitted t (buffer_size t) s) (λ r. tells.Refused r) (told s.message)
+unfoldable pub message_of : List ℕ → State → MessageResult
+message_of t s = answered (admitted t (buffer_size t) s) (λ r. Err r) (Ok (told s.message))

@@ -4,19 +4,18 @@ use Rattle.std.specs.Prelude.{ℕ, zero, suc, Bool, true, cond, not, ◌&&◌, L
 use Rattle.cluster.specs.Table.{signal_count, signal_start, published, placement_count, placement_signal, placement_frame}
 use Rattle.cluster.specs.Values.{first_placement, signal_published, scalar_at, array_read, start_read}
 use Rattle.cluster.specs.declared.values.Array.{Array}
-use Rattle.master.specs.declared.state.Last.{Last}
-use Rattle.master.specs.declared.state.Last.TheVariants.{Never, Placement}
 use Rattle.master.specs.declared.state.Opened.{Opened}
 use Rattle.master.specs.declared.state.Opened.TheVariants.{Nothing, Frame, Request, Response}
 use Rattle.master.specs.declared.state.Reception.{Reception}
 use Rattle.master.specs.Fresh.{never_received}
+use Rattle.std.specs.Prelude.{Some, None, Option}
 
 -- the reception of a placement
 abbrev pub reception_of : ℕ → Reception
-reception_of k = record { last = Placement k }
+reception_of k = record { last = Some k }
 
 -- what is kept of a signal
-unfoldable pub last_of : List Reception → ℕ → Last
+unfoldable pub last_of : List Reception → ℕ → Option ℕ
 last_of rs s = (get_or rs s never_received).last
 
 -- a success of frame f: the first n placements of the table, where they are in the frame, are those received last of their signals
@@ -35,9 +34,9 @@ received_by t Response rs = rs
 -- ---- refusal 3: "also a last reception in a published frame or one without the signal"
 
 -- of signal s: a placement that is there, of this signal, and in a frame that is not published; never from S on
-unfoldable pub last_fits : List ℕ → ℕ → Last → Bool
-last_fits t s Never = true
-last_fits t s (Placement k) =
+unfoldable pub last_fits : List ℕ → ℕ → Option ℕ → Bool
+last_fits t s None = true
+last_fits t s (Some k) =
     ltb s (signal_count t) && ltb k (placement_count t) && eqb (placement_signal t k) s && not (published t (placement_frame t k))
 
 -- of the signals from signal s on
@@ -48,15 +47,15 @@ received_fits t s (r ∷ rs) = last_fits t s r.last && received_fits t (suc s) r
 -- ---- where a read takes its value
 
 -- "the placement received last", "of a published one, its first placement"
-unfoldable pub source_of : List ℕ → List Reception → ℕ → Last
-source_of t rs s = cond (signal_published t s) (Placement (first_placement t s)) (last_of rs s)
+unfoldable pub source_of : List ℕ → List Reception → ℕ → Option ℕ
+source_of t rs s = cond (signal_published t s) (Some (first_placement t s)) (last_of rs s)
 
 -- the value of a scalar; "before any reception, the start value"
-unfoldable pub scalar_from : List ℕ → List ℕ → ℕ → Last → ℕ
-scalar_from t bs s Never = signal_start t s
-scalar_from t bs s (Placement k) = scalar_at t bs s k
+unfoldable pub scalar_from : List ℕ → List ℕ → ℕ → Option ℕ → ℕ
+scalar_from t bs s None = signal_start t s
+scalar_from t bs s (Some k) = scalar_at t bs s k
 
 -- and of an array
-unfoldable pub array_from : List ℕ → List ℕ → ℕ → Last → Array
-array_from t bs s Never = start_read t s
-array_from t bs s (Placement k) = array_read t bs s k
+unfoldable pub array_from : List ℕ → List ℕ → ℕ → Option ℕ → Array
+array_from t bs s None = start_read t s
+array_from t bs s (Some k) = array_read t bs s k

@@ -1,6 +1,6 @@
 -- What each call answers, by the table and the history before it alone. Document 01, demand 3 and "Histories". Nothing here is taken from the
 -- definitions of the calls.
-use Rattle.std.specs.Prelude.{ℕ, suc, ◌≡◌, Bool, true, false, cond, not, ◌&&◌, ltb, leb, eqb, length, get_or, replicate}
+use Rattle.std.specs.Prelude.{ℕ, suc, ◌≡◌, Bool, true, false, cond, not, ◌&&◌, ltb, leb, eqb, length, get_or}
 use Rattle.std.specs.Bool.{beq}
 use mathlib.Core.List.{List, [], ◌∷◌, ◌++◌, Memᴰ}
 use Rattle.refusal.specs.Numbers.{refused}
@@ -15,32 +15,26 @@ use Rattle.master.specs.declared.state.Opened.{Opened}
 use Rattle.master.specs.declared.state.Opened.TheVariants.{Nothing, Frame, Request, Response}
 use Rattle.master.specs.declared.state.Message.{Message}
 use Rattle.master.specs.declared.state.Message.TheVariants as message
-use Rattle.master.specs.declared.write.WriteAnswer.{WriteAnswer}
-use Rattle.master.specs.declared.write.WriteAnswer.TheVariants as write
-use Rattle.master.specs.declared.read.ReadAnswer.{ReadAnswer}
-use Rattle.master.specs.declared.read.ReadAnswer.TheVariants as read
-use Rattle.master.specs.declared.read.ArrayAnswer.TheVariants as bytes
-use Rattle.master.specs.declared.read.ReadArray.{ReadArray}
-use Rattle.master.specs.declared.select.SelectAnswer.{SelectAnswer}
-use Rattle.master.specs.declared.select.SelectAnswer.TheVariants as select
-use Rattle.master.specs.declared.tick.TickAnswer.{TickAnswer}
+use Rattle.master.specs.Answers.{ArrayAnswer}
 use Rattle.master.specs.declared.tick.TickAnswer.TheVariants as tick
-use Rattle.master.specs.declared.byte.ByteAnswer.{ByteAnswer}
 use Rattle.master.specs.declared.byte.ByteAnswer.TheVariants as byte
-use Rattle.master.specs.declared.read.StatusAnswer.TheVariants as status
-use Rattle.master.specs.declared.send.SendAnswer.{SendAnswer}
-use Rattle.master.specs.declared.send.SendAnswer.TheVariants as send
-use Rattle.master.specs.declared.send.MessageAnswer.{MessageAnswer}
 use Rattle.master.specs.declared.send.MessageAnswer.TheVariants as tells
-use Rattle.master.specs.declared.ahead.AheadAnswer.{AheadAnswer}
-use Rattle.master.specs.declared.ahead.AheadAnswer.TheVariants as counted
 use Rattle.master.specs.Seq.{Seq}
 use Rattle.master.specs.Calls as call
-use Rattle.master.specs.Calls.{Call, Answer, Reply}
+use Rattle.master.specs.Calls.{Call, Answer}
 use Rattle.master.specs.Schedule.{Slot, none, unscheduled, entry, Scheduled, slot_due, plan_after}
 use Rattle.master.specs.History.{Pending, open_after, checksum_over, got_after}
 use Rattle.master.specs.Answering.{message_closed, message_after, due_after, bytes_after, counted_after, word_over, read_from, scalar_read, array_given}
 use Rattle.master.specs.Put.{Value, scalar, array}
+use Rattle.std.specs.Prelude.{Ok, Err}
+use Rattle.master.specs.Answers.{WriteAnswer}
+use Rattle.master.specs.Answers.{SelectAnswer}
+use Rattle.master.specs.Answers.{SendAnswer}
+use Rattle.master.specs.Answers.{ReadAnswer}
+use Rattle.master.specs.Answers.{AheadAnswer}
+use Rattle.master.specs.Answers.{TickResult}
+use Rattle.master.specs.Answers.{ByteResult}
+use Rattle.master.specs.Answers.{MessageResult}
 
 -- ---- which refusal a call gets: the number of the first test that fails, and 0 where all hold
 
@@ -92,89 +86,85 @@ send_number x n =
 
 -- by the number
 unfoldable pub write_reply : ℕ → WriteAnswer
-write_reply n = cond (eqb n 0) write.Written (write.Refused (refused n))
+write_reply n = cond (eqb n 0) (Ok tt) (Err (refused n))
 
 -- the value of a scalar
 unfoldable pub read_reply : ℕ → ℕ → ReadAnswer
-read_reply n v = cond (eqb n 0) (read.Value v) (read.Refused (refused n))
+read_reply n v = cond (eqb n 0) (Ok v) (Err (refused n))
 
 -- the bytes of an array
-unfoldable pub read_array_reply : ℕ → Array → ReadArray
+unfoldable pub read_array_reply : ℕ → Array → ArrayAnswer
 read_array_reply n a =
     cond (eqb n 0)
-    (record { answer = bytes.Bytes a.count; bytes = a.bytes })
-    (record { answer = bytes.Refused (refused n); bytes = replicate 8 255 })
+    (Ok a)
+    (Err (refused n))
 
 unfoldable pub select_reply : ℕ → SelectAnswer
-select_reply n = cond (eqb n 0) select.Selected (select.Refused (refused n))
+select_reply n = cond (eqb n 0) (Ok tt) (Err (refused n))
 
 unfoldable pub send_reply : ℕ → SendAnswer
-send_reply n = cond (eqb n 0) send.Sending (send.Refused (refused n))
+send_reply n = cond (eqb n 0) (Ok tt) (Err (refused n))
 
 -- "tells none, sending, completed or failed"
-abbrev pub message_reply : Message → MessageAnswer
-message_reply message.None = tells.None
-message_reply (message.Sending x) = tells.Sending
-message_reply message.Completed = tells.Completed
-message_reply message.Failed = tells.Failed
+abbrev pub message_reply : Message → MessageResult
+message_reply message.None = Ok tells.None
+message_reply (message.Sending x) = Ok tells.Sending
+message_reply message.Completed = Ok tells.Completed
+message_reply message.Failed = Ok tells.Failed
 
 -- ---- byte in
 
--- an answer with no response beside it
-abbrev pub plain : ByteAnswer → Reply
-plain a = record { answer = a; response = replicate 8 255 }
-
 -- "Sent frames: the byte must equal the copied one; the first difference closes the transfer as failed, the last equal byte as successful.": n data
 -- bytes, the bytes due, those that came before, and the byte
-unfoldable pub sent_reply : ℕ → List ℕ → List ℕ → ℕ → ByteAnswer
+unfoldable pub sent_reply : ℕ → List ℕ → List ℕ → ℕ → ByteResult
 sent_reply n due got b =
     cond (eqb (get_or due (length got) 0) b)
-    (cond (ltb (length got) n) byte.More byte.Success)
-    byte.Failure
+    (cond (ltb (length got) n) (Ok byte.More) (Ok byte.Success))
+    (Ok byte.Failure)
 
 -- "Received frames: after length + 1 bytes a right checksum .. succeeds; a wrong one .. fails.": n data bytes, their checksum, the bytes that came
 -- before, the byte, and what success answers
-unfoldable pub received_reply : ℕ → ℕ → List ℕ → ℕ → Reply → Reply
+unfoldable pub received_reply : ℕ → ℕ → List ℕ → ℕ → ByteResult → ByteResult
 received_reply n sum got b well =
-    cond (ltb (length got) n) (plain byte.More)
-    (cond (eqb b sum) well (plain byte.Failure))
+    cond (ltb (length got) n) (Ok byte.More)
+    (cond (eqb b sum) well (Ok byte.Failure))
 
 -- what is open, the bytes that the master sends in it, those that came before, and the byte: 8 "byte in with no transfer open"; a request and a
 -- response have "length 8" and a classic checksum; "A successful response frame .. answers its eight bytes."
-unfoldable pub byte_reply : List ℕ → Opened → List ℕ → List ℕ → ℕ → Reply
-byte_reply t Nothing due got b = plain (byte.Refused (refused 8))
+unfoldable pub byte_reply : List ℕ → Opened → List ℕ → List ℕ → ℕ → ByteResult
+byte_reply t Nothing due got b = Err (refused 8)
 byte_reply t (Frame f) due got b =
     cond (published t f)
-    (plain (sent_reply (frame_length t f) due got b))
-    (received_reply (frame_length t f) (checksum_over t f got) got b (plain byte.Success))
-byte_reply t Request due got b = plain (sent_reply 8 due got b)
-byte_reply t Response due got b = received_reply 8 (checksum_byte 61 Classic got) got b (record { answer = byte.Response; response = got })
+    (sent_reply (frame_length t f) due got b)
+    (received_reply (frame_length t f) (checksum_over t f got) got b (Ok byte.Success))
+byte_reply t Request due got b = sent_reply 8 due got b
+byte_reply t Response due got b = received_reply 8 (checksum_byte 61 Classic got) got b (Ok (byte.Response got))
 
 -- ---- tick
 
 -- "Kind 1 opens the first pending member, or is silent": the answer of a slot over the frames fs, of which those with P are pending
-pub data Takes (t : List ℕ) (P : ℕ → Type 0) (fs : List ℕ) : TickAnswer → Type 0 where
+pub data Takes (t : List ℕ) (P : ℕ → Type 0) (fs : List ℕ) : TickResult → Type 0 where
   takes : (ahead behind : List ℕ) (f : ℕ) → fs ≡ ahead ++ (f ∷ behind) → ((g : ℕ) → Memᴰ g ahead → ¬ P g) → P f
-      → Takes t P fs (tick.Opened (protected_byte (identifier t f)))
-  leaves : ((g : ℕ) → Memᴰ g fs → ¬ P g) → Takes t P fs tick.Silent
+      → Takes t P fs (Ok (tick.Opened (protected_byte (identifier t f))))
+  leaves : ((g : ℕ) → Memᴰ g fs → ¬ P g) → Takes t P fs (Ok tick.Silent)
 
 -- the answer of a slot with entry e after h
-pub record EntryReply (t : List ℕ) (h : Seq Scheduled) (e : ℕ) (a : TickAnswer) : Type 0 where
+pub record EntryReply (t : List ℕ) (h : Seq Scheduled) (e : ℕ) (a : TickResult) : Type 0 where
   -- "Kind 0 opens its frame."
-  pub frame : entry_kind t e ≡ 0 → a ≡ tick.Opened (protected_byte (identifier t (entry_target t e)))
+  pub frame : entry_kind t e ≡ 0 → a ≡ Ok (tick.Opened (protected_byte (identifier t (entry_target t e))))
   -- "Kind 1 opens the first pending member, or is silent."
   pub list : entry_kind t e ≡ 1 → Takes t (Pending t h) (members t (entry_target t e)) a
   -- "Kind 2 opens identifier 60 if a message is being sent, or is silent."; the slot start has closed an open request as failed
   pub request :
       entry_kind t e ≡ 2 →
-      a ≡ cond (is_being_sent (message_closed (open_after t h) false (message_after t h))) (tick.Opened (protected_byte 60)) tick.Silent
+      a ≡ cond (is_being_sent (message_closed (open_after t h) false (message_after t h))) (Ok (tick.Opened (protected_byte 60))) (Ok tick.Silent)
   -- "Kind 3 always opens identifier 61"
-  pub response : entry_kind t e ≡ 3 → a ≡ tick.Opened (protected_byte 61)
+  pub response : entry_kind t e ≡ 3 → a ≡ Ok (tick.Opened (protected_byte 61))
 
 -- the answer of an accepted tick by the slot that it starts
-abbrev pub SlotReply : List ℕ → Seq Scheduled → Slot → TickAnswer → Type 0
-SlotReply t h none a = a ≡ tick.Waiting
-SlotReply t h unscheduled a = a ≡ tick.Idle
+abbrev pub SlotReply : List ℕ → Seq Scheduled → Slot → TickResult → Type 0
+SlotReply t h none a = a ≡ Ok tick.Waiting
+SlotReply t h unscheduled a = a ≡ Ok tick.Idle
 SlotReply t h (entry e) a = EntryReply t h e a
 
 -- the lent message has the length of the one being sent
@@ -185,8 +175,8 @@ lent_right message.Completed n = true
 lent_right message.Failed n = true
 
 -- 3 "on tick, a lent message of another length than the one being sent", and nothing else refuses
-pub record TickReply (t : List ℕ) (h : Seq Scheduled) (m : List ℕ) (a : TickAnswer) : Type 0 where
-  pub refuses : lent_right (message_after t h) (length m) ≡ false → a ≡ tick.Refused (refused 3)
+pub record TickReply (t : List ℕ) (h : Seq Scheduled) (m : List ℕ) (a : TickResult) : Type 0 where
+  pub refuses : lent_right (message_after t h) (length m) ≡ false → a ≡ Err (refused 3)
   pub goes_on : lent_right (message_after t h) (length m) ≡ true → SlotReply t h (slot_due t (plan_after t h)) a
 
 -- ---- number ahead
@@ -199,9 +189,9 @@ pub data Count (P : ℕ → Type 0) : List ℕ → ℕ → Type 0 where
 
 pub record AheadReply (t : List ℕ) (h : Seq Scheduled) (f : ℕ) (a : AheadAnswer) : Type 0 where
   -- "the number of pending members ahead of a given frame number in its list"
-  pub listed : (l : ℕ) (ahead behind : List ℕ) → members t l ≡ ahead ++ (f ∷ behind) → (n : ℕ) × (a ≡ counted.Count n) × Count (Pending t h) ahead n
+  pub listed : (l : ℕ) (ahead behind : List ℕ) → members t l ≡ ahead ++ (f ∷ behind) → (n : ℕ) × (a ≡ Ok n) × Count (Pending t h) ahead n
   -- "a frame in no list is refused with 4"
-  pub unlisted : ((l : ℕ) → ¬ Memᴰ f (members t l)) → a ≡ counted.Refused (refused 4)
+  pub unlisted : ((l : ℕ) → ¬ Memᴰ f (members t l)) → a ≡ Err (refused 4)
 
 -- ---- every call
 
@@ -213,7 +203,7 @@ Replies t h (call.read_array s) a = a ≡ read_array_reply (read_number t s true
 Replies t h (call.select n) a = a ≡ select_reply (select_number t n)
 Replies t h (call.tick m) a = TickReply t h m a
 Replies t h (call.byte_in b) a = a ≡ byte_reply t (open_after t h) (due_after t h) (got_after h) b
-Replies t h call.read_status a = a ≡ status.Word (word_over (counted_after t h))
+Replies t h call.read_status a = a ≡ Ok (word_over (counted_after t h))
 Replies t h (call.send nad n) a = a ≡ send_reply (send_number (message_after t h) n)
 Replies t h call.message_state a = a ≡ message_reply (message_after t h)
 Replies t h (call.number_ahead f) a = AheadReply t h f a

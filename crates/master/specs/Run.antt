@@ -26,11 +26,7 @@ answer_of t x (read s) = read_scalar_of t x.state x.bytes s
 answer_of t x (read_array s) = read_array_of t x.state x.bytes s
 answer_of t x (select n) = (select_of t x.state n).answer
 answer_of t x (tick m) = (tick_of t x.bytes m x.state).answer
-answer_of t x (byte_in b) =
-    record {
-      answer = (byte_of t x.state x.bytes b).given.answer;
-      response = (byte_of t x.state x.bytes b).given.response;
-    }
+answer_of t x (byte_in b) = (byte_of t x.state x.bytes b).given.answer
 answer_of t x read_status = (status_of t x.state).answer
 answer_of t x (send nad n) = (send_of t x.state nad n).answer
 answer_of t x message_state = message_of t x.state

@@ -3,13 +3,10 @@ use Rattle.std.specs.Prelude.{ℕ, ◌-◌, Bool, true, false, cond, ◌&&◌, L
 use Rattle.cluster.specs.Table.{entry_kind, entry_target, entry_delay}
 use Rattle.cluster.specs.Lists.{first_entry, next_entry}
 use Rattle.master.specs.declared.state.Plan.{Plan}
-use Rattle.master.specs.declared.state.Current.{Current}
-use Rattle.master.specs.declared.state.Current.TheVariants as current
-use Rattle.master.specs.declared.state.Requested.{Requested}
-use Rattle.master.specs.declared.state.Requested.TheVariants as requested
 use Rattle.master.specs.Seq.{Seq, ∅, ◌▹◌}
 use Rattle.master.specs.Calls.{Event}
 use Rattle.master.specs.Acts.{Act, nothing, wrote, selected, ticked, took, status_read, sending, act_of, on_tick}
+use Rattle.std.specs.Prelude.{Some, None, Option}
 
 -- the slot that an event starts
 pub data Slot : Type 0 where
@@ -35,10 +32,10 @@ act x = act_of x.event
 -- ---- the plan: the wait, the current entry and the requested schedule
 
 -- "the requested schedule begins", "at its entry 0", "or the next entry follows, cyclically"
-unfoldable pub slot_of : List ℕ → Requested → Current → Slot
-slot_of t (requested.Schedule n) c = entry (first_entry t n)
-slot_of t requested.None current.None = unscheduled
-slot_of t requested.None (current.Entry e) = entry (next_entry t e)
+unfoldable pub slot_of : List ℕ → Option ℕ → Option ℕ → Slot
+slot_of t (Some n) c = entry (first_entry t n)
+slot_of t None None = unscheduled
+slot_of t None (Some e) = entry (next_entry t e)
 
 -- the slot that an accepted tick starts: none "If the wait is above 1"; "Otherwise a slot starts"
 unfoldable pub slot_due : List ℕ → Plan → Slot
@@ -48,13 +45,13 @@ slot_due t p = cond (ltb 1 p.wait) none (slot_of t p.requested p.current)
 unfoldable pub plan_with : List ℕ → Plan → Slot → Plan
 plan_with t p none = record { wait = p.wait - 1; current = p.current; requested = p.requested }
 plan_with t p unscheduled = p
-plan_with t p (entry e) = record { wait = entry_delay t e; current = current.Entry e; requested = requested.None }
+plan_with t p (entry e) = record { wait = entry_delay t e; current = Some e; requested = None }
 
 -- the plan after an event: "Select asks for a schedule", an accepted tick goes on, and nothing else changes it
 unfoldable pub plan_by : List ℕ → Plan → Act → Plan
 plan_by t p nothing = p
 plan_by t p (wrote s v) = p
-plan_by t p (selected n) = record { wait = p.wait; current = p.current; requested = requested.Schedule n }
+plan_by t p (selected n) = record { wait = p.wait; current = p.current; requested = Some n }
 plan_by t p (ticked m a) = plan_with t p (slot_due t p)
 plan_by t p (took b a) = p
 plan_by t p status_read = p
@@ -62,7 +59,7 @@ plan_by t p (sending nad n) = p
 
 -- the plan after a history: at first "no schedule"
 unfoldable pub plan_after : List ℕ → Seq Scheduled → Plan
-plan_after t ∅ = record { wait = 0; current = current.None; requested = requested.None }
+plan_after t ∅ = record { wait = 0; current = None; requested = None }
 plan_after t (h ▹ x) = plan_by t (plan_after t h) (act x)
 
 -- ---- the slots

@@ -3,11 +3,11 @@ use Rattle.std.specs.Prelude.{ℕ, ◌+◌, ◌*◌, Bool, cond, not, ◌||◌, 
 use Rattle.wire.specs.Bits.{digit}
 use Rattle.master.specs.declared.state.Status.{Status}
 use Rattle.master.specs.declared.state.State.{State}
-use Rattle.master.specs.declared.read.StatusAnswer.TheVariants as answer
-use Rattle.master.specs.declared.read.StatusRead.{StatusRead}
+use Rattle.master.specs.Answers.{StatusRead}
 use Rattle.master.specs.Fresh.{no_status}
 use Rattle.master.specs.State.{with_status}
 use Rattle.master.specs.Admit.{admitted, answered, buffer_size}
+use Rattle.std.specs.Prelude.{Ok, Err}
 
 -- "a failed one sets bit 0, a successful one bit 1, and either stays set until read; overrun means two or more since the last reading"
 unfoldable pub with_counted : Status → Bool → ℕ → Status
@@ -32,5 +32,5 @@ status_word x = digit x.error + 2 * digit x.success + 4 * digit x.overrun + 256 
 unfoldable pub status_of : List ℕ → State → StatusRead
 status_of t s =
     answered (admitted t (buffer_size t) s)
-    (λ r. record { state = s; answer = answer.Refused r })
-    (record { state = with_status s no_status; answer = answer.Word (status_word s.status) })
+    (λ r. record { state = s; answer = Err r })
+    (record { state = with_status s no_status; answer = Ok (status_word s.status) })

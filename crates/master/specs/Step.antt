@@ -1,20 +1,9 @@
 -- Document 01, "Refusal numbers": every call is a verdict and then, where it is accepted, an effect. What the calls answer and leave stands in
 -- specs/Run.antt, by the definitions that their contracts cite; the laws that hold for every call (proofs/StepLaws.antt) go by these.
-use Rattle.std.specs.Prelude.{ℕ, true, false, List, length, replicate}
+use Rattle.std.specs.Prelude.{ℕ, true, false, List, length}
 use Rattle.refusal.specs.declared.Refusal.{Refusal}
 use Rattle.refusal.specs.Answers.{Told}
-use Rattle.cluster.specs.declared.Verdict.{Verdict}
 use Rattle.master.specs.declared.state.Message.TheVariants.{Sending}
-use Rattle.master.specs.declared.write.WriteAnswer.TheVariants as write
-use Rattle.master.specs.declared.read.ReadAnswer.TheVariants as read
-use Rattle.master.specs.declared.read.ArrayAnswer.TheVariants as array
-use Rattle.master.specs.declared.read.StatusAnswer.TheVariants as status
-use Rattle.master.specs.declared.select.SelectAnswer.TheVariants as select
-use Rattle.master.specs.declared.tick.TickAnswer.TheVariants as tick
-use Rattle.master.specs.declared.byte.ByteAnswer.TheVariants as byte
-use Rattle.master.specs.declared.send.SendAnswer.TheVariants as send
-use Rattle.master.specs.declared.send.MessageAnswer.TheVariants as message
-use Rattle.master.specs.declared.ahead.AheadAnswer.TheVariants as ahead
 use Rattle.master.specs.Fresh.{no_status}
 use Rattle.master.specs.State.{with_plan, with_message, with_status}
 use Rattle.master.specs.Admit.{admitted, buffer_size}
@@ -31,6 +20,8 @@ use Rattle.master.specs.Calls as call
 use Rattle.master.specs.Calls.{Call, Answer}
 use Rattle.master.specs.Run.{Held, held}
 use Rattle.master.specs.Put.{with_value}
+use Rattle.cluster.specs.Check.{Verdict}
+use Rattle.std.specs.Prelude.{Err}
 
 -- the verdict on a call
 unfoldable pub verdict_of : List ℕ → Held → Call → Verdict
@@ -58,27 +49,27 @@ effect_of t x (call.send nad n) = held (with_message x.state (Sending (record { 
 effect_of t x call.message_state = x
 effect_of t x (call.number_ahead f) = x
 
--- how a call answers a refusal: with it alone; the bytes beside it are 255
+-- how a call answers a refusal: with it alone
 unfoldable pub refusal_of : (c : Call) → Refusal → Answer c
-refusal_of (call.write w) r = write.Refused r
-refusal_of (call.read s) r = read.Refused r
-refusal_of (call.read_array s) r = record { answer = array.Refused r; bytes = replicate 8 255 }
-refusal_of (call.select n) r = select.Refused r
-refusal_of (call.tick m) r = tick.Refused r
-refusal_of (call.byte_in b) r = record { answer = byte.Refused r; response = replicate 8 255 }
-refusal_of call.read_status r = status.Refused r
-refusal_of (call.send nad n) r = send.Refused r
-refusal_of call.message_state r = message.Refused r
-refusal_of (call.number_ahead f) r = ahead.Refused r
+refusal_of (call.write w) r = Err r
+refusal_of (call.read s) r = Err r
+refusal_of (call.read_array s) r = Err r
+refusal_of (call.select n) r = Err r
+refusal_of (call.tick m) r = Err r
+refusal_of (call.byte_in b) r = Err r
+refusal_of call.read_status r = Err r
+refusal_of (call.send nad n) r = Err r
+refusal_of call.message_state r = Err r
+refusal_of (call.number_ahead f) r = Err r
 
 -- what an answer tells in the paper's terms
 unfoldable pub told_of : (c : Call) → Answer c → Told
 told_of (call.write w) a = write_told a
 told_of (call.read s) a = read_told a
-told_of (call.read_array s) a = array_told a.answer
+told_of (call.read_array s) a = array_told a
 told_of (call.select n) a = select_told a
 told_of (call.tick m) a = tick_told a
-told_of (call.byte_in b) a = byte_told a.answer
+told_of (call.byte_in b) a = byte_told a
 told_of call.read_status a = status_told a
 told_of (call.send nad n) a = send_told a
 told_of call.message_state a = message_told a

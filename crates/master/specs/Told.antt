@@ -3,8 +3,6 @@
 use Rattle.std.specs.Prelude.{ℕ, suc, ◌*◌, true, false, cond, not, List, [], ◌∷◌, ltb, eqb, length}
 use Rattle.std.specs.Bool.{beq}
 use Rattle.refusal.specs.Answers.{Told, Test, test, gives, refuses, first_failing, behind, told_at}
-use Rattle.cluster.specs.declared.Verdict.{Verdict}
-use Rattle.cluster.specs.declared.Verdict.TheVariants.{Accepted, Refused}
 use Rattle.cluster.specs.Check.{taken_of}
 use Rattle.cluster.specs.Answers.{behind_table}
 use Rattle.cluster.specs.Table.{frame_count, signal_count, is_array, member_count, schedule_count}
@@ -25,11 +23,13 @@ use Rattle.master.specs.Calls as call
 use Rattle.master.specs.Calls.{Call}
 use Rattle.master.specs.Put.{Put, puts}
 use Rattle.master.specs.Run.{Held}
+use Rattle.std.specs.Prelude.{Ok, Err}
+use Rattle.cluster.specs.Check.{Verdict}
 
 -- a verdict, and the values where it accepts
 abbrev pub told_as : Verdict → List ℕ → Told
-told_as Accepted vs = gives vs
-told_as (Refused r) vs = refuses r
+told_as (Ok tt) vs = gives vs
+told_as (Err r) vs = refuses r
 
 -- "the frame buffer isn't 8F bytes"
 abbrev pub size_test : List ℕ → ℕ → Test

@@ -5,7 +5,7 @@ use Rattle.wire.specs.Checksum.{checksum_byte}
 use Rattle.wire.specs.declared.checksum.Model.{Model}
 use Rattle.wire.specs.declared.checksum.Model.TheVariants.{Classic}
 use Rattle.cluster.specs.Table.{identifier, frame_length, published, frame_model}
-use Rattle.transport.specs.Cutting.{cut_of}
+use Rattle.transport.specs.Cutting.{cut_of, cut_bytes}
 use Rattle.master.specs.declared.state.Opened.{Opened}
 use Rattle.master.specs.declared.state.Opened.TheVariants.{Nothing, Frame, Request, Response}
 use Rattle.master.specs.declared.state.Message as state
@@ -57,7 +57,7 @@ frame_data t bs f = take (frame_length t f) (drop (8 * f) bs)
 -- "a frame is cut from the bytes lent when it opens"; there is none where no message is being sent
 abbrev pub request_data : state.Message → List ℕ → List ℕ
 request_data message.None m = replicate 8 255
-request_data (message.Sending x) m = (cut_of x.nad m x.next).bytes
+request_data (message.Sending x) m = cut_bytes (cut_of x.nad m x.next)
 request_data message.Completed m = replicate 8 255
 request_data message.Failed m = replicate 8 255
 

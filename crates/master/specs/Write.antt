@@ -3,8 +3,6 @@ use Rattle.std.specs.Prelude.{ℕ, suc, Bool, true, false, ◌||◌, List, [], �
 use Rattle.std.specs.Bool.{beq}
 use Rattle.refusal.specs.declared.Refusal.{Refusal}
 use Rattle.refusal.specs.Numbers as number
-use Rattle.cluster.specs.declared.Verdict.{Verdict}
-use Rattle.cluster.specs.declared.Verdict.TheVariants as verdict
 use Rattle.cluster.specs.Check.{then}
 use Rattle.cluster.specs.Table.{signal_count, is_array}
 use Rattle.cluster.specs.Values.{touches, signal_published, value_fits, array_fits}
@@ -12,11 +10,13 @@ use Rattle.master.specs.declared.state.Opened.{Opened}
 use Rattle.master.specs.declared.state.Opened.TheVariants as opened
 use Rattle.master.specs.declared.state.Transfer.{Transfer}
 use Rattle.master.specs.declared.state.State.{State}
-use Rattle.master.specs.declared.write.WriteAnswer.TheVariants.{Written, Refused}
-use Rattle.master.specs.declared.write.Wrote.{Wrote}
+use Rattle.master.specs.Answers.{Wrote}
 use Rattle.master.specs.State.{with_pending, with_transfer}
 use Rattle.master.specs.Admit.{unless, admitted, answered, Step}
 use Rattle.master.specs.Put.{Value, scalar, array, Put, with_value}
+use Rattle.std.specs.Prelude.{Ok}
+use Rattle.cluster.specs.Check.{Verdict}
+use Rattle.std.specs.Prelude.{Err}
 
 -- it is a write of an array
 abbrev pub is_bytes : Value → Bool
@@ -36,7 +36,7 @@ writable t s bytes fits =
     (unless (signal_published t s) number.not_published
     (unless (beq (is_array t s) bytes) number.kind
     (unless fits number.value
-    verdict.Accepted)))
+    (Ok tt))))
 
 -- the pending bits from frame f on, with those of the frames that a signal touches set
 unfoldable pub marked_from : List ℕ → ℕ → ℕ → List Bool → List Bool
@@ -66,7 +66,7 @@ marked t s x = with_transfer (with_pending x (marked_from t s 0 x.pending)) (rew
 
 -- a refused write
 abbrev pub refused_write : State → Refusal → Wrote
-refused_write x r = record { state = x; answer = Refused r }
+refused_write x r = record { state = x; answer = Err r }
 
 -- refusals of a write: 1 to 7
 abbrev pub write_verdict : List ℕ → ℕ → State → Put → Verdict
@@ -77,4 +77,4 @@ unfoldable pub write_of : List ℕ → State → List ℕ → Put → Step Wrote
 write_of t x bs w =
     answered (write_verdict t (length bs) x w)
     (λ r. record { given = refused_write x r; left = bs })
-    (record { given = record { state = marked t w.signal x; answer = Written }; left = with_value t bs w.signal w.value })
+    (record { given = record { state = marked t w.signal x; answer = Ok tt }; left = with_value t bs w.signal w.value })

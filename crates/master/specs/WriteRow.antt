@@ -1,22 +1,21 @@
 -- Document 02, Req 01, "A whole panel of values at once": two lent rows, signal numbers and scalar values, are written as one, or not at all.
 use Rattle.std.specs.Prelude.{ℕ, suc, Bool, List, [], ◌∷◌, eqb, length}
 use Rattle.refusal.specs.Numbers as number
-use Rattle.cluster.specs.declared.Verdict.{Verdict}
-use Rattle.cluster.specs.declared.Verdict.TheVariants.{Accepted, Refused}
 use Rattle.cluster.specs.Check.{then}
 use Rattle.master.specs.declared.state.Transfer.{Transfer}
 use Rattle.master.specs.declared.state.State.{State}
-use Rattle.master.specs.declared.write.WriteAnswer.TheVariants.{Written}
-use Rattle.master.specs.declared.write.Wrote.{Wrote}
+use Rattle.master.specs.Answers.{Wrote}
 use Rattle.master.specs.State.{with_pending, with_transfer}
 use Rattle.master.specs.Admit.{unless, admitted, answered, Step}
 use Rattle.master.specs.Put.{Put, with_value, puts}
 use Rattle.master.specs.Write.{is_bytes, fits_signal, writable, marked_from, rewritten, refused_write}
+use Rattle.std.specs.Prelude.{Ok, Err}
+use Rattle.cluster.specs.Check.{Verdict}
 
 -- "with its place": a refusal of the pair at a place
 abbrev pub at_place : ℕ → Verdict → Verdict
-at_place i Accepted = Accepted
-at_place i (Refused r) = Refused (number.refused_at r.number i)
+at_place i (Ok tt) = Ok tt
+at_place i (Err r) = Err (number.refused_at r.number i)
 
 -- refusals 4 to 7 of one pair
 abbrev pub put_verdict : List ℕ → Put → Verdict
@@ -24,7 +23,7 @@ put_verdict t w = writable t w.signal (is_bytes w.value) (fits_signal t w.signal
 
 -- "the number of the first bad pair, with its place, by 4 to 7"; the first of these pairs has place i
 unfoldable pub first_bad : List ℕ → ℕ → List Put → Verdict
-first_bad t i [] = Accepted
+first_bad t i [] = Ok tt
 first_bad t i (w ∷ ws) = then (at_place i (put_verdict t w)) (first_bad t (suc i) ws)
 
 -- "rows of unequal length are 12, tested after 1 to 3; then the number of the first bad pair"
@@ -55,4 +54,4 @@ unfoldable pub row_of : List ℕ → State → List ℕ → List ℕ → List �
 row_of t x bs ss vs =
     answered (row_verdict t (length bs) x ss vs)
     (λ r. record { given = refused_write x r; left = bs })
-    (record { given = record { state = marked_row t ss x; answer = Written }; left = with_row t bs (puts ss vs) })
+    (record { given = record { state = marked_row t ss x; answer = Ok tt }; left = with_row t bs (puts ss vs) })

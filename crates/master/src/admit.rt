@@ -1,8 +1,7 @@
 // Tests 1, 2 and 3, which stand at the head of the calls.
-ghost use Rattle.std.specs.Prelude.{◌≡◌};
+ghost use Rattle.std.specs.Prelude.{◌≡◌, Err};
 ghost use Rattle.master.specs.Admit.{buffer_size, admitted};
 ghost use Rattle.refusal.specs.Numbers.{refused as refused_with};
-ghost use Rattle.cluster.specs.declared.Verdict.TheVariants as verdict;
 ghost use Rattle.master.specs.Fits.{base_fits, state_fits};
 ghost use Rattle.cluster.specs.Answers.{verdict_told};
 ghost use Rattle.master.specs.Told.{admit_told};
@@ -10,25 +9,23 @@ ghost use Rattle.master.specs.Told.{admit_told};
 use crate::pending::pending_fits;
 use crate::received::received_fits;
 use crate::state::State;
-use cluster::{Verdict, frames, taken};
+use cluster::{frames, taken};
 use refusal::Refusal;
 
 impl State {
     // Judges the table, the number of frame bytes, and the state; a call that is lent no frame bytes asks with the right number.
-    pub fn admit(self, t: &[u16], size: usize) -> Verdict
+    pub fn admit(self, t: &[u16], size: usize) -> Result<(), Refusal>
         ensures value { result ≡ admitted t.now size self }
         ensures told { verdict_told result ≡ admit_told t.now size self }
     {
-        if let Verdict::Refused(refusal) = taken(t) {
-            return Verdict::Refused(refusal);
-        }
+        taken(t)?;
         if size != buffer_size(t) {
             return refused(Refusal::BUFFER);
         }
         if !self.fits(t) {
             return refused(Refusal::STATE);
         }
-        Verdict::Accepted
+        Ok(())
     }
 
     // Whether the state fits the table.
@@ -81,8 +78,8 @@ pub fn buffer_size(t: &[u16]) -> usize
 }
 
 // A verdict that refuses with a number.
-pub(crate) fn refused(number: u8) -> Verdict
-    ensures { result ≡ verdict.Refused (refused_with number) }
+pub(crate) fn refused(number: u8) -> Result<(), Refusal>
+    ensures { result ≡ Err (refused_with number) }
 {
-    Verdict::Refused(Refusal::of(number))
+    Err(Refusal::of(number))
 }

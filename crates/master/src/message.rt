@@ -9,7 +9,6 @@ use crate::send::MessageAnswer;
 use crate::state::{Message, Opened, Sending};
 use cluster::frames;
 use transport::cutting;
-use transport::cutting::Counted;
 
 impl Message {
     // Whether a message is being sent.
@@ -107,8 +106,8 @@ impl Sending {
     {
         let next = self.next + 1;
         match cutting::count(self.length as usize) {
-            Counted::Frames(frames) => self.at(next, frames),
-            Counted::Refused(refusal) => Message::Completed,
+            Ok(frames) => self.at(next, frames),
+            Err(_) => Message::Completed,
         }
     }
 
@@ -131,9 +130,6 @@ impl Sending {
     pub(crate) fn fits(self) -> bool
         ensures { result ≡ (is_length self.length && ltb self.next (message_frames self.length)) }
     {
-        match cutting::count(self.length as usize) {
-            Counted::Frames(frames) => self.next < frames,
-            Counted::Refused(refusal) => false,
-        }
+        matches!(cutting::count(self.length as usize), Ok(frames) if self.next < frames)
     }
 }

@@ -16,12 +16,10 @@ use cluster::{Limits, frames, members};
 pub(crate) fn pending_fits(t: &[u16], pending: [bool; Limits::FRAMES]) -> bool
     ensures { result ≡ pending_fits t.now 0 pending }
 {
-    let mut f: usize = 0;
-    while f < Limits::FRAMES {
+    for f in 0..Limits::FRAMES {
         if !bit_fits(t, f as u16, pending[f]) {
             return false;
         }
-        f += 1;
     }
     true
 }
@@ -95,10 +93,8 @@ pub(crate) fn count_pending(t: &[u16], pending: [bool; Limits::FRAMES], l: u16, 
     ensures { result ≡ pending_count pending (members_from t.now l 0 end) }
 {
     let mut n: u16 = 0;
-    let mut m: u16 = 0;
-    while m < end {
+    for m in 0..end {
         n += one_if(is_pending_member(t, pending, l, m));
-        m += 1;
     }
     n
 }

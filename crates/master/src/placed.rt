@@ -26,16 +26,6 @@ pub(crate) fn first(t: &[u16], s: u16) -> u16
     low
 }
 
-// Whether a placement is there, and one of a signal.
-fn stands(t: &[u16], s: u16, k: u16) -> bool
-    ensures { result ≡ (ltb k (placement_count t.now) && places t.now s k) }
-{
-    if placements::count(t) <= k {
-        return false;
-    }
-    placements::signal(t, k) == s
-}
-
 // Whether the master publishes a signal.
 pub(crate) fn published(t: &[u16], s: u16) -> bool
     requires { RightTable t.now }
@@ -49,10 +39,11 @@ pub(crate) fn put_scalar(t: &[u16], bytes: &mut [u8], s: u16, v: u16)
     requires { RightTable t.now }
     ensures { bytes.new ≡ with_scalar t.now bytes.old s v }
 {
-    let mut k = first(t, s);
-    while stands(t, s, k) {
+    for k in first(t, s)..placements::count(t) {
+        if placements::signal(t, k) != s {
+            return;
+        }
         values::put_scalar_at(t, bytes, s, k, v);
-        k += 1;
     }
 }
 
@@ -61,10 +52,11 @@ pub(crate) fn put_array(t: &[u16], bytes: &mut [u8], s: u16, values: &[u8])
     requires { RightTable t.now }
     ensures { bytes.new ≡ with_array t.now bytes.old s values.now }
 {
-    let mut k = first(t, s);
-    while stands(t, s, k) {
+    for k in first(t, s)..placements::count(t) {
+        if placements::signal(t, k) != s {
+            return;
+        }
         values::put_array_at(t, bytes, k, values);
-        k += 1;
     }
 }
 
@@ -73,10 +65,11 @@ pub(crate) fn mark(t: &[u16], s: u16, pending: &mut [bool])
     requires { RightTable t.now }
     ensures { pending.new ≡ marked_from t.now s 0 pending.old }
 {
-    let mut k = first(t, s);
-    while stands(t, s, k) {
+    for k in first(t, s)..placements::count(t) {
+        if placements::signal(t, k) != s {
+            return;
+        }
         set(pending, placements::frame(t, k) as usize);
-        k += 1;
     }
 }
 
@@ -94,12 +87,13 @@ pub(crate) fn touches(t: &[u16], s: u16, f: u16) -> bool
     requires { RightTable t.now }
     ensures { result ≡ touchesOf t.now s f }
 {
-    let mut k = first(t, s);
-    while stands(t, s, k) {
+    for k in first(t, s)..placements::count(t) {
+        if placements::signal(t, k) != s {
+            return false;
+        }
         if placements::frame(t, k) == f {
             return true;
         }
-        k += 1;
     }
     false
 }

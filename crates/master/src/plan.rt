@@ -2,10 +2,9 @@
 ghost use Rattle.std.specs.Prelude.{true, ◌&&◌, ◌≡◌};
 ghost use Rattle.master.specs.Fresh.{no_plan};
 ghost use Rattle.master.specs.Plan.{asking as askingFor, waits as waitsOf, waited as waitedOf, entry_due, begun as begunAt};
-ghost use Rattle.master.specs.declared.state.Requested.TheVariants.{None};
 ghost use Rattle.master.specs.Fits.{entry_there, schedule_there, current_delay, wait_fits, can_open};
 
-use crate::state::{Current, Message, Opened, Plan, Requested};
+use crate::state::{Message, Opened, Plan};
 use cluster::entries;
 
 impl Plan {
@@ -15,8 +14,8 @@ impl Plan {
     {
         Plan {
             wait: 0,
-            current: Current::None,
-            requested: Requested::None,
+            current: None,
+            requested: None,
         }
     }
 
@@ -24,11 +23,9 @@ impl Plan {
     pub fn asking(self, n: u16) -> Plan
         ensures { result ≡ askingFor self n }
     {
-        let current = self.current;
         Plan {
-            wait: self.wait,
-            current,
-            requested: Requested::Schedule(n),
+            requested: Some(n),
+            ..self
         }
     }
 
@@ -44,20 +41,20 @@ impl Plan {
         requires { waitsOf self ≡ true }
         ensures { result ≡ waitedOf self }
     {
-        let mut next = self;
-        next.wait = self.wait - 1;
-        next
+        Plan {
+            wait: self.wait - 1,
+            ..self
+        }
     }
 
     // The entry of the slot that starts.
-    pub fn due(self, t: &[u16]) -> Current
+    pub fn due(self, t: &[u16]) -> Option<u16>
         ensures { result ≡ entry_due t.now self.requested self.current }
     {
-        let requested = self.requested;
-        let current = self.current;
-        match requested {
-            Requested::Schedule(n) => Current::Entry(entries::first(t, n)),
-            Requested::None => current.next(t),
+        match (self.requested, self.current) {
+            (Some(n), _) => Some(entries::first(t, n)),
+            (None, Some(e)) => Some(entries::next(t, e)),
+            (None, None) => None,
         }
     }
 
@@ -67,8 +64,8 @@ impl Plan {
     {
         Plan {
             wait: entries::delay(t, e),
-            current: Current::Entry(e),
-            requested: Requested::None,
+            current: Some(e),
+            requested: None,
         }
     }
 
@@ -76,74 +73,53 @@ impl Plan {
     pub(crate) fn is_there(self, t: &[u16]) -> bool
         ensures { result ≡ (entry_there t.now self.current && schedule_there t.now self.requested) }
     {
-        let current = self.current;
-        let requested = self.requested;
-        if !current.is_there(t) {
-            return false;
-        }
-        requested.is_there(t)
+        entry_there(t, self.current) && schedule_there(t, self.requested)
     }
 
     // Whether the wait is at most the current delay.
     pub(crate) fn wait_fits(self, t: &[u16]) -> bool
         ensures { result ≡ wait_fits t.now self }
     {
-        let current = self.current;
-        self.wait <= current.delay(t)
+        self.wait <= delay(t, self.current)
     }
 
     // Whether the current entry can have opened a transfer.
     pub(crate) fn can_open(self, t: &[u16], message: Message, opened: Opened) -> bool
         ensures { result ≡ can_open t.now message self.current opened }
     {
-        let current = self.current;
-        match current {
-            Current::None => !opened.is_open(),
-            Current::Entry(e) => opened.of_entry(t, message, e),
+        match self.current {
+            None => !opened.is_open(),
+            Some(e) => opened.of_entry(t, message, e),
         }
     }
 }
 
-impl Current {
-    // The entry that follows, cyclically.
-    fn next(self, t: &[u16]) -> Current
-        ensures { result ≡ entry_due t.now None self }
-    {
-        match self {
-            Current::None => Current::None,
-            Current::Entry(e) => Current::Entry(entries::next(t, e)),
-        }
-    }
-
-    // Whether the table has the entry.
-    pub(crate) fn is_there(self, t: &[u16]) -> bool
-        ensures { result ≡ entry_there t.now self }
-    {
-        match self {
-            Current::None => true,
-            Current::Entry(e) => e < entries::count(t),
-        }
-    }
-
-    // The delay of the entry.
-    fn delay(self, t: &[u16]) -> u16
-        ensures { result ≡ current_delay t.now self }
-    {
-        match self {
-            Current::None => 0,
-            Current::Entry(e) => entries::delay(t, e),
-        }
+// Whether the table has the current entry.
+fn entry_there(t: &[u16], current: Option<u16>) -> bool
+    ensures { result ≡ entry_there t.now current }
+{
+    match current {
+        None => true,
+        Some(e) => e < entries::count(t),
     }
 }
 
-impl Requested {
-    // Whether the table has the schedule.
-    pub(crate) fn is_there(self, t: &[u16]) -> bool
-        ensures { result ≡ schedule_there t.now self }
-    {
-        match self {
-            Requested::None => true,
-            Requested::Schedule(n) => (n as usize) < entries::schedules(t),
-        }
+// Whether the table has the requested schedule.
+fn schedule_there(t: &[u16], requested: Option<u16>) -> bool
+    ensures { result ≡ schedule_there t.now requested }
+{
+    match requested {
+        None => true,
+        Some(n) => (n as usize) < entries::schedules(t),
+    }
+}
+
+// The delay of the current entry.
+fn delay(t: &[u16], current: Option<u16>) -> u16
+    ensures { result ≡ current_delay t.now current }
+{
+    match current {
+        None => 0,
+        Some(e) => entries::delay(t, e),
     }
 }

@@ -1,25 +1,21 @@
 // The receptions: whether they fit, what a successful one sets, and where a read takes its value.
-ghost use Rattle.std.specs.Prelude.{◌≡◌, cond, eqb};
+ghost use Rattle.std.specs.Prelude.{◌≡◌, cond, eqb, Some};
 ghost use Rattle.cluster.specs.Check.{RightTable};
 ghost use Rattle.cluster.specs.Table.{most_signals, placement_count, placement_signal, placement_frame};
-ghost use Rattle.master.specs.declared.state.Last.TheVariants.{Placement};
 ghost use Rattle.master.specs.Received.{last_of, received_up_to, received_by, last_fits, received_fits, source_of};
 
 use crate::placed;
-use crate::state::{Last, Opened, Reception, State};
+use crate::state::{Opened, Reception, State};
 use cluster::{Limits, frames, placements, signals};
 
 // Whether each reception is of a placement that can be received.
 pub(crate) fn received_fits(t: &[u16], received: [Reception; Limits::SIGNALS]) -> bool
     ensures { result ≡ received_fits t.now 0 received }
 {
-    let mut s: usize = 0;
-    while s < Limits::SIGNALS {
-        let reception = received[s];
-        if !reception.fits(t, s as u16) {
+    for s in 0..Limits::SIGNALS {
+        if !received[s].fits(t, s as u16) {
             return false;
         }
-        s += 1;
     }
     true
 }
@@ -29,17 +25,16 @@ impl Reception {
     fn fits(self, t: &[u16], s: u16) -> bool
         ensures { result ≡ last_fits t.now s self.last }
     {
-        let last = self.last;
-        match last {
-            Last::Never => true,
-            Last::Placement(k) => placed(t, s, k),
+        match self.last {
+            None => true,
+            Some(k) => placed(t, s, k),
         }
     }
 }
 
 // Whether a placement is there, one of a signal of the table, and in a frame that is not published.
 fn placed(t: &[u16], s: u16, k: u16) -> bool
-    ensures { result ≡ last_fits t.now s (Placement k) }
+    ensures { result ≡ last_fits t.now s (Some k) }
 {
     if signals::count(t) <= s {
         return false;
@@ -81,15 +76,11 @@ fn received_in(
 {
     let n = placements::count(t);
     let mut next = received;
-    let mut k: u16 = 0;
-    while k < n {
+    for k in 0..n {
         let s = receiver(t, f, k);
         if s < Limits::SIGNALS {
-            next[s] = Reception {
-                last: Last::Placement(k),
-            };
+            next[s] = Reception { last: Some(k) };
         }
-        k += 1;
     }
     next
 }
@@ -107,12 +98,12 @@ fn receiver(t: &[u16], f: u16, k: u16) -> usize
 
 impl State {
     // Where a read of a signal takes its value: of a published one the first placement, of a received one that received last.
-    pub(crate) fn source(self, t: &[u16], s: u16) -> Last
+    pub(crate) fn source(self, t: &[u16], s: u16) -> Option<u16>
         requires { RightTable t.now }
         ensures { result ≡ source_of t.now self.received s }
     {
         if placed::published(t, s) {
-            return Last::Placement(placed::first(t, s));
+            return Some(placed::first(t, s));
         }
         let received = self.received;
         last_of(received, s)
@@ -120,14 +111,12 @@ impl State {
 }
 
 // What is kept of a signal.
-fn last_of(received: [Reception; Limits::SIGNALS], s: u16) -> Last
+fn last_of(received: [Reception; Limits::SIGNALS], s: u16) -> Option<u16>
     ensures { result ≡ last_of received s }
 {
     if (s as usize) < Limits::SIGNALS {
-        let reception = received[s as usize];
-        let last = reception.last;
-        last
+        received[s as usize].last
     } else {
-        Last::Never
+        None
     }
 }

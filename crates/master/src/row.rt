@@ -1,9 +1,8 @@
 // A row of values: they are written as one by one in row order, or none of them.
 ghost use Rattle.std.specs.Prelude.{◌≡◌, length};
-ghost use Rattle.cluster.specs.declared.Verdict.TheVariants.{Accepted};
 ghost use Rattle.cluster.specs.Check.{RightTable};
 ghost use Rattle.master.specs.Admit.{Leaves};
-ghost use Rattle.master.specs.Answers.{write_told};
+ghost use Rattle.master.specs.Answers.{handed, write_told};
 ghost use Rattle.master.specs.Put.{puts};
 ghost use Rattle.master.specs.Run.{held};
 ghost use Rattle.master.specs.Told.{row_told};
@@ -12,33 +11,39 @@ ghost use Rattle.master.specs.WriteRow.{first_bad, row_verdict, marked_bits, rew
 use crate::admit::refused;
 use crate::placed;
 use crate::state::{State, Transfer};
-use crate::write::{WriteAnswer, Wrote, writable};
-use cluster::{Verdict, values as values_of};
+use crate::write::writable;
+use cluster::values as values_of;
 use refusal::Refusal;
 
 impl State {
     // Writes a row of scalars, each to its signal, and marks their frames as written.
-    pub fn write_row(self, t: &[u16], bytes: &mut [u8], signals: &[u16], values: &[u32]) -> Wrote
-        ensures leaves { Leaves (row_of t.now self bytes.old signals.now values.now) result bytes.new }
-        ensures told { write_told result.answer ≡ row_told t.now (held self bytes.old) signals.now values.now }
+    pub fn write_row(
+        &mut self,
+        t: &[u16],
+        bytes: &mut [u8],
+        signals: &[u16],
+        values: &[u32],
+    ) -> Result<(), Refusal>
+        ensures leaves { Leaves (row_of t.now self.old bytes.old signals.now values.now) (handed self.new result) bytes.new }
+        ensures told { write_told result ≡ row_told t.now (held self.old bytes.old) signals.now values.now }
     {
-        if let Verdict::Refused(refusal) = self.judge_row(t, bytes.len(), signals, values) {
-            return self.not_written(refusal);
-        }
+        self.judge_row(t, bytes.len(), signals, values)?;
         put_row(t, bytes, signals, values);
-        Wrote {
-            state: self.marked_row(t, signals),
-            answer: WriteAnswer::Written,
-        }
+        *self = self.marked_row(t, signals);
+        Ok(())
     }
 
     // The verdict on a row.
-    fn judge_row(self, t: &[u16], size: usize, signals: &[u16], values: &[u32]) -> Verdict
+    fn judge_row(
+        self,
+        t: &[u16],
+        size: usize,
+        signals: &[u16],
+        values: &[u32],
+    ) -> Result<(), Refusal>
         ensures { result ≡ row_verdict t.now size self signals.now values.now }
     {
-        if let Verdict::Refused(refusal) = self.admit(t, size) {
-            return Verdict::Refused(refusal);
-        }
+        self.admit(t, size)?;
         if signals.len() != values.len() {
             return refused(Refusal::ROWS);
         }
@@ -65,43 +70,37 @@ impl Transfer {
         ensures { result ≡ rewritten_by t.now signals.now self }
     {
         let mut next = self;
-        let mut i: usize = 0;
-        while i < signals.len() {
-            next = next.rewritten(t, signals[i]);
-            i += 1;
+        for &s in signals {
+            next = next.rewritten(t, s);
         }
         next
     }
 }
 
 // Refusals 4 to 7 of a row: that of the first bad pair, with its place.
-fn first_bad(t: &[u16], signals: &[u16], values: &[u32]) -> Verdict
+fn first_bad(t: &[u16], signals: &[u16], values: &[u32]) -> Result<(), Refusal>
     requires { RightTable t.now × (length signals.now ≡ length values.now) }
     ensures { result ≡ first_bad t.now 0 (puts signals.now values.now) }
 {
-    let mut i: usize = 0;
-    while i < signals.len() {
+    for i in 0..signals.len() {
         let s = signals[i];
         let fits = values_of::scalar_fits(t, s, values[i]);
-        if let Verdict::Refused(refusal) = writable(t, s, false, fits) {
-            return Verdict::Refused(Refusal::at(refusal.number, i));
+        if let Err(refusal) = writable(t, s, false, fits) {
+            return Err(Refusal::at(refusal.number, i));
         }
-        i += 1;
     }
-    Verdict::Accepted
+    Ok(())
 }
 
 // Puts the values of a row into their signals.
 fn put_row(t: &[u16], bytes: &mut [u8], signals: &[u16], values: &[u32])
     requires { RightTable t.now
         × (length signals.now ≡ length values.now)
-        × (first_bad t.now 0 (puts signals.now values.now) ≡ Accepted) }
+        × (first_bad t.now 0 (puts signals.now values.now) ≡ Ok tt) }
     ensures { bytes.new ≡ with_row t.now bytes.old (puts signals.now values.now) }
 {
-    let mut i: usize = 0;
-    while i < signals.len() {
+    for i in 0..signals.len() {
         placed::put_scalar(t, bytes, signals[i], values[i] as u16);
-        i += 1;
     }
 }
 
@@ -110,9 +109,7 @@ fn mark_row(t: &[u16], signals: &[u16], pending: &mut [bool])
     requires { RightTable t.now }
     ensures { pending.new ≡ marked_bits t.now signals.now pending.old }
 {
-    let mut i: usize = 0;
-    while i < signals.len() {
-        placed::mark(t, signals[i], pending);
-        i += 1;
+    for &s in signals {
+        placed::mark(t, s, pending);
     }
 }

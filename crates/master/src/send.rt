@@ -1,30 +1,15 @@
 // The calls that begin a message and tell of it.
 ghost use Rattle.std.specs.Prelude.{◌≡◌, []};
 ghost use Rattle.master.specs.Message.{send_verdict, send_of, message_of};
-ghost use Rattle.master.specs.Answers.{send_told, message_told};
+ghost use Rattle.master.specs.Answers.{handed, send_told, message_told};
 ghost use Rattle.master.specs.Calls as call;
 ghost use Rattle.master.specs.Run.{held};
 ghost use Rattle.master.specs.Told.{call_told};
 
 use crate::admit::{buffer_size, refused};
 use crate::state::{Message, Sending, State};
-use cluster::Verdict;
 use refusal::Refusal;
 use transport::reassembly::Assembly;
-
-// What send answers.
-#[derive(Clone, Copy)]
-pub enum SendAnswer {
-    Sending,
-    Refused(Refusal),
-}
-
-// The state handed back, and the answer.
-#[derive(Clone, Copy)]
-pub struct Sent {
-    pub state: State,
-    pub answer: SendAnswer,
-}
 
 // What the message state is.
 #[derive(Clone, Copy)]
@@ -33,50 +18,37 @@ pub enum MessageAnswer {
     Sending,
     Completed,
     Failed,
-    Refused(Refusal),
 }
 
 impl State {
     // Begins to send a message of a length to a NAD; its bytes are lent to the ticks.
-    pub fn send(self, t: &[u16], nad: u8, size: u32) -> Sent
-        ensures value { result ≡ send_of t.now self nad size }
-        ensures told { send_told result.answer ≡ call_told t.now (held self []) (call.send nad size) }
+    pub fn send(&mut self, t: &[u16], nad: u8, size: u32) -> Result<(), Refusal>
+        ensures value { handed self.new result ≡ send_of t.now self.old nad size }
+        ensures told { send_told result ≡ call_told t.now (held self.old []) (call.send nad size) }
     {
-        if let Verdict::Refused(refusal) = self.judge_send(t, size) {
-            return Sent {
-                state: self,
-                answer: SendAnswer::Refused(refusal),
-            };
-        }
-        Sent {
-            state: self.with_message(Message::Sending(Sending {
-                nad,
-                length: size as u16,
-                next: 0,
-            })),
-            answer: SendAnswer::Sending,
-        }
+        self.judge_send(t, size)?;
+        self.message = Message::Sending(Sending {
+            nad,
+            length: size as u16,
+            next: 0,
+        });
+        Ok(())
     }
 
     // Tells none, sending, completed or failed.
-    pub fn message_state(self, t: &[u16]) -> MessageAnswer
+    pub fn message_state(self, t: &[u16]) -> Result<MessageAnswer, Refusal>
         ensures value { result ≡ message_of t.now self }
         ensures told { message_told result ≡ call_told t.now (held self []) call.message_state }
     {
-        if let Verdict::Refused(refusal) = self.admit(t, buffer_size(t)) {
-            return MessageAnswer::Refused(refusal);
-        }
-        let message = self.message;
-        message.told()
+        self.admit(t, buffer_size(t))?;
+        Ok(self.message.told())
     }
 
     // The verdict on a send.
-    fn judge_send(self, t: &[u16], size: u32) -> Verdict
+    fn judge_send(self, t: &[u16], size: u32) -> Result<(), Refusal>
         ensures { result ≡ send_verdict t.now self size }
     {
-        if let Verdict::Refused(refusal) = self.admit(t, buffer_size(t)) {
-            return Verdict::Refused(refusal);
-        }
+        self.admit(t, buffer_size(t))?;
         if size < 1 {
             return refused(Refusal::MESSAGE_LENGTH);
         }
@@ -87,6 +59,6 @@ impl State {
         if message.is_sending() {
             return refused(Refusal::SENDING);
         }
-        Verdict::Accepted
+        Ok(())
     }
 }

@@ -6,27 +6,15 @@ ghost use Rattle.master.specs.State.{with_pending, with_plan, with_transfer, wit
 use cluster::{Limits, fresh};
 use transport::reassembly::Assembly;
 
-// The current place in a schedule: none, or the number of an entry in the table.
-#[derive(Clone, Copy)]
-pub enum Current {
-    None,
-    Entry(u16),
-}
-
-// The schedule that begins at the next slot start, if one was asked for.
-#[derive(Clone, Copy)]
-pub enum Requested {
-    None,
-    Schedule(u16),
-}
-
 // Where the schedule stands.
 #[derive(Clone, Copy)]
 pub struct Plan {
     // The ticks left in the current slot.
     pub wait: u16,
-    pub current: Current,
-    pub requested: Requested,
+    // The number of the current entry in the table, if there is one.
+    pub current: Option<u16>,
+    // The schedule that begins at the next slot start, if one was asked for.
+    pub requested: Option<u16>,
 }
 
 // What an open transfer is of: a frame by its number, the request (60) or the response (61).
@@ -77,17 +65,10 @@ pub struct Status {
     pub last: u8,
 }
 
-// The placement of a signal that was received last, by its number in the table.
-#[derive(Clone, Copy)]
-pub enum Last {
-    Never,
-    Placement(u16),
-}
-
-// What is kept of a signal's receptions.
+// What is kept of a signal's receptions: the placement that was received last, by its number in the table, if one was.
 #[derive(Clone, Copy)]
 pub struct Reception {
-    pub last: Last,
+    pub last: Option<u16>,
 }
 
 // The whole state.
@@ -106,7 +87,7 @@ impl Reception {
     pub fn never() -> Reception
         ensures { result ≡ never_received }
     {
-        Reception { last: Last::Never }
+        Reception { last: None }
     }
 }
 
@@ -140,83 +121,41 @@ impl State {
     pub(crate) fn with_pending(self, pending: [bool; Limits::FRAMES]) -> State
         ensures { result ≡ with_pending self pending }
     {
-        let plan = self.plan;
-        let transfer = self.transfer;
-        let message = self.message;
-        let status = self.status;
-        let received = self.received;
-        State {
-            pending,
-            plan,
-            transfer,
-            message,
-            status,
-            received,
-        }
+        State { pending, ..self }
     }
 
     // The state with another plan.
     pub(crate) fn with_plan(self, plan: Plan) -> State
         ensures { result ≡ with_plan self plan }
     {
-        let mut next = self;
-        next.plan = plan;
-        next
+        State { plan, ..self }
     }
 
     // The state with another transfer record.
     pub(crate) fn with_transfer(self, transfer: Transfer) -> State
         ensures { result ≡ with_transfer self transfer }
     {
-        let mut next = self;
-        next.transfer = transfer;
-        next
+        State { transfer, ..self }
     }
 
     // The state with another message.
     pub(crate) fn with_message(self, message: Message) -> State
         ensures { result ≡ with_message self message }
     {
-        let pending = self.pending;
-        let plan = self.plan;
-        let transfer = self.transfer;
-        let status = self.status;
-        let received = self.received;
-        State {
-            pending,
-            plan,
-            transfer,
-            message,
-            status,
-            received,
-        }
+        State { message, ..self }
     }
 
     // The state with another status.
     pub(crate) fn with_status(self, status: Status) -> State
         ensures { result ≡ with_status self status }
     {
-        let mut next = self;
-        next.status = status;
-        next
+        State { status, ..self }
     }
 
     // The state with other receptions.
     pub(crate) fn with_received(self, received: [Reception; Limits::SIGNALS]) -> State
         ensures { result ≡ with_received self received }
     {
-        let pending = self.pending;
-        let plan = self.plan;
-        let transfer = self.transfer;
-        let message = self.message;
-        let status = self.status;
-        State {
-            pending,
-            plan,
-            transfer,
-            message,
-            status,
-            received,
-        }
+        State { received, ..self }
     }
 }

@@ -1,21 +1,20 @@
 // The tick.
-ghost use Rattle.std.specs.Prelude.{true, cond, ◌≡◌, ◌<◌, length};
+ghost use Rattle.std.specs.Prelude.{true, cond, ◌≡◌, ◌<◌, length, Ok};
 ghost use Rattle.cluster.specs.Check.{RightTable};
 ghost use Rattle.master.specs.Admit.{buffer_size};
 ghost use Rattle.master.specs.Fits.{frame_there, is_sending};
 ghost use Rattle.master.specs.declared.state.Opened.TheVariants.{Request, Nothing};
 ghost use Rattle.master.specs.Transfers.{open_identifier};
-ghost use Rattle.cluster.specs.declared.Verdict.TheVariants.{Accepted};
 ghost use Rattle.master.specs.Tick.{slot_opens, abandoned as abandonedOf, opens_or_silent, slot as slot_of, tick_verdict, tick_of};
-ghost use Rattle.master.specs.Answers.{tick_told};
+ghost use Rattle.master.specs.Answers.{handed, tick_told};
 ghost use Rattle.master.specs.Calls as call;
 ghost use Rattle.master.specs.Run.{held};
 ghost use Rattle.master.specs.Told.{call_told};
 
 use crate::admit::refused;
 use crate::pending::first_pending;
-use crate::state::{Current, Message, Opened, Plan, State};
-use cluster::{Limits, Verdict, entries};
+use crate::state::{Message, Opened, Plan, State};
+use cluster::{Limits, entries};
 use refusal::Refusal;
 
 // What a tick answers; opened tells the protected identifier.
@@ -25,71 +24,47 @@ pub enum TickAnswer {
     Idle,
     Silent,
     Opened(u8),
-    Refused(Refusal),
-}
-
-// The state handed back, and the answer.
-#[derive(Clone, Copy)]
-pub struct Ticked {
-    pub state: State,
-    pub answer: TickAnswer,
 }
 
 impl State {
     // One tick: the wait falls, or a slot starts.
-    pub fn tick(self, t: &[u16], bytes: &[u8], lent: &[u8]) -> Ticked
-        ensures value { result ≡ tick_of t.now bytes.now lent.now self }
-        ensures told { tick_told result.answer ≡ call_told t.now (held self bytes.now) (call.tick lent.now) }
+    pub fn tick(&mut self, t: &[u16], bytes: &[u8], lent: &[u8]) -> Result<TickAnswer, Refusal>
+        ensures value { handed self.new result ≡ tick_of t.now bytes.now lent.now self.old }
+        ensures told { tick_told result ≡ call_told t.now (held self.old bytes.now) (call.tick lent.now) }
     {
-        if let Verdict::Refused(refusal) = self.judge_tick(t, bytes.len(), lent.len()) {
-            return Ticked {
-                state: self,
-                answer: TickAnswer::Refused(refusal),
-            };
+        self.judge_tick(t, bytes.len(), lent.len())?;
+        if self.plan.waits() {
+            self.plan = self.plan.waited();
+            return Ok(TickAnswer::Waiting);
         }
-        let plan = self.plan;
-        if plan.waits() {
-            return Ticked {
-                state: self.with_plan(plan.waited()),
-                answer: TickAnswer::Waiting,
-            };
-        }
-        self.slot(t, bytes, lent)
+        Ok(self.slot(t, bytes, lent))
     }
 
     // The verdict on a tick.
-    fn judge_tick(self, t: &[u16], size: usize, lent: usize) -> Verdict
+    fn judge_tick(self, t: &[u16], size: usize, lent: usize) -> Result<(), Refusal>
         ensures { result ≡ tick_verdict t.now size lent self }
     {
-        if let Verdict::Refused(refusal) = self.admit(t, size) {
-            return Verdict::Refused(refusal);
-        }
+        self.admit(t, size)?;
         let message = self.message;
         if !message.lent_fits(lent) {
             return refused(Refusal::STATE);
         }
-        Verdict::Accepted
+        Ok(())
     }
 
     // Starts a slot: an open transfer is closed as failed, and the entry due begins.
-    fn slot(self, t: &[u16], bytes: &[u8], lent: &[u8]) -> Ticked
-        requires { tick_verdict t.now (length bytes.now) (length lent.now) self ≡ Accepted }
-        ensures { result ≡ slot_of t.now bytes.now lent.now self }
+    fn slot(&mut self, t: &[u16], bytes: &[u8], lent: &[u8]) -> TickAnswer
+        requires { tick_verdict t.now (length bytes.now) (length lent.now) self.old ≡ Ok tt }
+        ensures { handed self.new (Ok result) ≡ slot_of t.now bytes.now lent.now self.old }
     {
-        let closed = self.abandoned(t);
-        let pending = closed.pending;
-        let message = closed.message;
-        let plan = self.plan;
-        match plan.due(t) {
-            Current::None => Ticked {
-                state: closed,
-                answer: TickAnswer::Idle,
-            },
-            Current::Entry(e) => {
-                let opened = slot_opens(t, pending, message, e);
-                closed
-                    .with_plan(Plan::begun(t, e))
-                    .open(t, bytes, lent, opened)
+        let due = self.plan.due(t);
+        *self = self.abandoned(t);
+        match due {
+            None => TickAnswer::Idle,
+            Some(e) => {
+                let opened = slot_opens(t, self.pending, self.message, e);
+                self.plan = Plan::begun(t, e);
+                self.open(t, bytes, lent, opened)
             }
         }
     }
@@ -108,21 +83,15 @@ impl State {
     }
 
     // Opens a transfer, or is silent.
-    fn open(self, t: &[u16], bytes: &[u8], lent: &[u8], opened: Opened) -> Ticked
+    fn open(&mut self, t: &[u16], bytes: &[u8], lent: &[u8], opened: Opened) -> TickAnswer
         requires { RightTable t.now × (length bytes.now ≡ buffer_size t.now) × (frame_there t.now opened ≡ true) }
-        ensures { result ≡ opens_or_silent t.now bytes.now lent.now self opened }
+        ensures { handed self.new (Ok result) ≡ opens_or_silent t.now bytes.now lent.now self.old opened }
     {
         if !opened.is_open() {
-            return Ticked {
-                state: self,
-                answer: TickAnswer::Silent,
-            };
+            return TickAnswer::Silent;
         }
-        let message = self.message;
-        Ticked {
-            state: self.with_transfer(opened.opening(t, bytes, message, lent)),
-            answer: TickAnswer::Opened(opened.protected(t)),
-        }
+        self.transfer = opened.opening(t, bytes, self.message, lent);
+        TickAnswer::Opened(opened.protected(t))
     }
 }
 

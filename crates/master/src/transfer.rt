@@ -20,7 +20,7 @@ use crate::state::{Message, Opened, Transfer};
 use cluster::{entries, frames, members};
 use transport::cutting;
 use wire::checksum::Model;
-use wire::{Answer, checksum, identifier};
+use wire::{checksum, identifier};
 
 // What is known of a transfer.
 #[derive(Clone, Copy)]
@@ -274,11 +274,12 @@ fn request_copy(t: &[u16], message: Message, lent: &[u8]) -> [u8; 9]
 fn request_data(message: Message, lent: &[u8]) -> [u8; 8]
     ensures { result ≡ request_data message lent.now }
 {
-    match message {
-        Message::None => [255; 8],
-        Message::Sending(sending) => cutting::frame(sending.nad, lent, sending.next).bytes,
-        Message::Completed => [255; 8],
-        Message::Failed => [255; 8],
+    let Message::Sending(sending) = message else {
+        return [255; 8];
+    };
+    match cutting::frame(sending.nad, lent, sending.next) {
+        Ok(Some(bytes)) => bytes,
+        _ => [255; 8],
     }
 }
 
@@ -289,11 +290,7 @@ fn nine(bytes: &[u8], checksum: u8) -> [u8; 9]
 {
     let mut all = [255; 9];
     let n = bytes.len();
-    let mut i: usize = 0;
-    while i < n {
-        all[i] = bytes[i];
-        i += 1;
-    }
+    all[..n].copy_from_slice(bytes);
     all[n] = checksum;
     all
 }
@@ -304,8 +301,8 @@ fn protected_byte(id: u8) -> u8
     ensures { result ≡ protected_byte id }
 {
     match identifier::build(id) {
-        Answer::Byte(byte) => byte,
-        Answer::Refused(refusal) => 0,
+        Ok(byte) => byte,
+        Err(_) => 0,
     }
 }
 
@@ -315,8 +312,8 @@ fn checksum_byte(id: u8, wish: Model, bytes: &[u8]) -> u8
     ensures { result ≡ checksum_byte id wish bytes.now }
 {
     match checksum::of(id, wish, bytes) {
-        Answer::Byte(byte) => byte,
-        Answer::Refused(refusal) => 0,
+        Ok(byte) => byte,
+        Err(_) => 0,
     }
 }
 
@@ -335,11 +332,7 @@ pub(crate) fn fill(part: &mut [u8], nine: [u8; 9])
     requires { length part.old ≤ 9 }
     ensures { part.new ≡ take (length part.old) nine }
 {
-    let mut i: usize = 0;
-    while i < part.len() {
-        part[i] = nine[i];
-        i += 1;
-    }
+    part.copy_from_slice(&nine[..part.len()]);
 }
 
 // Whether an entry can open a frame: its own, or a member of its list.

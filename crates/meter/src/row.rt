@@ -1,10 +1,10 @@
 // A row of twenty values: written as one, and by single writes.
 ghost use Rattle.std.specs.Prelude.{◌≤◌};
 
-use crate::calls::{Done, refused};
+use crate::calls::refused;
 use cluster::{frames, signals};
 use master::state::State;
-use master::write::WriteAnswer;
+use refusal::Refusal;
 
 // The values of the row.
 const VALUES: usize = 20;
@@ -34,30 +34,19 @@ impl Row {
     }
 
     // Writes the row.
-    pub(crate) fn write(&self, state: State, t: &[u16], bytes: &mut [u8]) -> Done {
-        let numbers = &self.numbers;
-        let values = &self.values;
-        let n = length(t, numbers.len());
-        let m = length(t, values.len());
-        let wrote = state.write_row(t, bytes, &numbers[..n], &values[..m]);
-        let answer = wrote.answer;
-        let next = wrote.state;
-        Done {
-            state: next,
-            code: code_of(answer),
-        }
+    pub(crate) fn write(&self, state: &mut State, t: &[u16], bytes: &mut [u8]) -> u64 {
+        let n = length(t, self.numbers.len());
+        let m = length(t, self.values.len());
+        code_of(state.write_row(t, bytes, &self.numbers[..n], &self.values[..m]))
     }
 
     // Writes the values of the row one by one; the code is the largest.
-    pub(crate) fn write_singly(&self, ready: State, t: &[u16], bytes: &mut [u8]) -> Done {
-        let mut state = ready;
+    pub(crate) fn write_singly(&self, state: &mut State, t: &[u16], bytes: &mut [u8]) -> u64 {
         let mut code: u64 = 0;
         for (&s, &v) in self.numbers.iter().zip(&self.values) {
-            let done = write_one(state, t, bytes, s, v);
-            code = code.max(done.code);
-            state = done.state;
+            code = code.max(code_of(state.write(t, bytes, s, v)));
         }
-        Done { state, code }
+        code
     }
 }
 
@@ -73,20 +62,9 @@ fn length(t: &[u16], most: usize) -> usize
     usize::from(frames::count(t) / 3).min(most)
 }
 
-// Writes one value.
-fn write_one(state: State, t: &[u16], bytes: &mut [u8], s: u16, v: u32) -> Done {
-    let wrote = state.write(t, bytes, s, v);
-    let answer = wrote.answer;
-    let next = wrote.state;
-    Done {
-        state: next,
-        code: code_of(answer),
-    }
-}
-
-fn code_of(answer: WriteAnswer) -> u64 {
+fn code_of(answer: Result<(), Refusal>) -> u64 {
     match answer {
-        WriteAnswer::Written => 7,
-        WriteAnswer::Refused(refusal) => refused(refusal),
+        Ok(()) => 7,
+        Err(refusal) => refused(refusal),
     }
 }

@@ -2,8 +2,6 @@
 use Prim.Native.Nat.{ℕ}
 use mathlib.Core.Path.{◌≡◌, refl, sym, ◌∙◌, ap}
 use mathlib.Core.List.{List, [], ◌∷◌}
-use Rattle.master.specs.declared.write.WriteAnswer.{WriteAnswer}
-use Rattle.master.specs.declared.write.WriteAnswer.TheVariants.{Written, Refused}
 use Rattle.master.specs.Put.{Put, puts}
 use Rattle.master.specs.Seq.{Seq, ∅, ◌▹◌}
 use Rattle.master.specs.Calls.{Call, write}
@@ -12,6 +10,8 @@ use Rattle.master.specs.RowInWords.{row_answer, row_left, after_writes, AllWritt
 use Rattle.master.proofs.RowExactly.{row_written_exactly, row_is_writes, row_refused_unchanged}
 use Rattle.orders.specs.Orders.{Order, one, row, with_writes, read_row, read_order, read_orders}
 use Rattle.orders.specs.Run.{order_answer, order_left, held_by, ordered_of}
+use Rattle.std.specs.Prelude.{Ok, Err}
+use Rattle.master.specs.Answers.{WriteAnswer}
 
 -- some calls, and behind them some writes
 abbrev pub with_calls : Seq Call → List Put → Seq Call
@@ -19,8 +19,8 @@ with_calls cs [] = cs
 with_calls cs (w ∷ ws) = with_calls (cs ▹ write w) ws
 
 abbrev pub row_calls : WriteAnswer → Seq Call → List Put → Seq Call
-row_calls Written cs ws = with_calls cs ws
-row_calls (Refused r) cs ws = cs
+row_calls (Ok tt) cs ws = with_calls cs ws
+row_calls (Err r) cs ws = cs
 
 module _ (t bs : List ℕ) where
   -- the calls as which some orders are read
@@ -40,10 +40,10 @@ module _ (t bs : List ℕ) where
   row_run : (cs : Seq Call) (x : Held) → held_after t bs cs ≡ x → (ss vs : List ℕ) (a : WriteAnswer) → row_answer t x ss vs ≡ a
       → (held_after t bs (row_calls a cs (puts ss vs)) ≡ row_left t x ss vs)
       × (history_of t bs (row_calls a cs (puts ss vs)) ≡ read_row a (history_of t bs cs) (puts ss vs))
-  row_run cs x e ss vs Written k =
+  row_run cs x e ss vs (Ok tt) k =
       let r = writes_run cs (puts ss vs) (rw (← e) at ((row_written_exactly t x ss vs).0 k).2) in
       (r.0 ∙ ap (λ y. after_writes t y (puts ss vs)) e ∙ sym (row_is_writes t x ss vs k), r.1)
-  row_run cs x e ss vs (Refused r) k = (e ∙ sym (row_refused_unchanged t x ss vs r k), refl)
+  row_run cs x e ss vs (Err r) k = (e ∙ sym (row_refused_unchanged t x ss vs r k), refl)
 
   -- the state and the bytes after the orders, and the history, are those of the calls
   pub read_as_calls : (os : Seq Order)

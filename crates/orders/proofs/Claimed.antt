@@ -3,9 +3,6 @@ use Prim.Native.Nat.{ℕ}
 use mathlib.Core.Path.{◌≡◌, refl, ◌∙◌, ap}
 use mathlib.Core.List.{List, [], ◌∷◌}
 use native.Mathlib.Omega.{arith}
-use Rattle.master.specs.declared.start.FreshAnswer.TheVariants.{Fresh}
-use Rattle.master.specs.declared.write.WriteAnswer.{WriteAnswer}
-use Rattle.master.specs.declared.write.WriteAnswer.TheVariants.{Written, Refused}
 use Rattle.master.specs.Start.{fresh_of}
 use Rattle.master.specs.Seq.{Seq, ∅, ◌▹◌, Each}
 use Rattle.master.specs.Calls.{Call, write, Event, ◌⇒◌}
@@ -25,19 +22,22 @@ use Rattle.orders.specs.Replies.{OrderReplies}
 use Rattle.orders.specs.Claim.{read_of, OrderClaim}
 use Rattle.orders.proofs.AsCalls.{as_calls, read_as_calls}
 use Rattle.orders.proofs.RowReplies.{row_replies}
+use Rattle.std.specs.Prelude.{Ok}
+use Rattle.std.specs.Prelude.{Err}
+use Rattle.master.specs.Answers.{WriteAnswer}
 
 -- of an accepted row of which no event counts there is no pair
-some_write : (h : Seq Event) (w : Put) (ws : List Put) → ¬ (Each (λ e. act_of e ≡ nothing) (with_writes (h ▹ (write w ⇒ Written)) ws))
+some_write : (h : Seq Event) (w : Put) (ws : List Put) → ¬ (Each (λ e. act_of e ≡ nothing) (with_writes (h ▹ (write w ⇒ Ok tt)) ws))
 unfolding with_writes
 some_write h w [] n = let z : ◌≡◌ {A = ℕ} 0 1 = (let y = n.1 in cc) in omega arith
-some_write h w (v ∷ ws) n = some_write (h ▹ (write w ⇒ Written)) v ws n
+some_write h w (v ∷ ws) n = some_write (h ▹ (write w ⇒ Ok tt)) v ws n
 
 none_written : (t : List ℕ) (x : Held) (ws : List Put) → Each (λ e. act_of e ≡ nothing) (with_writes ∅ ws) → after_writes t x ws ≡ x
 unfolding with_writes after_writes
 none_written t x [] n = refl
 none_written t x (w ∷ ws) n = absurd (some_write ∅ w ws n)
 
-module _ (t bs : List ℕ) (accepted : (fresh_of t bs).given.answer ≡ Fresh) (os : Seq Order) where
+module _ (t bs : List ℕ) (accepted : (fresh_of t bs).given.answer ≡ Ok tt) (os : Seq Order) where
   abbrev calls : Seq Call
   calls = as_calls t bs os
 
@@ -76,11 +76,11 @@ module _ (t bs : List ℕ) (accepted : (fresh_of t bs).given.answer ≡ Fresh) (
     where
       by : (a : WriteAnswer) → order_answer t (held_by t bs os) (row ss vs) ≡ a → Each (λ e. act_of e ≡ nothing) (read_row a ∅ (puts ss vs))
           → order_left t (held_by t bs os) (row ss vs) ≡ held_by t bs os
-      by Written k m = row_is_writes t (held_by t bs os) ss vs k ∙ none_written t (held_by t bs os) (puts ss vs) m
-      by (Refused r) k m = row_refused_unchanged t (held_by t bs os) ss vs r k
+      by (Ok tt) k m = row_is_writes t (held_by t bs os) ss vs k ∙ none_written t (held_by t bs os) (puts ss vs) m
+      by (Err r) k m = row_refused_unchanged t (held_by t bs os) ss vs r k
 
 -- Demand 3 with rows
-pub demand_3_with_rows : (t bs : List ℕ) → (fresh_of t bs).given.answer ≡ Fresh → (os : Seq Order) → OrderClaim t bs os
+pub demand_3_with_rows : (t bs : List ℕ) → (fresh_of t bs).given.answer ≡ Ok tt → (os : Seq Order) → OrderClaim t bs os
 unfolding held_by
 demand_3_with_rows t bs accepted os = record {
   after_each = λ before after p. held_claim t bs accepted before;

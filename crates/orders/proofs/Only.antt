@@ -10,7 +10,6 @@ use Rattle.cluster.specs.Check.{RightTable}
 use Rattle.cluster.specs.Table.{signal_count}
 use Rattle.cluster.specs.Values.{signal_published}
 use Rattle.cluster.proofs.TakenLaws.{right_taken}
-use Rattle.master.specs.declared.start.FreshAnswer.TheVariants.{Fresh}
 use Rattle.master.specs.Admit.{buffer_size}
 use Rattle.master.specs.Start.{fresh_of}
 use Rattle.master.specs.Seq.{Seq, ∅, ◌▹◌}
@@ -26,8 +25,9 @@ use Rattle.orders.specs.Claim.{read_of, orders_of, Meets}
 use Rattle.orders.proofs.AsCalls.{as_calls}
 use Rattle.orders.proofs.RowReplies.{row_replies}
 use Rattle.orders.proofs.Claimed.{same_held, same_record, admitted_after, replies}
+use Rattle.std.specs.Prelude.{Ok}
 
-module _ (t bs : List ℕ) (accepted : (fresh_of t bs).given.answer ≡ Fresh) where
+module _ (t bs : List ℕ) (accepted : (fresh_of t bs).given.answer ≡ Ok tt) where
   -- after every sequence of orders, an answer that (f) takes is the one that the core gives
   pub only_order_answer : (os : Seq Order) (o : Order) (a : OrderAnswer o) → OrderReplies t (read_of t bs os) o a → a ≡ order_answer t (held_by t bs os) o
   unfolding order_answer

@@ -22,12 +22,8 @@ use Rattle.master.specs.Received.{last_of, received_up_to, received_by, last_fit
 use Rattle.cluster.specs.Check.{taken_of, faults, surplus, judged}
 use Rattle.cluster.specs.Fresh.{array_length, start_at, put_start, filled, fresh_bytes}
 use Rattle.cluster.specs.Values.{touches, first_placement, signal_published, value_fits, scalar_at, array_at, with_scalar, handed_out, start_read}
-use Rattle.master.specs.declared.write.WriteAnswer.TheVariants as write
-use Rattle.master.specs.declared.read.ReadAnswer.TheVariants as read
-use Rattle.master.specs.declared.select.SelectAnswer.TheVariants as select
 use Rattle.master.specs.declared.tick.TickAnswer.TheVariants as tick
 use Rattle.master.specs.declared.byte.ByteAnswer.TheVariants as byte
-use Rattle.master.specs.declared.ahead.AheadAnswer.TheVariants as ahead
 use Rattle.master.specs.Admit.{buffer_size, admitted}
 use Rattle.master.specs.Start.{fresh_verdict, fresh_of}
 use Rattle.master.specs.Fresh.{fresh}
@@ -45,12 +41,13 @@ use Rattle.master.specs.Seq.{Seq, ∅, ◌▹◌, ◌⋈◌}
 use Rattle.master.specs.Calls as call
 use Rattle.master.specs.Calls.{Event, ◌⇒◌}
 use Rattle.master.specs.Run.{answer_of, left_by, held_after}
-use Rattle.master.specs.Replies.{plain}
+use Rattle.master.specs.Replies.{}
 use Rattle.master.specs.Put.{put, scalar, puts}
 use Rattle.master.specs.WriteRow.{first_bad, row_verdict, marked_bits, rewritten_by, with_row, marked_row, row_of}
 use Rattle.orders.specs.Orders.{Order, one, row, Ordered, ◌⇛◌, with_writes, read_order, read_orders}
 use Rattle.orders.specs.Run.{order_answer, order_left, held_by, ordered_of}
 use Rattle.orders.specs.Claim.{orders_of}
+use Rattle.std.specs.Prelude.{Ok, Err}
 
 -- frames: 2, one byte, published; 4, three bytes, published; 5, one byte, received and classic. Signals: 3 bits of frame 0, an array of two bytes of
 -- frame 1, 8 bits of frame 2, 8 bits at 16 of frame 1. A list of frames 0 and 1, and a schedule with its slot
@@ -74,43 +71,43 @@ table =
     ∷ []
 
 abbrev writes : ℕ → ℕ → Event
-writes s v = call.write (put s (scalar v)) ⇒ write.Written
+writes s v = call.write (put s (scalar v)) ⇒ Ok tt
 
 abbrev more : ℕ → Ordered
-more b = one (call.byte_in b) ⇛ plain byte.More
+more b = one (call.byte_in b) ⇛ Ok byte.More
 
 abbrev opens : ℕ → Ordered
-opens p = one (call.tick []) ⇛ tick.Opened p
+opens p = one (call.tick []) ⇛ Ok (tick.Opened p)
 
 -- refused rows: 8 for 3 bits; an array; a received signal; no signal 4; unequal; then three pairs, of which one signal twice
 abbrev panel : Seq Ordered
 panel =
     ∅
-    ▹ (row (0 ∷ 9 ∷ []) (8 ∷ 0 ∷ []) ⇛ write.Refused (refused_at 7 0))
-    ▹ (row (3 ∷ 1 ∷ []) (0 ∷ 0 ∷ []) ⇛ write.Refused (refused_at 6 1))
-    ▹ (row (3 ∷ 2 ∷ []) (0 ∷ 0 ∷ []) ⇛ write.Refused (refused_at 5 1))
-    ▹ (row (0 ∷ 3 ∷ 4 ∷ []) (1 ∷ 1 ∷ 1 ∷ []) ⇛ write.Refused (refused_at 4 2))
-    ▹ (row (3 ∷ []) [] ⇛ write.Refused (refused 12))
-    ▹ (one (call.read 3) ⇛ read.Value 100)
-    ▹ (row (0 ∷ 3 ∷ 0 ∷ []) (7 ∷ 200 ∷ 2 ∷ []) ⇛ write.Written)
-    ▹ (one (call.read 0) ⇛ read.Value 2)
+    ▹ (row (0 ∷ 9 ∷ []) (8 ∷ 0 ∷ []) ⇛ Err (refused_at 7 0))
+    ▹ (row (3 ∷ 1 ∷ []) (0 ∷ 0 ∷ []) ⇛ Err (refused_at 6 1))
+    ▹ (row (3 ∷ 2 ∷ []) (0 ∷ 0 ∷ []) ⇛ Err (refused_at 5 1))
+    ▹ (row (0 ∷ 3 ∷ 4 ∷ []) (1 ∷ 1 ∷ 1 ∷ []) ⇛ Err (refused_at 4 2))
+    ▹ (row (3 ∷ []) [] ⇛ Err (refused 12))
+    ▹ (one (call.read 3) ⇛ Ok 100)
+    ▹ (row (0 ∷ 3 ∷ 0 ∷ []) (7 ∷ 200 ∷ 2 ∷ []) ⇛ Ok tt)
+    ▹ (one (call.read 0) ⇛ Ok 2)
 
 -- frame 0, 42 in hexadecimal, goes out with FA; a row in flight makes it pending again, a refused one and an empty one do not; FD goes out next
 abbrev sending : Seq Ordered
 sending =
     ∅
-    ▹ (one (call.select 0) ⇛ select.Selected)
+    ▹ (one (call.select 0) ⇛ Ok tt)
     ▹ opens 66
-    ▹ (row (0 ∷ []) (5 ∷ []) ⇛ write.Written)
+    ▹ (row (0 ∷ []) (5 ∷ []) ⇛ Ok tt)
     ▹ more 250
-    ▹ (one (call.byte_in 194) ⇛ plain byte.Success)
-    ▹ (one (call.number_ahead 1) ⇛ ahead.Count 1)
+    ▹ (one (call.byte_in 194) ⇛ Ok byte.Success)
+    ▹ (one (call.number_ahead 1) ⇛ Ok 1)
     ▹ opens 66
-    ▹ (row (0 ∷ 0 ∷ []) (1 ∷ 8 ∷ []) ⇛ write.Refused (refused_at 7 1))
-    ▹ (row [] [] ⇛ write.Written)
+    ▹ (row (0 ∷ 0 ∷ []) (1 ∷ 8 ∷ []) ⇛ Err (refused_at 7 1))
+    ▹ (row [] [] ⇛ Ok tt)
     ▹ more 253
-    ▹ (one (call.byte_in 191) ⇛ plain byte.Success)
-    ▹ (one (call.number_ahead 1) ⇛ ahead.Count 0)
+    ▹ (one (call.byte_in 191) ⇛ Ok byte.Success)
+    ▹ (one (call.number_ahead 1) ⇛ Ok 0)
 
 abbrev answered : Seq Ordered
 answered = panel ⋈ sending
@@ -122,21 +119,21 @@ orders = orders_of answered
 abbrev history : Seq Event
 history =
     ∅
-    ▹ (call.read 3 ⇒ read.Value 100)
+    ▹ (call.read 3 ⇒ Ok 100)
     ▹ writes 0 7
     ▹ writes 3 200
     ▹ writes 0 2
-    ▹ (call.read 0 ⇒ read.Value 2)
-    ▹ (call.select 0 ⇒ select.Selected)
-    ▹ (call.tick [] ⇒ tick.Opened 66)
+    ▹ (call.read 0 ⇒ Ok 2)
+    ▹ (call.select 0 ⇒ Ok tt)
+    ▹ (call.tick [] ⇒ Ok (tick.Opened 66))
     ▹ writes 0 5
-    ▹ (call.byte_in 250 ⇒ plain byte.More)
-    ▹ (call.byte_in 194 ⇒ plain byte.Success)
-    ▹ (call.number_ahead 1 ⇒ ahead.Count 1)
-    ▹ (call.tick [] ⇒ tick.Opened 66)
-    ▹ (call.byte_in 253 ⇒ plain byte.More)
-    ▹ (call.byte_in 191 ⇒ plain byte.Success)
-    ▹ (call.number_ahead 1 ⇒ ahead.Count 0)
+    ▹ (call.byte_in 250 ⇒ Ok byte.More)
+    ▹ (call.byte_in 194 ⇒ Ok byte.Success)
+    ▹ (call.number_ahead 1 ⇒ Ok 1)
+    ▹ (call.tick [] ⇒ Ok (tick.Opened 66))
+    ▹ (call.byte_in 253 ⇒ Ok byte.More)
+    ▹ (call.byte_in 191 ⇒ Ok byte.Success)
+    ▹ (call.number_ahead 1 ⇒ Ok 0)
 
 -- some bytes of a frame, and 255 behind them
 abbrev eight : List ℕ → List ℕ

@@ -1,10 +1,10 @@
 -- Document 02, Req 01: "Demand 3 reads such a call, if accepted, as its single writes." An order is one call of demand 3 or a row of values.
 use Rattle.std.specs.Prelude.{ℕ, List, [], ◌∷◌}
-use Rattle.master.specs.declared.write.WriteAnswer.{WriteAnswer}
-use Rattle.master.specs.declared.write.WriteAnswer.TheVariants.{Written, Refused}
 use Rattle.master.specs.Put.{Put, puts}
 use Rattle.master.specs.Seq.{Seq, ∅, ◌▹◌}
 use Rattle.master.specs.Calls.{Call, write, Answer, Event, ◌⇒◌}
+use Rattle.std.specs.Prelude.{Ok, Err}
+use Rattle.master.specs.Answers.{WriteAnswer}
 
 pub data Order : Type 0 where
   -- one call
@@ -27,12 +27,12 @@ pub data Ordered : Type 0 where
 -- some events, and behind them each of some writes, accepted
 unfoldable pub with_writes : Seq Event → List Put → Seq Event
 with_writes h [] = h
-with_writes h (w ∷ ws) = with_writes (h ▹ (write w ⇒ Written)) ws
+with_writes h (w ∷ ws) = with_writes (h ▹ (write w ⇒ Ok tt)) ws
 
 -- "if accepted, as its single writes"; a refused one counts for nothing
 abbrev pub read_row : WriteAnswer → Seq Event → List Put → Seq Event
-read_row Written h ws = with_writes h ws
-read_row (Refused r) h ws = h
+read_row (Ok tt) h ws = with_writes h ws
+read_row (Err r) h ws = h
 
 -- one more order, read behind some events
 unfoldable pub read_order : Seq Event → Ordered → Seq Event

@@ -2,25 +2,25 @@
 -- the definition of the row.
 use Rattle.std.specs.Prelude.{ℕ, suc, ◌≡◌, cond, List, [], ◌∷◌, eqb, length}
 use Rattle.refusal.specs.Numbers.{refused, refused_at}
-use Rattle.master.specs.declared.write.WriteAnswer.{WriteAnswer}
-use Rattle.master.specs.declared.write.WriteAnswer.TheVariants.{Written, Refused}
 use Rattle.master.specs.Put.{Put, puts}
 use Rattle.master.specs.Seq.{Seq}
 use Rattle.master.specs.Schedule.{Scheduled}
 use Rattle.master.specs.Replies.{put_number, Replies}
 use Rattle.orders.specs.Orders.{Order, one, row, OrderAnswer}
+use Rattle.std.specs.Prelude.{Ok, Err}
+use Rattle.master.specs.Answers.{WriteAnswer}
 
 -- "then the number of the first bad pair, with its place, by 4 to 7", where the first of these pairs has place i
 unfoldable pub pairs_reply : List ℕ → ℕ → List Put → WriteAnswer
-pairs_reply t i [] = Written
+pairs_reply t i [] = Ok tt
 pairs_reply t i (w ∷ ws) =
     cond (eqb (put_number t w.signal w.value) 0)
     (pairs_reply t (suc i) ws)
-    (Refused (refused_at (put_number t w.signal w.value) i))
+    (Err (refused_at (put_number t w.signal w.value) i))
 
 -- "rows of unequal length are 12"
 unfoldable pub row_reply : List ℕ → List ℕ → List ℕ → WriteAnswer
-row_reply t ss vs = cond (eqb (length ss) (length vs)) (pairs_reply t 0 (puts ss vs)) (Refused (refused 12))
+row_reply t ss vs = cond (eqb (length ss) (length vs)) (pairs_reply t 0 (puts ss vs)) (Err (refused 12))
 
 -- what an order answers after a history
 abbrev pub OrderReplies : List ℕ → Seq Scheduled → (o : Order) → OrderAnswer o → Type 0

@@ -9,11 +9,11 @@ use native.Mathlib.Omega.{arith}
 use borrow.Author.Tests.{eqb-true, eqb-false, eq-eqb, ne_eqb, ltb-true, lt-ltb, leb-true, le-leb}
 use lib.Dec.{ltb, leb, eqb}
 use lib.ListN.{length}
-use Rattle.buslog.specs.Pairs.{digit_of, is_pair, pair_byte, pair_of}
-use Rattle.buslog.proofs.Digits.{below_digits, decimal_digit, between_digits, letter_digit, above_digits, digit_back, character_back}
+use Rattle.buslog.specs.Pairs.{digit_of, byte_of, is_pair, pair_byte, pair_of}
+use Rattle.buslog.proofs.Digits.{decimal_digit, digit_back, character_back}
 use Rattle.wire.proofs.Tests.{whether, and_left, and_right}
-use Rattle.signal.proofs.Inside.{order}
-use Rattle.script.specs.declared.fields.Field.TheVariants.{Number, Wrong}
+use Rattle.std.proofs.Common.{Some, None}
+use Rattle.script.proofs.Reading.{is_digit}
 use Rattle.script.specs.Fields.{joined, fields_of, digits_from, decimal_field, pair_field}
 
 -- ---- fields
@@ -87,21 +87,11 @@ abbrev pub value_from : ℕ → List ℕ → ℕ
 value_from v [] = v
 value_from v (c ∷ cs) = value_from (10 * v + (c - 48)) cs
 
--- a character of value below 10 is a decimal digit
-is_digit : (c : ℕ) → digit_of c < 10 → (48 ≤ c) × (c ≤ 57)
-is_digit c h =
-    order c 48 (λ a. absurd (omega (arith, below_digits c a))) (λ a.
-    order 57 c
-    (λ b.
-    order c 65 (λ d. absurd (omega (arith, between_digits c b d))) (λ d.
-    order 70 c (λ e. absurd (omega (arith, above_digits c e))) (λ e. absurd (omega (arith, letter_digit c d e)))))
-    (λ b. (a, b)))
-
 grows : (v : ℕ) (cs : List ℕ) → v ≤ value_from v cs
 grows v [] = omega arith
 grows v (c ∷ cs) = omega (arith, grows (10 * v + (c - 48)) cs)
 
-digits_read : (limit value : ℕ) (cs : List ℕ) (v : ℕ) → value ≤ limit → digits_from limit value cs ≡ Number v
+digits_read : (limit value : ℕ) (cs : List ℕ) (v : ℕ) → value ≤ limit → digits_from limit value cs ≡ Some v
     → Digits cs × (value_from value cs ≡ v) × (v ≤ limit)
 unfolding digits_from
 digits_read limit value [] v b e = let q : value ≡ v = cc in (tt, q, omega (arith, q))
@@ -113,9 +103,9 @@ digits_read limit value (c ∷ cs) v b e =
     let l = leb-true (10 * value + digit_of c) limit (and_right (ltb (digit_of c) 10) _ y) in
     let r = digits_read limit (10 * value + digit_of c) cs v l (rw y at e) in
     ((d.0, d.1, r.0), rw (← u) r.1, r.2))
-    (λ n. let z : Wrong ≡ Number v = rw n at e in let y : ◌≡◌ {A = ℕ} 0 1 = cc in absurd (omega arith))
+    (λ n. let z : None ≡ Some v = rw n at e in let y : ◌≡◌ {A = ℕ} 0 1 = cc in absurd (omega arith))
 
-digits_right : (limit value : ℕ) (cs : List ℕ) → Digits cs → value_from value cs ≤ limit → digits_from limit value cs ≡ Number (value_from value cs)
+digits_right : (limit value : ℕ) (cs : List ℕ) → Digits cs → value_from value cs ≤ limit → digits_from limit value cs ≡ Some (value_from value cs)
 unfolding digits_from
 digits_right limit value [] d b = refl
 digits_right limit value (c ∷ cs) d b =
@@ -126,13 +116,13 @@ digits_right limit value (c ∷ cs) d b =
 
 -- a field is the number v up to a limit if and only if it is one or more decimal digits, their value is v, and v is at most the limit
 pub decimal_exactly : (limit : ℕ) (field : List ℕ) (v : ℕ)
-    → (decimal_field limit field ≡ Number v) ↔ ((0 < length field) × Digits field × (value_from 0 field ≡ v) × (v ≤ limit))
+    → (decimal_field limit field ≡ Some v) ↔ ((0 < length field) × Digits field × (value_from 0 field ≡ v) × (v ≤ limit))
 unfolding decimal_field
 decimal_exactly limit [] v = ((λ e. let z : ◌≡◌ {A = ℕ} 0 1 = cc in absurd (omega arith)), (λ h. absurd (omega (arith, h.0))))
 decimal_exactly limit (c ∷ cs) v =
     let some = ne_eqb (suc (length cs)) 0 (λ q. omega arith) in (
       (λ e. let r = digits_read limit 0 (c ∷ cs) v (omega arith) (rw some at e) in (omega arith, r.0, r.1, r.2)),
-      (λ h. rw (decimal_field, some) (digits_right limit 0 (c ∷ cs) h.1 (rw h.2 h.3) ∙ ap Number h.2)),
+      (λ h. rw (decimal_field, some) (digits_right limit 0 (c ∷ cs) h.1 (rw h.2 h.3) ∙ ap Some h.2)),
     )
 
 -- ---- bytes
@@ -147,34 +137,34 @@ pair_read h l v p e =
     let low : v % 16 ≡ digit_of l = omega (arith, e, a, b) in
     (omega (arith, e, a, b), rw (high, low, character_back h a, character_back l b))
 
-pair_right : (v : ℕ) → v < 256 → pair_field (pair_of v) ≡ Number v
-unfolding pair_field is_pair pair_byte pair_of
+pair_right : (v : ℕ) → v < 256 → pair_field (pair_of v) ≡ Some v
+unfolding pair_field byte_of is_pair pair_byte pair_of
 pair_right v b =
     let high = digit_back (v / 16) (omega arith) in
     let low = digit_back (v % 16) (omega arith) in
     let byte : 16 * (v / 16) + v % 16 ≡ v = omega arith in
     rw (high, low, lt-ltb (v / 16) 16 (omega arith), lt-ltb (v % 16) 16 (omega arith), byte)
 
-pair_is : (h l v : ℕ) → pair_field (h ∷ l ∷ []) ≡ Number v → (v < 256) × (h ∷ l ∷ [] ≡ pair_of v)
-unfolding pair_field
+pair_is : (h l v : ℕ) → pair_field (h ∷ l ∷ []) ≡ Some v → (v < 256) × (h ∷ l ∷ [] ≡ pair_of v)
+unfolding pair_field byte_of
 pair_is h l v e =
     whether (is_pair h l)
-    (λ y. let q : Number (pair_byte h l) ≡ Number v = rw y at e in let k : pair_byte h l ≡ v = cc in pair_read h l v y k)
-    (λ n. let z : Wrong ≡ Number v = rw n at e in let y : ◌≡◌ {A = ℕ} 0 1 = cc in absurd (omega arith))
+    (λ y. let q : Some (pair_byte h l) ≡ Some v = rw y at e in let k : pair_byte h l ≡ v = cc in pair_read h l v y k)
+    (λ n. let z : None ≡ Some v = rw n at e in let y : ◌≡◌ {A = ℕ} 0 1 = cc in absurd (omega arith))
 
-too_long : (h l m : ℕ) (rest : List ℕ) (v : ℕ) → ¬ (pair_field (h ∷ l ∷ m ∷ rest) ≡ Number v)
+too_long : (h l m : ℕ) (rest : List ℕ) (v : ℕ) → ¬ (pair_field (h ∷ l ∷ m ∷ rest) ≡ Some v)
 unfolding pair_field
 too_long h l m rest v e =
-    let z : Wrong ≡ Number v = rw (ne_eqb (suc (suc (suc (length rest)))) 2 (λ q. omega arith)) at e in
+    let z : None ≡ Some v = rw (ne_eqb (suc (suc (suc (length rest)))) 2 (λ q. omega arith)) at e in
     let y : ◌≡◌ {A = ℕ} 0 1 = cc in
     omega arith
 
 -- a field is the byte v if and only if it is the upper-case hexadecimal pair of v
-pub byte_exactly : (field : List ℕ) (v : ℕ) → (pair_field field ≡ Number v) ↔ ((v < 256) × (field ≡ pair_of v))
-unfolding pair_field
+pub byte_exactly : (field : List ℕ) (v : ℕ) → (pair_field field ≡ Some v) ↔ ((v < 256) × (field ≡ pair_of v))
+unfolding pair_field byte_of
 byte_exactly field v = (to field, λ h. ap pair_field h.1 ∙ pair_right v h.0)
   where
-    to : (field : List ℕ) → pair_field field ≡ Number v → (v < 256) × (field ≡ pair_of v)
+    to : (field : List ℕ) → pair_field field ≡ Some v → (v < 256) × (field ≡ pair_of v)
     to [] e = let z : ◌≡◌ {A = ℕ} 0 1 = cc in absurd (omega arith)
     to (h ∷ []) e = let z : ◌≡◌ {A = ℕ} 0 1 = cc in absurd (omega arith)
     to (h ∷ l ∷ []) e = pair_is h l v e

@@ -1,15 +1,14 @@
 -- What reading a line by its forms comes to, field by field.
-use Prim.Native.Nat.{ℕ, ◌+◌, ◌-◌, ◌<◌, ◌≤◌}
-use mathlib.Core.Path.{◌≡◌, refl, ◌∙◌}
-use mathlib.Core.Bool.{true, false}
-use mathlib.Core.List.{List, [], ◌∷◌}
-use native.Mathlib.Omega.{arith}
-use lib.ListN.{length, take, drop}
-use Rattle.scan.specs.Bytes.{index_of, slice}
+use Rattle.std.proofs.Common.{◌≡◌, ◌==◌, ℕ, ◌+◌, ◌≤◌, true, false, Option, Some, None, List, [], ◌∷◌, Bor, length, drop, refl, sym, ap, ◌∙◌, arith}
+use Rattle.std.specs.Option.{is_some}
+use Rattle.std.specs.List.{slice_split}
+use Rattle.std.proofs.lemmas.Iterator.{YieldsList}
+use Rattle.script.specs.declared.fields.Field.{Field}
+use Rattle.script.specs.declared.forms.Reading.{Reading}
 use Rattle.script.specs.declared.forms.Numbers.{Numbers}
-use Rattle.script.specs.Fields.{fields_from, field_of, is_right}
+use Rattle.script.specs.Fields.{fields_of, field_of}
 use Rattle.script.specs.Forms.{no_numbers, with_field, is_list, unfit, fitting, formed, read_as, read_of, line_in, line_of}
-use Rattle.script.proofs.Splitting.{from_start, from_behind, field_at, field_length, end_within}
+use Rattle.script.proofs.Splitting.{split_fields, total, total_fields, few_fields, part_taken, no_part}
 
 -- ---- one form, by the first of what is left of its fields and of the line's
 
@@ -25,11 +24,11 @@ module _ (place : ℕ) (ns : Numbers) where
     line_over e = rw e
 
     module _ (l : List ℕ) (ls : List (List ℕ)) (none : is_list f ≡ false) where
-      field_wrong : is_right (field_of f l) ≡ false → read_as (f ∷ fs) (l ∷ ls) place ns ≡ unfit
+      field_wrong : field_of f l ≡ None → read_as (f ∷ fs) (l ∷ ls) place ns ≡ unfit
       unfolding read_as
       field_wrong e = rw (none, e)
 
-      field_right : is_right (field_of f l) ≡ true → read_as (f ∷ fs) (l ∷ ls) place ns ≡ read_as fs ls (place + length l + 1) (with_field (field_of f l) ns)
+      field_right : {v : Field} → field_of f l ≡ Some v → read_as (f ∷ fs) (l ∷ ls) place ns ≡ read_as fs ls (place + length l + 1) (with_field v ns)
       unfolding read_as
       field_right e = rw (none, e)
 
@@ -41,63 +40,114 @@ module _ (place : ℕ) (ns : Numbers) where
   unfolding read_as
   both_over = refl
 
--- ---- the same from a place of both on
+-- ---- what is left of a form and of a line, as two iterators give it
 
-module _ (form line : List ℕ) where
-  pub begins : read_of form line ≡ read_as (fields_from 32 form 0) (fields_from 32 line 0) 0 no_numbers
+pub record Left {S : Type 0} (steps : S → Option (Bor (List ℕ)) → S → Type 0) (form line : List ℕ) (of_form of_line : S) (place : ℕ) (ns : Numbers) : Type 0 where
+  pub parts : List (List ℕ)
+  pub fields : List (List ℕ)
+  pub gives_parts : YieldsList steps (λ x. x.now) of_form parts
+  pub gives_fields : YieldsList steps (λ x. x.now) of_line fields
+  pub within : place + total fields ≡ length line + 1
+  pub same : read_of form line ≡ read_as parts fields place ns
+
+module _ {S : Type 0} {steps : S → Option (Bor (List ℕ)) → S → Type 0} {form line : List ℕ} {of_form of_line : S} where
+  pub begins : YieldsList steps (λ x. x.now) of_form (slice_split (λ b. b == 32) form) → YieldsList steps (λ x. x.now) of_line (slice_split (λ b. b == 32) line)
+      → Left steps form line of_form of_line 0 no_numbers
   unfolding read_of
-  begins = rw (from_start 32 form, from_start 32 line)
+  begins p f = record {
+    parts = fields_of 32 form;
+    fields = fields_of 32 line;
+    gives_parts = rw (split_fields 32 form) at p;
+    gives_fields = rw (split_fields 32 line) at f;
+    within = omega (arith, total_fields 32 line);
+    same = refl;
+  }
 
-  module _ (at place : ℕ) (ns : Numbers) where
-    pub form_ends : length form < at → length line < place → read_as (fields_from 32 form at) (fields_from 32 line place) place ns ≡ fitting place ns
-    form_ends h k = rw (from_behind 32 form at h, from_behind 32 line place k) (both_over place ns)
+  module _ {place : ℕ} {ns : Numbers} (l : Left steps form line of_form of_line place ns) (t : S) where
+    -- the form is at its end
+    module _ (h : steps of_form None t) (r : Option (Bor (List ℕ))) (u : S) (k : steps of_line r u) where
+      pub line_left : true ≡ is_some r → None ≡ read_of form line
+      line_left e = by r k e
+        where
+          by : (r : Option (Bor (List ℕ))) → steps of_line r u → true ≡ is_some r → None ≡ read_of form line
+          by None k e = cc
+          by (Some x) k e =
+              let n = part_taken u l.fields l.gives_fields k in
+              sym (l.same ∙ rw (no_part t l.parts l.gives_parts h, n.0) (form_over place ns _ _))
 
-    pub line_left : length form < at → place ≤ length line → read_as (fields_from 32 form at) (fields_from 32 line place) place ns ≡ unfit
-    line_left h k =
-        rw (from_behind 32 form at h, field_at 32 line place (place + index_of 32 (slice place (length line) line)) k refl (end_within 32 line place k))
-        (form_over place ns _ _)
+      pub both_end : false ≡ is_some r → fitting place ns ≡ read_of form line
+      both_end e = by r k e
+        where
+          by : (r : Option (Bor (List ℕ))) → steps of_line r u → false ≡ is_some r → fitting place ns ≡ read_of form line
+          by None k e = sym (l.same ∙ rw (no_part t l.parts l.gives_parts h, no_part u l.fields l.gives_fields k) (both_over place ns))
+          by (Some x) k e = cc
 
-    module _ (end : ℕ) (h : at ≤ length form) (e : end ≡ at + index_of 32 (slice at (length form) form)) (b : end ≤ length form) where
-      pub list_at : is_list (take (end - at) (drop at form)) ≡ true → read_as (fields_from 32 form at) (fields_from 32 line place) place ns ≡ fitting place ns
-      list_at t = rw (field_at 32 form at end h e b) (a_list place ns _ _ _ t)
+    module _ (f : Bor (List ℕ)) (h : steps of_form (Some f) t) where
+      pub list_next : true ≡ is_list f.now → fitting place ns ≡ read_of form line
+      list_next e = sym (l.same ∙ rw (part_taken t l.parts l.gives_parts h).0 (a_list place ns _ _ _ (sym e)))
 
-      module _ (none : is_list (take (end - at) (drop at form)) ≡ false) where
-        pub line_ends : length line < place → read_as (fields_from 32 form at) (fields_from 32 line place) place ns ≡ unfit
-        line_ends k = rw (field_at 32 form at end h e b, from_behind 32 line place k) (line_over place ns _ _ none)
+      module _ (e : false ≡ is_list f.now) (u : S) where
+        pub line_ends : steps of_line None u → None ≡ read_of form line
+        line_ends k =
+            sym (l.same ∙ rw ((part_taken t l.parts l.gives_parts h).0, no_part u l.fields l.gives_fields k) (line_over place ns _ _ (sym e)))
 
-        module _ (stop : ℕ) (k : place ≤ length line) (q : stop ≡ place + index_of 32 (slice place (length line) line)) (d : stop ≤ length line) where
-          pub wrong_at : is_right (field_of (take (end - at) (drop at form)) (take (stop - place) (drop place line))) ≡ false
-              → read_as (fields_from 32 form at) (fields_from 32 line place) place ns ≡ unfit
-          wrong_at t = rw (field_at 32 form at end h e b, field_at 32 line place stop k q d) (field_wrong place ns _ _ _ _ none t)
+        module _ (x : Bor (List ℕ)) (k : steps of_line (Some x) u) where
+          pub wrong_next : None ≡ field_of f.now x.now → None ≡ read_of form line
+          wrong_next q =
+              sym (l.same ∙ rw ((part_taken t l.parts l.gives_parts h).0, (part_taken u l.fields l.gives_fields k).0) (field_wrong place ns _ _ _ _ (sym e) (sym q)))
 
-          pub right_at : is_right (field_of (take (end - at) (drop at form)) (take (stop - place) (drop place line))) ≡ true
-              → read_as (fields_from 32 form at) (fields_from 32 line place) place ns
-              ≡ read_as (fields_from 32 form (end + 1)) (fields_from 32 line (stop + 1)) (stop + 1)
-              (with_field (field_of (take (end - at) (drop at form)) (take (stop - place) (drop place line))) ns)
-          right_at t =
-              let p : place + length (take (stop - place) (drop place line)) + 1 ≡ stop + 1
-              = omega (arith, field_length 32 line place stop k q d) in
-              rw (field_at 32 form at end h e b, field_at 32 line place stop k q d)
-              (field_right place ns _ _ _ _ none t ∙ rw p)
+          pub next_within : place + (length x.now + 1) ≤ length line + 1
+          next_within = omega (arith, l.within, ap total (part_taken u l.fields l.gives_fields k).0)
 
--- ---- the first form that a line has
+          pub right_next : {v : Field} → Some v ≡ field_of f.now x.now → Left steps form line t u (place + (length x.now + 1)) (with_field v ns)
+          right_next q =
+              let p = part_taken t l.parts l.gives_parts h in
+              let n = part_taken u l.fields l.gives_fields k in
+              let a : place + length x.now + 1 ≡ place + (length x.now + 1) = omega arith in
+              record {
+                parts = drop 1 l.parts;
+                fields = drop 1 l.fields;
+                gives_parts = p.1;
+                gives_fields = n.1;
+                within = omega (arith, l.within, ap total n.0);
+                same = l.same ∙ rw (p.0, n.0) (field_right place ns _ _ _ _ (sym e) (sym q) ∙ rw a);
+              }
 
-module _ (forms line : List ℕ) where
-  pub forms_begin : line_of forms line ≡ line_in (fields_from 124 forms 0) line 0
+-- ---- the first form that a line has, by the forms that an iterator gives
+
+pub record LeftForms {S : Type 0} (steps : S → Option (Bor (List ℕ)) → S → Type 0) (forms line : List ℕ) (of_forms : S) (k : ℕ) : Type 0 where
+  pub rest : List (List ℕ)
+  pub gives_rest : YieldsList steps (λ x. x.now) of_forms rest
+  pub within : k + length rest ≤ length forms + 1
+  pub same : line_of forms line ≡ line_in rest line k
+
+module _ {S : Type 0} {steps : S → Option (Bor (List ℕ)) → S → Type 0} {forms line : List ℕ} {of_forms : S} where
+  pub forms_begin : YieldsList steps (λ x. x.now) of_forms (slice_split (λ b. b == 124) forms) → LeftForms steps forms line of_forms 0
   unfolding line_of
-  forms_begin = rw (from_start 124 forms)
+  forms_begin f = record {
+    rest = fields_of 124 forms;
+    gives_rest = rw (split_fields 124 forms) at f;
+    within = omega (arith, total_fields 124 forms, few_fields (fields_of 124 forms));
+    same = refl;
+  }
 
-  pub no_form_left : (at k : ℕ) → length forms < at → line_in (fields_from 124 forms at) line k ≡ formed k unfit
-  unfolding line_in
-  no_form_left at k h = rw (from_behind 124 forms at h)
-
-  module _ (at end k : ℕ) (h : at ≤ length forms) (e : end ≡ at + index_of 124 (slice at (length forms) forms)) (b : end ≤ length forms) where
-    pub this_form : (read_of (take (end - at) (drop at forms)) line).fits ≡ true
-        → line_in (fields_from 124 forms at) line k ≡ formed k (read_of (take (end - at) (drop at forms)) line)
+  module _ {k : ℕ} (l : LeftForms steps forms line of_forms k) (t : S) where
+    pub no_form_left : steps of_forms None t → formed k unfit ≡ line_of forms line
     unfolding line_in
-    this_form t = rw (field_at 124 forms at end h e b, t)
+    no_form_left h = sym (l.same ∙ rw (no_part t l.rest l.gives_rest h))
 
-    pub other_form : (read_of (take (end - at) (drop at forms)) line).fits ≡ false
-        → line_in (fields_from 124 forms at) line k ≡ line_in (fields_from 124 forms (end + 1)) line (k + 1)
-    unfolding line_in
-    other_form t = rw (field_at 124 forms at end h e b, t)
+    module _ (f : Bor (List ℕ)) (h : steps of_forms (Some f) t) where
+      pub this_form : {r : Reading} → Some r ≡ read_of f.now line → formed k (Some r) ≡ line_of forms line
+      unfolding line_in
+      this_form q = sym (l.same ∙ rw ((part_taken t l.rest l.gives_rest h).0, ← q))
+
+      pub other_form : None ≡ read_of f.now line → LeftForms steps forms line t (k + 1)
+      unfolding line_in
+      other_form q =
+          let n = part_taken t l.rest l.gives_rest h in
+          record {
+            rest = drop 1 l.rest;
+            gives_rest = n.1;
+            within = omega (arith, l.within, ap length n.0);
+            same = l.same ∙ rw (n.0, ← q);
+          }

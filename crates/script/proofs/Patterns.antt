@@ -1,15 +1,19 @@
 -- Texts by a pattern, character by character, and bytes one by one; and one of some patterns.
-use Prim.Native.Nat.{ℕ, suc, ◌+◌, ◌-◌, ◌<◌, ◌≤◌}
+use Prim.Native.Nat.{ℕ, suc, ◌+◌, ◌<◌, ◌≤◌}
 use mathlib.Core.Path.{◌≡◌}
 use mathlib.Core.List.{List, [], ◌∷◌, ◌++◌}
-use native.Mathlib.Omega.{arith}
-use lib.ListN.{length, get_or, take, drop, drop_of_length-le}
-use Rattle.scan.specs.Bytes.{index_of, slice}
+use lib.ListN.{length, get_or, drop, drop_of_length-le}
+use Rattle.std.proofs.Common.{zero, ◌==◌, Option, Some, None, refl}
+use Rattle.std.specs.List.{slice_split, slice_get}
 use Rattle.buslog.specs.Pairs.{pair_of}
-use Rattle.script.specs.Fields.{fields_of, fields_from}
+use Rattle.script.specs.Fields.{fields_of}
 use Rattle.script.specs.Print.{shown_by, left_behind, text_by, spaced_pairs}
 use Rattle.script.proofs.Reading.{from_place}
-use Rattle.script.proofs.Splitting.{from_start, from_behind, field_at}
+use Rattle.script.proofs.Splitting.{split_fields}
+
+pub no_text : (numbers : List ℕ) → text_by [] numbers ≡ []
+unfolding text_by
+no_text numbers = refl
 
 module _ (pattern numbers : List ℕ) (i : ℕ) where
   pub pattern_next : i < length pattern
@@ -33,17 +37,18 @@ module _ (bytes : List ℕ) (i : ℕ) where
 -- ---- one of some patterns
 
 module _ (patterns : List ℕ) (k : ℕ) where
-  pub patterns_begin : get_or (fields_of 124 patterns) k [] ≡ get_or (fields_from 124 patterns 0) (k - 0) []
-  patterns_begin = let z : k - 0 ≡ k = omega arith in rw (z, from_start 124 patterns)
+  pub a_pattern : {p : List ℕ} → Some p ≡ slice_get (slice_split (λ b. b == 124) patterns) k → get_or (fields_of 124 patterns) k [] ≡ p
+  a_pattern {p} e = by (fields_of 124 patterns) k (rw (split_fields 124 patterns) at e)
+    where
+      by : (fs : List (List ℕ)) (k : ℕ) → Some p ≡ slice_get fs k → get_or fs k [] ≡ p
+      by [] k e = cc
+      by (f ∷ fs) zero e = cc
+      by (f ∷ fs) (suc k) e = by fs k e
 
-  pub no_pattern : (start before : ℕ) → length patterns < start → get_or (fields_from 124 patterns start) (k - before) [] ≡ []
-  no_pattern start before h = rw (from_behind 124 patterns start h)
-
-  module _ (start end before : ℕ) (h : start ≤ length patterns) (e : end ≡ start + index_of 124 (slice start (length patterns) patterns))
-      (b : end ≤ length patterns) where
-    pub this_pattern : before ≡ k → get_or (fields_from 124 patterns start) (k - before) [] ≡ take (end - start) (drop start patterns)
-    this_pattern q = let z : k - before ≡ 0 = omega arith in rw (z, field_at 124 patterns start end h e b)
-
-    pub other_pattern : before < k
-        → get_or (fields_from 124 patterns start) (k - before) [] ≡ get_or (fields_from 124 patterns (end + 1)) (k - (before + 1)) []
-    other_pattern q = let z : k - before ≡ suc (k - (before + 1)) = omega arith in rw (z, field_at 124 patterns start end h e b)
+  pub no_pattern : None ≡ slice_get (slice_split (λ b. b == 124) patterns) k → get_or (fields_of 124 patterns) k [] ≡ []
+  no_pattern e = by (fields_of 124 patterns) k (rw (split_fields 124 patterns) at e)
+    where
+      by : (fs : List (List ℕ)) (k : ℕ) → ◌≡◌ {A = Option (List ℕ)} None (slice_get fs k) → get_or fs k [] ≡ []
+      by [] k e = refl
+      by (f ∷ fs) zero e = cc
+      by (f ∷ fs) (suc k) e = by fs k e

@@ -1,17 +1,22 @@
 -- What reading a field comes to, character by character.
-use Prim.Native.Nat.{ℕ, suc, ◌+◌, ◌*◌, ◌<◌, ◌≤◌}
+use Prim.Native.Nat.{ℕ, ◌+◌, ◌-◌, ◌*◌, ◌<◌, ◌≤◌}
 use mathlib.Core.Path.{◌≡◌, refl, sym, ap}
 use mathlib.Core.Bool.{true, false, ◌&&◌, and-false}
 use mathlib.Core.List.{List, [], ◌∷◌}
 use native.Mathlib.Numerals.{add-one}
 use native.Mathlib.Omega.{arith}
-use borrow.Author.Tests.{lt-ltb, le-ltb, eq-eqb, ne_eqb, le-leb, lt-leb, ltb-true, leb-true}
+use borrow.Author.Tests.{lt-ltb, le-ltb, eq-eqb, ne_eqb, le-leb, lt-leb, leb-true, eqb-true, eqb-false}
 use lib.Dec.{ltb, leb, eqb}
 use lib.ListN.{length, get_or, drop, drop_of_length-le}
 use lib.Seq.{drop-cons}
-use Rattle.wire.proofs.Tests.{and_left, and_right, whether}
-use Rattle.buslog.specs.Pairs.{digit_of, is_pair, pair_byte}
-use Rattle.script.specs.declared.fields.Field.TheVariants.{Word, Number, Wrong}
+use Rattle.buslog.proofs.Digits.{below_digits, decimal_digit, between_digits, letter_digit, above_digits}
+use Rattle.signal.proofs.Inside.{order}
+use Rattle.wire.proofs.Tests.{and_right, whether}
+use Rattle.buslog.specs.Pairs.{digit_of, byte_of}
+use Rattle.std.proofs.Common.{Some, None, ◌⊎◌, ⊎_elim, ◌∙◌, nat_eq}
+use lib.Pointwise.{pointwise}
+use Rattle.std.specs.Option.{option_map}
+use Rattle.script.specs.declared.fields.Field.TheVariants.{Word, Number}
 use Rattle.script.specs.Fields.{digits_from, decimal_field, pair_field, same_text, word_field, number_field, field_of}
 
 -- what stands from a place on: the character there, and what stands behind it
@@ -20,8 +25,18 @@ from_place text i h = rw (add-one, drop-cons text i 0 h)
 
 -- ---- a number
 
+-- a character of value below 10 is a decimal digit
+pub is_digit : (c : ℕ) → digit_of c < 10 → (48 ≤ c) × (c ≤ 57)
+is_digit c h =
+    order c 48 (λ a. absurd (omega (arith, below_digits c a))) (λ a.
+    order 57 c
+    (λ b.
+    order c 65 (λ d. absurd (omega (arith, between_digits c b d))) (λ d.
+    order 70 c (λ e. absurd (omega (arith, above_digits c e))) (λ e. absurd (omega (arith, letter_digit c d e)))))
+    (λ b. (a, b)))
+
 module _ (limit : ℕ) where
-  pub no_decimal : (field : List ℕ) → length field ≡ 0 → Wrong ≡ decimal_field limit field
+  pub no_decimal : (field : List ℕ) → length field ≡ 0 → None ≡ decimal_field limit field
   unfolding decimal_field
   no_decimal field e = simp (eq-eqb (length field) 0 e)
 
@@ -30,134 +45,121 @@ module _ (limit : ℕ) where
   some_decimal field e = simp (ne_eqb (length field) 0 e)
 
   module _ (field : List ℕ) (value i : ℕ) (h : i < length field) where
-    pub no_digit : 9 < digit_of (get_or field i 0) → digits_from limit value (drop i field) ≡ Wrong
+    pub no_digit : (48 ≤ get_or field i 0 → get_or field i 0 ≤ 57 → ⊥) → digits_from limit value (drop i field) ≡ None
     unfolding digits_from
-    no_digit d = rw (from_place field i h) (simp (le-ltb (digit_of (get_or field i 0)) 10 (omega arith)))
+    no_digit n =
+        let d : digit_of (get_or field i 0) < 10 → ⊥ = λ l. let p = is_digit (get_or field i 0) l in n p.0 p.1 in
+        rw (from_place field i h) (simp (le-ltb (digit_of (get_or field i 0)) 10 (omega arith)))
 
-    pub too_large : limit < 10 * value + digit_of (get_or field i 0) → digits_from limit value (drop i field) ≡ Wrong
-    unfolding digits_from
-    too_large d = rw (from_place field i h) (simp (lt-leb (10 * value + digit_of (get_or field i 0)) limit d, and-false))
+    module _ (low : 48 ≤ get_or field i 0) (high : get_or field i 0 ≤ 57) where
+      value_of : digit_of (get_or field i 0) ≡ get_or field i 0 - 48
+      value_of = decimal_digit (get_or field i 0) low high
 
-    pub next_digit : digit_of (get_or field i 0) ≤ 9 → 10 * value + digit_of (get_or field i 0) ≤ limit
-        → digits_from limit value (drop i field) ≡ digits_from limit (10 * value + digit_of (get_or field i 0)) (drop (i + 1) field)
-    unfolding digits_from
-    next_digit d e =
-        rw (from_place field i h)
-        (simp (lt-ltb (digit_of (get_or field i 0)) 10 (omega arith), le-leb (10 * value + digit_of (get_or field i 0)) limit e))
+      pub too_large : limit < 10 * value + (get_or field i 0 - 48) → digits_from limit value (drop i field) ≡ None
+      unfolding digits_from
+      too_large d = rw (from_place field i h, value_of) (simp (lt-leb (10 * value + (get_or field i 0 - 48)) limit d, and-false))
 
-  pub all_digits : (field : List ℕ) (value i : ℕ) → length field ≤ i → digits_from limit value (drop i field) ≡ Number value
+      pub next_digit : 10 * value + (get_or field i 0 - 48) ≤ limit
+          → digits_from limit value (drop i field) ≡ digits_from limit (10 * value + (get_or field i 0 - 48)) (drop (i + 1) field)
+      unfolding digits_from
+      next_digit e =
+          rw (from_place field i h, value_of)
+          (simp (lt-ltb (get_or field i 0 - 48) 10 (omega arith), le-leb (10 * value + (get_or field i 0 - 48)) limit e))
+
+  pub all_digits : (field : List ℕ) (value i : ℕ) → length field ≤ i → digits_from limit value (drop i field) ≡ Some value
   unfolding digits_from
   all_digits field value i h = rw (drop_of_length-le field {i = i} h)
 
   -- a number is within its limit
-  pub digits_within : (field : List ℕ) (value v : ℕ) → value ≤ limit → digits_from limit value field ≡ Number v → v ≤ limit
+  pub digits_within : (field : List ℕ) (value v : ℕ) → value ≤ limit → digits_from limit value field ≡ Some v → v ≤ limit
   unfolding digits_from
   digits_within [] value v h e = let q : value ≡ v = cc in omega arith
   digits_within (c ∷ cs) value v h e =
       whether (ltb (digit_of c) 10 && leb (10 * value + digit_of c) limit)
       (λ t. digits_within cs (10 * value + digit_of c) v
       (leb-true (10 * value + digit_of c) limit (and_right (ltb (digit_of c) 10) (leb (10 * value + digit_of c) limit) t)) (simp t at e))
-      (λ t. let bad : Wrong ≡ Number v = simp t at e in let z : ◌≡◌ {A = ℕ} 0 1 = cc in absurd (omega arith))
+      (λ t. let bad : None ≡ Some v = simp t at e in let z : ◌≡◌ {A = ℕ} 0 1 = cc in absurd (omega arith))
 
-  pub decimal_within : (field : List ℕ) (v : ℕ) → decimal_field limit field ≡ Number v → v ≤ limit
+  pub decimal_within : (field : List ℕ) (v : ℕ) → decimal_field limit field ≡ Some v → v ≤ limit
   unfolding decimal_field
   decimal_within field v e =
       whether (eqb (length field) 0)
-      (λ t. let bad : Wrong ≡ Number v = simp t at e in let z : ◌≡◌ {A = ℕ} 0 1 = cc in absurd (omega arith))
+      (λ t. let bad : None ≡ Some v = simp t at e in let z : ◌≡◌ {A = ℕ} 0 1 = cc in absurd (omega arith))
       (λ t. digits_within field 0 v (omega arith) (simp t at e))
 
 -- ---- a byte
 
 module _ (field : List ℕ) where
-  pub no_two : (length field ≡ 2 → ⊥) → Wrong ≡ pair_field field
+  pub no_two : (length field ≡ 2 → ⊥) → None ≡ pair_field field
   unfolding pair_field
   no_two e = simp (ne_eqb (length field) 2 e)
 
-  module _ {h l : ℕ} (two : length field ≡ 2) (eh : h ≡ digit_of (get_or field 0 0)) (el : l ≡ digit_of (get_or field 1 0)) where
-    pub no_high : 15 < h → Wrong ≡ pair_field field
-    unfolding pair_field is_pair
-    no_high d = simp (eq-eqb (length field) 2 two, le-ltb (digit_of (get_or field 0 0)) 16 (omega (arith, eh)))
-
-    pub no_low : 15 < l → Wrong ≡ pair_field field
-    unfolding pair_field is_pair
-    no_low d = simp (eq-eqb (length field) 2 two, le-ltb (digit_of (get_or field 1 0)) 16 (omega (arith, el)), and-false)
-
-    pub a_pair : h ≤ 15 → l ≤ 15 → Number (16 * h + l) ≡ pair_field field
-    unfolding pair_field is_pair pair_byte
-    a_pair dh dl =
-        rw (eh, el)
-        (simp (
-          eq-eqb (length field) 2 two,
-          lt-ltb (digit_of (get_or field 0 0)) 16 (omega (arith, eh)),
-          lt-ltb (digit_of (get_or field 1 0)) 16 (omega (arith, el)),
-        ))
-
-  pub pair_within : (v : ℕ) → pair_field field ≡ Number v → v ≤ 255
-  unfolding pair_field is_pair pair_byte
-  pair_within v e =
-      whether (eqb (length field) 2 && (ltb (digit_of (get_or field 0 0)) 16 && ltb (digit_of (get_or field 1 0)) 16))
-      (λ t.
-      let p = and_right (eqb (length field) 2) (ltb (digit_of (get_or field 0 0)) 16 && ltb (digit_of (get_or field 1 0)) 16) t in
-      let q : 16 * digit_of (get_or field 0 0) + digit_of (get_or field 1 0) ≡ v = let n : Number (16 * digit_of (get_or field 0 0) + digit_of (get_or field 1 0)) ≡ Number v = simp t at e in cc in
-      omega (
-        arith,
-        ltb-true (digit_of (get_or field 0 0)) 16 (and_left (ltb (digit_of (get_or field 0 0)) 16) (ltb (digit_of (get_or field 1 0)) 16) p),
-        ltb-true (digit_of (get_or field 1 0)) 16 (and_right (ltb (digit_of (get_or field 0 0)) 16) (ltb (digit_of (get_or field 1 0)) 16) p),
-      ))
-      (λ t. let bad : Wrong ≡ Number v = simp t at e in let z : ◌≡◌ {A = ℕ} 0 1 = cc in absurd (omega arith))
+  pub two : length field ≡ 2 → byte_of (get_or field 0 0) (get_or field 1 0) ≡ pair_field field
+  unfolding pair_field
+  two e = simp (eq-eqb (length field) 2 e)
 
 -- ---- a word
 
-unequal : (form field : List ℕ) → (length field ≡ length form → ⊥) → same_text form field ≡ false
+eqb_flipped : (a b : ℕ) → eqb a b ≡ eqb b a
+eqb_flipped a b =
+    whether (eqb a b) (λ e. e ∙ sym (eq-eqb b a (sym (eqb-true a b e)))) (λ e. e ∙ sym (ne_eqb b a (λ q. eqb-false a b e (sym q))))
+
+-- texts that are equal character by character are the same
+same_texts : (form field : List ℕ) → pointwise nat_eq field form ≡ same_text form field
 unfolding same_text
-unequal [] [] e = absurd (e refl)
-unequal [] (c ∷ cs) e = refl
-unequal (c ∷ cs) [] e = refl
-unequal (c ∷ cs) (d ∷ ds) e = rw (unequal cs ds (λ q. e (ap suc q)), and-false)
+same_texts [] [] = refl
+same_texts [] (c ∷ cs) = refl
+same_texts (c ∷ cs) [] = refl
+same_texts (c ∷ cs) (d ∷ ds) = rw (same_texts cs ds, eqb_flipped d c)
 
 module _ (form field : List ℕ) where
-  pub other_length : (length field ≡ length form → ⊥) → Wrong ≡ word_field form field
+  pub is_word : true ≡ pointwise nat_eq field form → Some Word ≡ word_field form field
   unfolding word_field
-  other_length e = simp (unequal form field e)
+  is_word e = rw (← same_texts, ← e)
 
-  module _ (i : ℕ) (h : i < length form) (k : i < length field) where
-    pub other_character : (get_or field i 0 ≡ get_or form i 0 → ⊥) → same_text (drop i form) (drop i field) ≡ false
-    unfolding same_text
-    other_character e = rw (from_place form i h, from_place field i k) (simp (ne_eqb (get_or form i 0) (get_or field i 0) (λ q. e (sym q))))
-
-    pub same_character : get_or field i 0 ≡ get_or form i 0 → same_text (drop i form) (drop i field) ≡ same_text (drop (i + 1) form) (drop (i + 1) field)
-    unfolding same_text
-    same_character e = rw (from_place form i h, from_place field i k) (simp (eq-eqb (get_or form i 0) (get_or field i 0) (sym e)))
-
-  pub same_end : (i : ℕ) → length form ≤ i → length field ≤ i → same_text (drop i form) (drop i field) ≡ true
-  unfolding same_text
-  same_end i h k = rw (drop_of_length-le form {i = i} h, drop_of_length-le field {i = i} k)
-
-  pub is_wrong : same_text form field ≡ false → Wrong ≡ word_field form field
+  pub no_word : false ≡ pointwise nat_eq field form → None ≡ word_field form field
   unfolding word_field
-  is_wrong e = simp e
-
-  pub is_word : same_text form field ≡ true → Word ≡ word_field form field
-  unfolding word_field
-  is_word e = simp e
+  no_word e = rw (← same_texts, ← e)
 
 -- ---- a field by its form
 
 module _ (form field : List ℕ) where
-  pub no_form : length form ≡ 0 → Wrong ≡ field_of form field
+  pub no_form : length form ≤ 0 → None ≡ field_of form field
   unfolding field_of
-  no_form e = simp (eq-eqb (length form) 0 e)
+  no_form h = simp (eq-eqb (length form) 0 (omega arith))
 
-  module _ (some : length form ≡ 0 → ⊥) where
-    pub by_pair : get_or form 0 0 ≡ 72 → pair_field field ≡ field_of form field
+  -- by the form's first character
+  module _ {c : ℕ} (first : (0 < length form) × ((d : ℕ) → c ≡ get_or form 0 d)) where
+    some : length form ≡ 0 → ⊥
+    some e = omega (arith, first.0)
+
+    pub by_pair : c ≡ 72 → option_map Number (pair_field field) ≡ field_of form field
     unfolding field_of
-    by_pair e = simp (ne_eqb (length form) 0 some, eq-eqb (get_or form 0 0) 72 e)
+    by_pair e = simp (ne_eqb (length form) 0 some, eq-eqb (get_or form 0 0) 72 (sym (first.1 0) ∙ e))
 
-    module _ (other : get_or form 0 0 ≡ 72 → ⊥) where
-      pub by_word : 9 < digit_of (get_or form 0 0) → word_field form field ≡ field_of form field
-      unfolding field_of
-      by_word d = simp (ne_eqb (length form) 0 some, ne_eqb (get_or form 0 0) 72 other, le-ltb (digit_of (get_or form 0 0)) 10 (omega arith))
+    module _ (other : c ≡ 72 → ⊥) where
+      no_pair : get_or form 0 0 ≡ 72 → ⊥
+      no_pair e = other (first.1 0 ∙ e)
 
-      pub by_number_lem : digit_of (get_or form 0 0) ≤ 9 → number_field (decimal_field 4294967295 form) field ≡ field_of form field
+      pub by_word : (c < 48) ⊎ (57 < c) → word_field form field ≡ field_of form field
       unfolding field_of
-      by_number_lem d = simp (ne_eqb (length form) 0 some, ne_eqb (get_or form 0 0) 72 other, lt-ltb (digit_of (get_or form 0 0)) 10 (omega arith))
+      by_word o =
+          let d : digit_of (get_or form 0 0) < 10 → ⊥
+          = λ l. let p = is_digit (get_or form 0 0) l in ⊎_elim (λ b. omega (arith, p.0, first.1 0)) (λ b. omega (arith, p.1, first.1 0)) o in
+          simp (ne_eqb (length form) 0 some, ne_eqb (get_or form 0 0) 72 no_pair, le-ltb (digit_of (get_or form 0 0)) 10 (omega arith))
+
+      module _ (digit : (48 ≤ c) × (c ≤ 57)) where
+        pub by_number_lem : option_map Number (number_field (decimal_field 4294967295 form) field) ≡ field_of form field
+        unfolding field_of
+        by_number_lem =
+            let d = decimal_digit (get_or form 0 0) (omega (arith, digit.0, first.1 0)) (omega (arith, digit.1, first.1 0)) in
+            let low : digit_of (get_or form 0 0) < 10 = omega (arith, d, digit.1, first.1 0) in
+            simp (ne_eqb (length form) 0 some, ne_eqb (get_or form 0 0) 72 no_pair, lt-ltb (digit_of (get_or form 0 0)) 10 low)
+
+        pub no_limit : None ≡ decimal_field 4294967295 form → None ≡ field_of form field
+        unfolding number_field
+        no_limit e = ap (λ l. option_map Number (number_field l field)) e ∙ by_number_lem
+
+        pub by_limit : {limit : ℕ} → Some limit ≡ decimal_field 4294967295 form → option_map Number (decimal_field limit field) ≡ field_of form field
+        unfolding number_field
+        by_limit e = ap (λ l. option_map Number (number_field l field)) e ∙ by_number_lem

@@ -1,17 +1,65 @@
 -- The fields of a text, one after the other, as the search for the separator finds them.
 use Prim.Native.Nat.{ℕ, suc, ◌+◌, ◌-◌, ◌<◌, ◌≤◌}
-use mathlib.Core.Path.{◌≡◌, refl, ap, ◌∙◌}
+use mathlib.Core.Path.{◌≡◌, refl, sym, ap, ◌∙◌}
 use mathlib.Core.Bool.{true, false}
 use mathlib.Core.List.{List, [], ◌∷◌}
 use native.Mathlib.Omega.{arith}
 use borrow.Author.Tests.{le-leb, lt-leb}
 use lib.Dec.{eqb}
+use Rattle.std.proofs.Common.{Option, Some, None, ◌==◌}
+use Rattle.std.proofs.lemmas.Iterator.{YieldsList}
+use Rattle.std.specs.List.{slice_split, onto_first}
 use lib.ListN.{length, take, drop, length-drop}
 use lib.Seq.{drop-drop, take-length, length-take-le}
 use Rattle.scan.specs.Bytes.{index_of, index_after, slice}
 use Rattle.wire.proofs.Tests.{whether}
 use Rattle.signal.proofs.Inside.{order}
 use Rattle.script.specs.Fields.{joined, fields_of, fields_from}
+
+onto_joined : (c : ℕ) (fs : List (List ℕ)) → onto_first c fs ≡ joined c fs
+unfolding joined
+onto_joined c [] = refl
+onto_joined c (f ∷ fs) = refl
+
+-- the fields of a text are the parts that a split at the separator gives
+pub split_fields : (s : ℕ) (text : List ℕ) → slice_split (λ b. b == s) text ≡ fields_of s text
+unfolding fields_of
+split_fields s [] = refl
+split_fields s (c ∷ cs) =
+    rw (split_fields s cs)
+    (whether (c == s) (λ e. rw e) (λ e. rw e (onto_joined c (fields_of s cs))))
+
+-- how many characters some fields have, each with one behind it
+abbrev pub total : List (List ℕ) → ℕ
+total [] = 0
+total (f ∷ fs) = length f + 1 + total fs
+
+total_joined : (c : ℕ) (fs : List (List ℕ)) → 0 < total fs → total (joined c fs) ≡ total fs + 1
+unfolding joined
+total_joined c [] h = absurd (omega arith)
+total_joined c (f ∷ fs) h = omega arith
+
+pub total_fields : (s : ℕ) (text : List ℕ) → total (fields_of s text) ≡ length text + 1
+unfolding fields_of
+total_fields s [] = refl
+total_fields s (c ∷ cs) =
+    whether (c == s)
+    (λ e. rw e (omega (arith, total_fields s cs)))
+    (λ e. rw e (omega (arith, total_fields s cs, total_joined c (fields_of s cs) (omega (arith, total_fields s cs)))))
+
+pub few_fields : (fs : List (List ℕ)) → length fs ≤ total fs
+few_fields [] = omega arith
+few_fields (f ∷ fs) = omega (arith, few_fields fs)
+
+-- what an iterator that gives some parts gives next, and what it gives then
+module _ {S A B : Type 0} {steps : S → Option A → S → Type 0} {v : A → B} {s : S} (t : S) where
+  pub part_taken : (parts : List B) → YieldsList steps v s parts → {x : A} → steps s (Some x) t → (parts ≡ v x ∷ drop 1 parts) × YieldsList steps v t (drop 1 parts)
+  part_taken [] y h = absurd (y.runs _ t h)
+  part_taken (p ∷ parts) y h = let r = y.runs.1 _ t h in (rw r.0, record { runs = r.1 })
+
+  pub no_part : (parts : List B) → YieldsList steps v s parts → steps s None t → parts ≡ []
+  no_part [] y h = refl
+  no_part (p ∷ parts) y h = absurd (y.runs.0 t h)
 
 module _ (s : ℕ) where
   module _ (c : ℕ) (rest : List ℕ) where
@@ -63,15 +111,11 @@ module _ (s : ℕ) where
   -- ---- from a place of a text on
 
   module _ (text : List ℕ) where
-    pub from_start : fields_from s text 0 ≡ fields_of s text
-    unfolding fields_from
-    from_start = rw (le-leb 0 (length text) (omega arith))
-
     pub from_behind : (at : ℕ) → length text < at → fields_from s text at ≡ []
     unfolding fields_from
     from_behind at h = rw (lt-leb at (length text) h)
 
-    from_within : (at : ℕ) → at ≤ length text → fields_from s text at ≡ fields_of s (drop at text)
+    pub from_within : (at : ℕ) → at ≤ length text → fields_from s text at ≡ fields_of s (drop at text)
     unfolding fields_from
     from_within at h = rw (le-leb at (length text) h)
 
@@ -102,3 +146,19 @@ module _ (s : ℕ) where
     pub end_within : (at : ℕ) → at ≤ length text → at + index_of s (slice at (length text) text) ≤ length text
     unfolding slice
     end_within at h = rw take-length (omega (arith, index_within (drop at text), length-drop at text))
+
+-- the fields behind the one that begins at a place
+pub behind_field : (s : ℕ) (text : List ℕ) (at : ℕ) (f : List ℕ) (fs : List (List ℕ)) → fields_from s text at ≡ f ∷ fs
+    → (at + (length f + 1) ≤ length text + 1) × (fs ≡ fields_from s text (at + (length f + 1)))
+behind_field s text at f fs q =
+    order (length text) at
+    (λ h. let e : ◌≡◌ {A = List (List ℕ)} [] (f ∷ fs) = sym (from_behind s text at h) ∙ q in cc)
+    (λ h.
+    let end = at + index_of s (slice at (length text) text) in
+    let b = end_within s text at h in
+    let e = sym (field_at s text at end h refl b) ∙ q in
+    let n : take (end - at) (drop at text) ≡ f = cc in
+    let r : fields_from s text (end + 1) ≡ fs = cc in
+    let l : length f ≡ end - at = ap length (sym n) ∙ field_length s text at end h refl b in
+    let p : at + (length f + 1) ≡ end + 1 = omega arith in
+    (omega arith, rw p (sym r)))

@@ -1,137 +1,61 @@
 // The fields of a line, each read as its form says.
 ghost use Rattle.std.specs.Prelude.{◌≡◌};
-ghost use Rattle.buslog.specs.Pairs.{digit_of};
-ghost use Rattle.script.specs.Fields.{field_of, decimal_field, pair_field, word_field, number_field, is_number, number_in};
+ghost use Rattle.script.specs.Fields.{field_of, decimal_field, pair_field};
 
-// What a field is: the word that the form has, a number, or neither.
+use buslog::pairs;
+
+// What a field is: the word that the form has, or a number.
 #[derive(Clone, Copy)]
 pub(crate) enum Field {
     Word,
     Number(u32),
-    Wrong,
 }
 
-impl Field {
-    // Whether it is a number.
-    pub(crate) fn is_number(self) -> bool
-        ensures { result ≡ is_number self }
-    {
-        match self {
-            Field::Word => false,
-            Field::Number(_) => true,
-            Field::Wrong => false,
-        }
-    }
-
-    // The number that it is, and 0 where it is none.
-    pub(crate) fn number(self) -> u32
-        ensures { result ≡ number_in self }
-    {
-        match self {
-            Field::Word => 0,
-            Field::Number(v) => v,
-            Field::Wrong => 0,
-        }
-    }
-}
-
-// Reads a field as its form says: a byte, a number up to the form's, or the same word.
-pub(crate) fn read(field: &[u8], form: &[u8]) -> Field
+// Reads a field as its form says, if it is so: a byte, a number up to the form's, or the same word.
+pub(crate) fn read(field: &[u8], form: &[u8]) -> Option<Field>
     ensures { result ≡ field_of form.now field.now }
 {
-    if form.len() == 0 {
-        return Field::Wrong;
+    let first = *form.first()?;
+    if first == b'H' {
+        return Some(Field::Number(byte(field)? as u32));
     }
-    if form[0] == b'H' {
-        return pair(field);
+    if first.is_ascii_digit() {
+        let limit = decimal(form, u32::MAX)?;
+        return Some(Field::Number(decimal(field, limit)?));
     }
-    if 9 < digit(form[0]) {
-        return word(field, form);
-    }
-    number(field, form)
-}
-
-// Reads a number up to the form's.
-fn number(field: &[u8], form: &[u8]) -> Field
-    ensures { result ≡ number_field (decimal_field 4294967295 form.now) field.now }
-{
-    match decimal(form, 4294967295) {
-        Field::Word => Field::Wrong,
-        Field::Number(limit) => decimal(field, limit),
-        Field::Wrong => Field::Wrong,
+    if field == form {
+        Some(Field::Word)
+    } else {
+        None
     }
 }
 
 // Reads one decimal digit or more, up to a limit.
-pub(crate) fn decimal(field: &[u8], limit: u32) -> Field
+pub(crate) fn decimal(field: &[u8], limit: u32) -> Option<u32>
     ensures { result ≡ decimal_field limit field.now }
 {
-    if field.len() == 0 {
-        return Field::Wrong;
+    if field.is_empty() {
+        return None;
     }
     let mut value: u64 = 0;
-    let mut i: usize = 0;
-    while i < field.len() {
-        let digit = digit(field[i]);
-        if 9 < digit {
-            return Field::Wrong;
+    for c in field {
+        if !c.is_ascii_digit() {
+            return None;
         }
-        value = 10 * value + digit as u64;
+        value = 10 * value + (c - b'0') as u64;
         if (limit as u64) < value {
-            return Field::Wrong;
+            return None;
         }
-        i += 1;
     }
-    Field::Number(value as u32)
+    Some(value as u32)
 }
 
 // Reads a byte: an upper-case hexadecimal pair.
-pub(crate) fn pair(field: &[u8]) -> Field
+pub(crate) fn byte(field: &[u8]) -> Option<u8>
     ensures { result ≡ pair_field field.now }
 {
-    if field.len() != 2 {
-        return Field::Wrong;
-    }
-    let high = digit(field[0]);
-    let low = digit(field[1]);
-    if 15 < high {
-        return Field::Wrong;
-    }
-    if 15 < low {
-        return Field::Wrong;
-    }
-    Field::Number((16 * high + low) as u32)
-}
-
-// Reads a word, which must be the form's.
-fn word(field: &[u8], form: &[u8]) -> Field
-    ensures { result ≡ word_field form.now field.now }
-{
-    if field.len() != form.len() {
-        return Field::Wrong;
-    }
-    let mut i: usize = 0;
-    while i < field.len() {
-        if field[i] != form[i] {
-            return Field::Wrong;
-        }
-        i += 1;
-    }
-    Field::Word
-}
-
-// The value of an upper-case hexadecimal digit, and 16 for any other character.
-fn digit(c: u8) -> u8
-    ensures { result ≡ digit_of c }
-{
-    if c < b'0' {
-        return 16;
-    }
-    if c <= b'9' {
-        return c - b'0';
-    }
-    if c < b'A' {
-        return 16;
-    }
-    if c <= b'F' { c - b'A' + 10 } else { 16 }
+    let [high, low] = field else {
+        return None;
+    };
+    pairs::byte(*high, *low)
 }

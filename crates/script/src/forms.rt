@@ -1,8 +1,7 @@
 // The form that a line has. Forms are written as a line is: a word is that word, a number stands for a number up to it, `HH` for a byte
 // as an upper-case hexadecimal pair, and `..` at the end for a list; `|` stands between forms.
 ghost use Rattle.std.specs.Prelude.{◌≡◌};
-ghost use Rattle.script.specs.Fields.{is_right};
-ghost use Rattle.script.specs.Forms.{no_numbers, with_number, with_field, is_list, unfit, fitting, formed, read_of, line_of};
+ghost use Rattle.script.specs.Forms.{no_numbers, with_number, with_field, is_list, fitting, formed, read_of, line_of};
 
 use crate::fields;
 use crate::fields::Field;
@@ -12,6 +11,7 @@ pub const MOST: usize = 12;
 
 // A line by its form: the form's number, the place where its list begins, and its numbers with zeros behind them. The form's number is
 // that of all forms where the line has none.
+// Kept: `read` cannot fail, and every line gets a number; in an Option a line that has no form would be a failure.
 #[derive(Clone, Copy)]
 pub struct Line {
     pub form: usize,
@@ -19,15 +19,15 @@ pub struct Line {
     pub numbers: [u32; MOST],
 }
 
-// Whether a line has a form, where its list begins then, and its numbers.
+// Where the list of a line begins, and its numbers.
 #[derive(Clone, Copy)]
 pub(crate) struct Reading {
-    pub(crate) fits: bool,
     pub(crate) list: usize,
     pub(crate) numbers: [u32; MOST],
 }
 
 // The numbers that were read, and how many.
+// Kept: fixed memory; a Vec needs the heap.
 #[derive(Clone, Copy)]
 pub(crate) struct Numbers {
     pub(crate) values: [u32; MOST],
@@ -52,7 +52,6 @@ impl Numbers {
         match field {
             Field::Word => self,
             Field::Number(v) => self.with_number(v),
-            Field::Wrong => self,
         }
     }
 
@@ -78,100 +77,66 @@ pub fn read(line: &[u8], forms: &[u8]) -> Line
     ensures { result ≡ line_of forms.now line.now }
 {
     let mut k: usize = 0;
-    let mut at: usize = 0;
-    while at <= forms.len() {
-        let end = scan::find(forms, at, forms.len(), b'|');
-        let read = read_as(line, &forms[at..end]);
-        if read.fits {
+    for form in forms.split(|c| *c == b'|') {
+        if let Some(read) = read_as(line, form) {
             return with_form(k, read);
         }
         k += 1;
-        at = end + 1;
     }
-    with_form(k, unfit())
+    Line {
+        form: k,
+        list: 0,
+        numbers: [0; MOST],
+    }
 }
 
 // What was read, with the number of its form.
 fn with_form(k: usize, read: Reading) -> Line
-    ensures { result ≡ formed k read }
+    ensures { result ≡ formed k (Some read) }
 {
-    let numbers = read.numbers;
+    let Reading { list, numbers } = read;
     Line {
         form: k,
-        list: read.list,
+        list,
         numbers,
     }
 }
 
-// Reads a line as one form, field by field.
-fn read_as(line: &[u8], form: &[u8]) -> Reading
+// Reads a line as one form, field by field, if it has that form.
+fn read_as(line: &[u8], form: &[u8]) -> Option<Reading>
     ensures { result ≡ read_of form.now line.now }
 {
     let mut numbers = Numbers::none();
     let mut place: usize = 0;
-    let mut at: usize = 0;
-    while at <= form.len() {
-        let end = scan::find(form, at, form.len(), b' ');
-        if is_list(&form[at..end]) {
-            return fitting(place, numbers);
+    let space = |c: &u8| *c == b' ';
+    let mut fields = line.split(space);
+    for part in form.split(space) {
+        if is_list(part) {
+            return Some(fitting(place, numbers));
         }
-        if line.len() < place {
-            return unfit();
-        }
-        let stop = scan::find(line, place, line.len(), b' ');
-        let field = fields::read(&line[place..stop], &form[at..end]);
-        if !is_right(field) {
-            return unfit();
-        }
-        numbers = numbers.with(field);
-        place = stop + 1;
-        at = end + 1;
+        let field = fields.next()?;
+        numbers = numbers.with(fields::read(field, part)?);
+        place += field.len() + 1;
     }
-    if place <= line.len() {
-        return unfit();
+    if fields.next().is_some() {
+        return None;
     }
-    fitting(place, numbers)
+    Some(fitting(place, numbers))
 }
 
 // Whether a field of a form stands for a list.
 fn is_list(form: &[u8]) -> bool
     ensures { result ≡ is_list form.now }
 {
-    if form.len() == 0 {
-        return false;
-    }
-    form[0] == b'.'
+    matches!(form, [b'.', ..])
 }
 
-// Whether a field is as its form says.
-fn is_right(field: Field) -> bool
-    ensures { result ≡ is_right field }
-{
-    match field {
-        Field::Word => true,
-        Field::Number(_) => true,
-        Field::Wrong => false,
-    }
-}
-
-// The line has another form.
-fn unfit() -> Reading
-    ensures { result ≡ unfit }
-{
-    Reading {
-        fits: false,
-        list: 0,
-        numbers: [0; MOST],
-    }
-}
-
-// The line has the form, and its list begins at a place.
+// What was read of a line whose list begins at a place.
 fn fitting(list: usize, numbers: Numbers) -> Reading
-    ensures { result ≡ fitting list numbers }
+    ensures { Some result ≡ fitting list numbers }
 {
     let values = numbers.values;
     Reading {
-        fits: true,
         list,
         numbers: values,
     }

@@ -1,55 +1,62 @@
 // The list that ends a line: its fields begin at a place, each one space behind the field before it.
-ghost use Rattle.script.specs.Lists.{Listed, words_at, bytes_at};
+ghost use Rattle.std.specs.Prelude.{◌≡◌, ℕ, Option, List};
+ghost use Rattle.script.specs.Fields.{decimal_field, pair_field};
+ghost use Rattle.script.specs.Lists.{Listed, list_at};
 
 use crate::fields;
 
-// How many fields were read up to the line's end.
-#[derive(Clone, Copy)]
-pub enum Count {
-    Of(usize),
-    Malformed,
+// What the fields of a list are read as.
+pub trait Element: Copy {
+    ghost reads: { List ℕ → Option Self };
+
+    // Reads a field.
+    fn read(field: &[u8]) -> Option<Self>
+        ensures { result ≡ reads field.now };
 }
 
-// Reads numbers of 16 bits; more than there is room for are malformed.
-pub fn words(line: &[u8], at: usize, words: &mut [u16]) -> Count
-    ensures { Listed 0 (words_at line.now at) words.old result words.new }
+// A byte as an upper-case hexadecimal pair.
+impl Element for u8 {
+    ghost reads = { pair_field };
+
+    fn read(field: &[u8]) -> Option<u8> {
+        fields::byte(field)
+    }
+}
+
+// A number of 16 bits in decimal.
+impl Element for u16 {
+    ghost reads = { decimal_field 65535 };
+
+    fn read(field: &[u8]) -> Option<u16> {
+        let number = fields::decimal(field, u16::MAX as u32)?;
+        Some(number as u16)
+    }
+}
+
+// A number of 32 bits in decimal.
+impl Element for u32 {
+    ghost reads = { decimal_field 4294967295 };
+
+    fn read(field: &[u8]) -> Option<u32> {
+        fields::decimal(field, u32::MAX)
+    }
+}
+
+// Reads a list and tells how many fields it has; none where a field is malformed or there is no room for all.
+pub fn read<T: Element>(line: &[u8], at: usize, list: &mut [T]) -> Option<usize>
+    ensures { Listed 0 (list_at T.reads line.now at) list.old result list.new }
 {
     let mut n: usize = 0;
     let mut place = at;
+    // Kept: a `for` over a split was tried; in a generic function the check's own text of it (`iterator-loop-field`) is refused.
     while place <= line.len() {
         let end = scan::find(line, place, line.len(), b' ');
-        let field = fields::decimal(&line[place..end], 65535);
-        if words.len() <= n {
-            return Count::Malformed;
+        if list.len() <= n {
+            return None;
         }
-        if !field.is_number() {
-            return Count::Malformed;
-        }
-        words[n] = field.number() as u16;
+        list[n] = T::read(&line[place..end])?;
         n += 1;
         place = end + 1;
     }
-    Count::Of(n)
-}
-
-// Reads bytes; more than there is room for are malformed.
-pub fn bytes(line: &[u8], at: usize, bytes: &mut [u8]) -> Count
-    ensures { Listed 0 (bytes_at line.now at) bytes.old result bytes.new }
-{
-    let mut n: usize = 0;
-    let mut place = at;
-    while place <= line.len() {
-        let end = scan::find(line, place, line.len(), b' ');
-        let field = fields::pair(&line[place..end]);
-        if bytes.len() <= n {
-            return Count::Malformed;
-        }
-        if !field.is_number() {
-            return Count::Malformed;
-        }
-        bytes[n] = field.number() as u8;
-        n += 1;
-        place = end + 1;
-    }
-    Count::Of(n)
+    Some(n)
 }

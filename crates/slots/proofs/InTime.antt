@@ -11,18 +11,14 @@ use lib.ListN.{length}
 use Rattle.wire.proofs.Tests.{whether, and_left, and_right}
 use Rattle.cluster.specs.Lists.{is_one_of, members}
 use Rattle.cluster.specs.Table.{frame_length, member_frame, entry_count, entry_kind, entry_target}
-use Rattle.cluster.specs.declared.Verdict.{Verdict}
-use Rattle.cluster.specs.declared.Verdict.TheVariants as verdict
 use Rattle.cluster.proofs.Accepted.{then_first}
 use Rattle.cluster.proofs.ListLaws.{in_list}
-use Rattle.master.specs.declared.state.Current.{Current}
-use Rattle.master.specs.declared.state.Current.TheVariants as current
 use Rattle.master.specs.declared.state.Message.{Message}
 use Rattle.master.specs.declared.state.Message.TheVariants as message
 use Rattle.master.specs.declared.state.Opened as state
 use Rattle.master.specs.declared.state.Opened.TheVariants.{Nothing, Frame, Request, Response}
 use Rattle.master.specs.declared.state.State.{State}
-use Rattle.master.specs.declared.tick.Ticked.{Ticked}
+use Rattle.master.specs.Answers.{Ticked}
 use Rattle.master.specs.declared.tick.TickAnswer.TheVariants as answer
 use Rattle.master.specs.Fits.{entry_there, entry_opens, state_fits}
 use Rattle.master.specs.Plan.{waits, entry_due}
@@ -30,10 +26,13 @@ use Rattle.master.specs.Tick.{slot_opens, abandoned, opens_or_silent, slot_at, s
 use Rattle.master.specs.Transfers.{is_open, format_of, open_length, opening}
 use Rattle.master.proofs.Admitted.{admitted_fits, fits_clauses}
 use Rattle.master.proofs.SlotOpens as slots
-use Rattle.timing.specs.declared.Judgement.TheVariants.{Holds}
 use Rattle.timing.specs.InWords.{Opens, its_frame, its_member, the_request, the_response, Fits}
 use Rattle.timing.specs.Judge.{judge_of}
 use Rattle.timing.proofs.JudgeExactly.{holds_exactly}
+use Rattle.std.specs.Prelude.{Ok, Err}
+use Rattle.cluster.specs.Check.{Verdict}
+use Rattle.std.specs.Prelude.{None}
+use Rattle.std.specs.Prelude.{Some, Option}
 
 -- an entry can open something of so many data bytes by the sentence of refusal 3: "a list entry can open each member of its list, whatever is
 -- pending now; for kind 2 also: no message being sent"
@@ -76,15 +75,15 @@ module _ (t : List ℕ) (e : ℕ) where
 
 -- ---- a tick
 
-module _ (t bs m : List ℕ) (tick bit : ℕ) (holds : judge_of t tick bit ≡ Holds) where
+module _ (t bs m : List ℕ) (tick bit : ℕ) (holds : judge_of t tick bit ≡ Ok None) where
   -- what a tick hands back has time for what it opened
   abbrev InTime : Ticked → Type 0
-  InTime r = (p : ℕ) → r.answer ≡ answer.Opened p → Fits tick bit r.state.plan.wait (open_length t r.state.transfer.opened)
+  InTime r = (p : ℕ) → r.answer ≡ Ok (answer.Opened p) → Fits tick bit r.state.plan.wait (open_length t r.state.transfer.opened)
 
-  slot_in_time : (s : State) (c : Current) → entry_there t c ≡ true → InTime (slot_at t bs m s c)
+  slot_in_time : (s : State) (c : Option ℕ) → entry_there t c ≡ true → InTime (slot_at t bs m s c)
   unfolding slot_at opens_or_silent opening
-  slot_in_time s current.None h = λ p a. let z : ◌≡◌ {A = ℕ} 0 1 = cc in absurd (omega arith)
-  slot_in_time s (current.Entry e) h =
+  slot_in_time s None h = λ p a. let z : ◌≡◌ {A = ℕ} 0 1 = cc in absurd (omega arith)
+  slot_in_time s (Some e) h =
       let w = (holds_exactly t tick bit).0 holds in
       let there = ltb-true e (entry_count t) h in
       let o = slot_opens t s.pending s.message e in
@@ -104,11 +103,11 @@ module _ (t bs m : List ℕ) (tick bit : ℕ) (holds : judge_of t tick bit ≡ H
       (slots.due_there t ok s.plan.requested s.plan.current f.schedule_there_lem f.entry_there_lem)))
 
   -- where every slot holds its longest frame: whatever a tick opens, in every state, takes at its longest no more than the ticks that it sets
-  pub opened_in_time : (s : State) (p : ℕ) → (tick_of t bs m s).answer ≡ answer.Opened p
+  pub opened_in_time : (s : State) (p : ℕ) → (tick_of t bs m s).answer ≡ Ok (answer.Opened p)
       → Fits tick bit (tick_of t bs m s).state.plan.wait (open_length t (tick_of t bs m s).state.transfer.opened)
   unfolding tick_of tick_verdict
   opened_in_time s = by (tick_verdict t (length bs) (length m) s) refl
     where
       by : (v : Verdict) → tick_verdict t (length bs) (length m) s ≡ v → InTime (tick_of t bs m s)
-      by verdict.Accepted e = rw e (effect_in_time s (admitted_fits t (length bs) s (then_first _ _ e)))
-      by (verdict.Refused r) e = rw e (λ p a. let z : ◌≡◌ {A = ℕ} 0 1 = cc in absurd (omega arith))
+      by (Ok tt) e = rw e (effect_in_time s (admitted_fits t (length bs) s (then_first _ _ e)))
+      by (Err r) e = rw e (λ p a. let z : ◌≡◌ {A = ℕ} 0 1 = cc in absurd (omega arith))

@@ -12,19 +12,19 @@ use Rattle.refusal.proofs.NumberLaws as number
 use Rattle.refusal.specs.declared.Refusal.{Refusal}
 use Rattle.wire.proofs.Tests.{whether, and_left, and_right}
 use Rattle.signal.proofs.Inside.{order}
-use Rattle.cluster.specs.declared.Verdict as checked
-use Rattle.cluster.specs.declared.Verdict.TheVariants as table
+use Rattle.cluster.specs.Check as checked
 use Rattle.cluster.specs.Check.{judged, taken_of, RightTable}
 use Rattle.cluster.specs.Table.{entry_count}
 use Rattle.cluster.proofs.HeaderLaws.{entry_count_lem}
 use Rattle.cluster.proofs.Searching.{first_holds, first_before, first_least}
 use Rattle.cluster.proofs.TakenLaws.{taken_right, right_taken, taken_refused, taken_high, taken_number}
-use Rattle.timing.specs.declared.Judgement.TheVariants.{Holds, Short, Refused}
 use Rattle.timing.specs.InWords.{Room, NoRoom, Time, WrongTime}
 use Rattle.timing.specs.Judge.{judge_of}
 use Rattle.timing.specs.Slots.{entry_holds, first_short, time_right}
 use Rattle.timing.proofs.OpensExactly.{room_exactly, no_room_exactly}
 use Rattle.timing.proofs.Steps.{table_refused, time_refused, short_told_lem, none_short}
+use Rattle.std.specs.Prelude.{Ok, Err}
+use Rattle.std.specs.Prelude.{None, Some}
 
 -- ---- the times
 
@@ -83,26 +83,26 @@ module _ (t : List ℕ) (tick bit : ℕ) where
 
   -- ---- the four ways to answer
 
-  cases : {A : Type 0} → ((r : Refusal) → taken_of t ≡ table.Refused r → A)
-      → (taken_of t ≡ table.Accepted → (time_right tick && time_right bit) ≡ false → A)
-      → (taken_of t ≡ table.Accepted → (time_right tick && time_right bit) ≡ true → first_short t tick bit < entry_count t → A)
-      → (taken_of t ≡ table.Accepted → (time_right tick && time_right bit) ≡ true → entry_count t ≤ first_short t tick bit → A)
+  cases : {A : Type 0} → ((r : Refusal) → taken_of t ≡ Err r → A)
+      → (taken_of t ≡ Ok tt → (time_right tick && time_right bit) ≡ false → A)
+      → (taken_of t ≡ Ok tt → (time_right tick && time_right bit) ≡ true → first_short t tick bit < entry_count t → A)
+      → (taken_of t ≡ Ok tt → (time_right tick && time_right bit) ≡ true → entry_count t ≤ first_short t tick bit → A)
       → A
   cases {A} one thirteen short holds = by (taken_of t) refl
     where
       by : (v : checked.Verdict) → taken_of t ≡ v → A
-      by (table.Refused r) e = one r e
-      by table.Accepted e =
+      by (Err r) e = one r e
+      by (Ok tt) e =
           whether (time_right tick && time_right bit)
           (λ b. order (first_short t tick bit) (entry_count t) (short e b) (holds e b))
           (thirteen e)
 
   -- "accepts exactly when every slot holds its longest frame": when every frame that any entry can open fits its slot
-  pub holds_exactly : (judge_of t tick bit ≡ Holds)
+  pub holds_exactly : (judge_of t tick bit ≡ Ok None)
       ↔ (RightTable t × Time tick × Time bit × ((e : ℕ) → e < entry_count t → Room t tick bit e))
   holds_exactly = (forward, backward)
     where
-      forward : judge_of t tick bit ≡ Holds → RightTable t × Time tick × Time bit × ((e : ℕ) → e < entry_count t → Room t tick bit e)
+      forward : judge_of t tick bit ≡ Ok None → RightTable t × Time tick × Time bit × ((e : ℕ) → e < entry_count t → Room t tick bit e)
       forward j =
           cases
           (λ r e. let z : ◌≡◌ {A = ℕ} 0 1 = cc (table_refused t tick bit r e) in absurd (omega arith))
@@ -113,7 +113,7 @@ module _ (t : List ℕ) (tick bit : ℕ) where
           let right = (times_exactly tick bit).0 b in
           (ok, right.0, right.1, λ k h. (room_exactly t ok tick bit k h).0 (before k (omega arith))))
 
-      backward : RightTable t × Time tick × Time bit × ((e : ℕ) → e < entry_count t → Room t tick bit e) → judge_of t tick bit ≡ Holds
+      backward : RightTable t × Time tick × Time bit × ((e : ℕ) → e < entry_count t → Room t tick bit e) → judge_of t tick bit ≡ Ok None
       backward w =
           none_short t tick bit (right_taken t w.0) ((times_exactly tick bit).1 (w.1, w.2))
           (order (first_short t tick bit) (entry_count t)
@@ -121,11 +121,11 @@ module _ (t : List ℕ) (tick bit : ℕ) where
           (λ l. l))
 
   -- "It also reports the first short entry": by its number in the table, the first that can open a frame which does not fit its slot
-  pub short_exactly : (e : ℕ) → (judge_of t tick bit ≡ Short e)
+  pub short_exactly : (e : ℕ) → (judge_of t tick bit ≡ Ok (Some e))
       ↔ (RightTable t × Time tick × Time bit × (e < entry_count t) × ((d : ℕ) → d < e → Room t tick bit d) × NoRoom t tick bit e)
   short_exactly e = (forward, backward)
     where
-      forward : judge_of t tick bit ≡ Short e
+      forward : judge_of t tick bit ≡ Ok (Some e)
           → RightTable t × Time tick × Time bit × (e < entry_count t) × ((d : ℕ) → d < e → Room t tick bit d) × NoRoom t tick bit e
       forward j =
           cases
@@ -140,7 +140,7 @@ module _ (t : List ℕ) (tick bit : ℕ) where
           (λ q b l. let z : ◌≡◌ {A = ℕ} 0 1 = cc (none_short t tick bit q b l) in absurd (omega arith))
 
       backward : RightTable t × Time tick × Time bit × (e < entry_count t) × ((d : ℕ) → d < e → Room t tick bit d) × NoRoom t tick bit e
-          → judge_of t tick bit ≡ Short e
+          → judge_of t tick bit ≡ Ok (Some e)
       backward w =
           let low = least e ((no_room_exactly t w.0 tick bit e w.3).1 w.5) in
           let same : first_short t tick bit ≡ e =
@@ -151,12 +151,12 @@ module _ (t : List ℕ) (tick bit : ℕ) where
           rw same at (short_told_lem t tick bit (right_taken t w.0) ((times_exactly tick bit).1 (w.1, w.2)) (omega (arith, w.3)))
 
   -- refusal 1 as the table check gives it; 13 "a tick or bit time of 0 or above 65,535", "tested after 1"
-  pub refused_exactly : (r : Refusal) → (judge_of t tick bit ≡ Refused r)
-      ↔ ((judged t ≡ table.Refused r) ⊎ (RightTable t × (WrongTime tick ⊎ WrongTime bit) × (r.number ≡ 13) × (r.place ≡ 0)))
+  pub refused_exactly : (r : Refusal) → (judge_of t tick bit ≡ Err r)
+      ↔ ((judged t ≡ Err r) ⊎ (RightTable t × (WrongTime tick ⊎ WrongTime bit) × (r.number ≡ 13) × (r.place ≡ 0)))
   refused_exactly r = (forward, ⊎_elim (λ e. table_refused t tick bit r ((taken_refused t r).1 e)) backward)
     where
-      forward : judge_of t tick bit ≡ Refused r
-          → (judged t ≡ table.Refused r) ⊎ (RightTable t × (WrongTime tick ⊎ WrongTime bit) × (r.number ≡ 13) × (r.place ≡ 0))
+      forward : judge_of t tick bit ≡ Err r
+          → (judged t ≡ Err r) ⊎ (RightTable t × (WrongTime tick ⊎ WrongTime bit) × (r.number ≡ 13) × (r.place ≡ 0))
       forward j =
           cases
           (λ q e. let same : q ≡ r = cc (table_refused t tick bit q e) in inl ((taken_refused t r).0 (rw same at e)))
@@ -166,19 +166,19 @@ module _ (t : List ℕ) (tick bit : ℕ) where
           (λ e b l. let z : ◌≡◌ {A = ℕ} 0 1 = cc (short_told_lem t tick bit e b l) in absurd (omega arith))
           (λ e b l. let z : ◌≡◌ {A = ℕ} 0 1 = cc (none_short t tick bit e b l) in absurd (omega arith))
 
-      backward : RightTable t × (WrongTime tick ⊎ WrongTime bit) × (r.number ≡ 13) × (r.place ≡ 0) → judge_of t tick bit ≡ Refused r
+      backward : RightTable t × (WrongTime tick ⊎ WrongTime bit) × (r.number ≡ 13) × (r.place ≡ 0) → judge_of t tick bit ≡ Err r
       backward w =
           let same : r ≡ refused time = (number.refused_exactly r 13).1 (w.2, w.3) in
           rw same (time_refused t tick bit (right_taken t w.0) ((times_wrong tick bit).1 w.1))
 
   -- a refusal has one of two numbers
-  pub refused_number : (r : Refusal) → judge_of t tick bit ≡ Refused r → (r.number ≡ 1) ⊎ (r.number ≡ 13)
+  pub refused_number : (r : Refusal) → judge_of t tick bit ≡ Err r → (r.number ≡ 1) ⊎ (r.number ≡ 13)
   refused_number r j = ⊎_elim (λ e. inl (taken_number t r ((taken_refused t r).1 e))) (λ w. inr w.2) ((refused_exactly r).0 j)
 
   -- and its place is small
-  pub refused_high : (r : Refusal) → judge_of t tick bit ≡ Refused r → r.place ≤ 3633
+  pub refused_high : (r : Refusal) → judge_of t tick bit ≡ Err r → r.place ≤ 3633
   refused_high r j = ⊎_elim (λ e. taken_high t r ((taken_refused t r).1 e)) (λ w. omega (arith, w.3)) ((refused_exactly r).0 j)
 
   -- the number of a short entry is small
-  pub short_high : (e : ℕ) → judge_of t tick bit ≡ Short e → e < 256
+  pub short_high : (e : ℕ) → judge_of t tick bit ≡ Ok (Some e) → e < 256
   short_high e j = let w = (short_exactly e).0 j in omega (arith, w.3, entry_count_lem t w.0)

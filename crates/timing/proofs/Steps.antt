@@ -14,16 +14,16 @@ use lib.Seq.{get_or-set_same, get_or-set_other}
 use Rattle.refusal.specs.Answers.{gives, test, first_failing}
 use Rattle.refusal.specs.Numbers.{refused, time}
 use Rattle.refusal.specs.declared.Refusal.{Refusal}
-use Rattle.cluster.specs.declared.Verdict as checked
-use Rattle.cluster.specs.declared.Verdict.TheVariants as table
+use Rattle.cluster.specs.Check as checked
 use Rattle.cluster.specs.Answers.{behind_table}
 use Rattle.cluster.specs.Check.{taken_of}
 use Rattle.cluster.specs.Table.{frame_length, member_count, member_list, member_frame, entry_count, entry_kind, entry_target, entry_delay}
 use Rattle.cluster.proofs.UsedMarks.{get_d_same}
-use Rattle.timing.specs.declared.Judgement.{Judgement}
-use Rattle.timing.specs.declared.Judgement.TheVariants.{Holds, Short, Refused}
 use Rattle.timing.specs.Judge.{answered, found_of, judge_of, judgement_told, short_told, judge_told}
 use Rattle.timing.specs.Slots.{longest_member, entry_bytes, slot_holds, entry_holds, first_short, time_right}
+use Rattle.std.specs.Prelude.{Ok, Err}
+use Rattle.std.specs.Prelude.{None, Some}
+use Rattle.timing.specs.Judge.{Judgement}
 
 -- a product of the two sides of the comparison fits 64 bits
 pub product_fits : (a b : ℕ) → a ≤ 9175516 → b < 2 ^ 32 → a * b < 2 ^ 64
@@ -96,40 +96,45 @@ module _ (t : List ℕ) where
   -- ---- what is answered
 
   module _ (tick bit : ℕ) where
-    pub table_refused : (r : Refusal) → taken_of t ≡ table.Refused r → judge_of t tick bit ≡ Refused r
+    pub table_refused : (r : Refusal) → taken_of t ≡ Err r → judge_of t tick bit ≡ Err r
     unfolding judge_of
     table_refused r h = rw h
 
-    pub time_refused : taken_of t ≡ table.Accepted → (time_right tick && time_right bit) ≡ false → judge_of t tick bit ≡ Refused (refused time)
+    pub time_refused : taken_of t ≡ Ok tt → (time_right tick && time_right bit) ≡ false → judge_of t tick bit ≡ Err (refused time)
     unfolding judge_of
     time_refused h b = rw (h, b)
 
-    pub short_told_lem : taken_of t ≡ table.Accepted → (time_right tick && time_right bit) ≡ true → first_short t tick bit < entry_count t
-        → judge_of t tick bit ≡ Short (first_short t tick bit)
+    pub short_told_lem : taken_of t ≡ Ok tt → (time_right tick && time_right bit) ≡ true → first_short t tick bit < entry_count t
+        → judge_of t tick bit ≡ Ok (Some (first_short t tick bit))
     unfolding judge_of found_of
     short_told_lem h b l = rw (h, b, lt-ltb (first_short t tick bit) (entry_count t) l)
 
-    pub none_short : taken_of t ≡ table.Accepted → (time_right tick && time_right bit) ≡ true → entry_count t ≤ first_short t tick bit
-        → judge_of t tick bit ≡ Holds
+    pub none_short : taken_of t ≡ Ok tt → (time_right tick && time_right bit) ≡ true → entry_count t ≤ first_short t tick bit
+        → judge_of t tick bit ≡ Ok None
     unfolding judge_of found_of
     none_short h b l = rw (h, b, le-ltb (first_short t tick bit) (entry_count t) l)
+
+    pub found_told : taken_of t ≡ Ok tt → (time_right tick && time_right bit) ≡ true
+        → judge_of t tick bit ≡ found_of t (first_short t tick bit)
+    unfolding judge_of
+    found_told h b = rw (h, b)
 
     -- what is answered is told in the paper's terms
     pub judge_told_lem : (r : Judgement) → r ≡ judge_of t tick bit → (r ≡ judge_of t tick bit) × (judgement_told r ≡ judge_told t tick bit)
     unfolding judge_of judge_told found_of first_failing
     judge_told_lem r e = (e, rw e (by (taken_of t)))
       where
-        found : (b : Bool) → judgement_told (cond b (Short (first_short t tick bit)) Holds) ≡ gives (cond b (first_short t tick bit ∷ []) [])
+        found : (b : Bool) → judgement_told (cond b (Ok (Some (first_short t tick bit))) (Ok None)) ≡ gives (cond b (first_short t tick bit ∷ []) [])
         found true = refl
         found false = refl
 
-        times : (b : Bool) → judgement_told (cond b (found_of t (first_short t tick bit)) (Refused (refused time)))
+        times : (b : Bool) → judgement_told (cond b (found_of t (first_short t tick bit)) (Err (refused time)))
             ≡ first_failing (test 13 b ∷ []) (short_told t (first_short t tick bit))
         times true = found (ltb (first_short t tick bit) (entry_count t))
         times false = refl
 
         by : (v : checked.Verdict)
-            → judgement_told (answered v (cond (time_right tick && time_right bit) (found_of t (first_short t tick bit)) (Refused (refused time))))
+            → judgement_told (answered v (cond (time_right tick && time_right bit) (found_of t (first_short t tick bit)) (Err (refused time))))
             ≡ behind_table v (first_failing (test 13 (time_right tick && time_right bit) ∷ []) (short_told t (first_short t tick bit)))
-        by table.Accepted = times (time_right tick && time_right bit)
-        by (table.Refused q) = refl
+        by (Ok tt) = times (time_right tick && time_right bit)
+        by (Err q) = refl

@@ -2,43 +2,28 @@
 // is judged before one runs.
 #![tactic(auto)]
 
-ghost use Rattle.std.specs.Prelude.{◌&&◌, ◌≡◌, ◌<◌};
+ghost use Rattle.std.specs.Prelude.{◌&&◌, ◌≡◌, ◌<◌, Ok};
 ghost use Rattle.cluster.specs.Check.{RightTable};
 ghost use Rattle.cluster.specs.Table.{entry_count};
 ghost use Rattle.timing.specs.FrameTime.{minimum_bits};
-ghost use Rattle.timing.specs.Judge.{judge_of, judgement_told, judge_told};
+ghost use Rattle.timing.specs.Judge.{found_of, judge_of, judgement_told, judge_told};
 ghost use Rattle.timing.specs.Parts.{Longest};
 ghost use Rattle.timing.specs.Slots.{slot_holds, entry_bytes, first_short, time_right};
 
-use cluster::{Limits, Verdict, entries, frames, members};
+use cluster::{Limits, entries, frames, members};
 use refusal::Refusal;
 
-// What the judge answers: every slot holds its longest frame; or the number in the table, from 0, of the first entry whose slot does not;
-// or the refusal.
-#[derive(Clone, Copy)]
-pub enum Judgement {
-    Holds,
-    Short(u16),
-    Refused(Refusal),
-}
-
-// Judges the schedules of a table, under a tick in microseconds and a bit time in tenths of a microsecond.
-pub fn judge(t: &[u16], tick: u32, bit: u32) -> Judgement
+// Judges the schedules of a table, under a tick in microseconds and a bit time in tenths of a microsecond: the number in the table, from 0,
+// of the first entry whose slot does not hold its longest frame, if there is one; or the refusal.
+pub fn judge(t: &[u16], tick: u32, bit: u32) -> Result<Option<u16>, Refusal>
     ensures value { result ≡ judge_of t.now tick bit }
     ensures told { judgement_told result ≡ judge_told t.now tick bit }
 {
-    if let Verdict::Refused(refusal) = cluster::taken(t) {
-        return Judgement::Refused(refusal);
-    }
+    cluster::taken(t)?;
     if !times_right(tick, bit) {
-        return Judgement::Refused(Refusal::of(Refusal::TIME));
+        return Err(Refusal::of(Refusal::TIME));
     }
-    let e = first_short(t, tick, bit);
-    if e < entries::count(t) {
-        Judgement::Short(e)
-    } else {
-        Judgement::Holds
-    }
+    Ok(first_short(t, tick, bit))
 }
 
 // The bit times that a frame of some data bytes takes at least.
@@ -62,21 +47,18 @@ fn time_right(x: u32) -> bool
     1 <= x && x <= 65535
 }
 
-// The first entry whose slot is short; the number of entries where there is none.
-fn first_short(t: &[u16], tick: u32, bit: u32) -> u16
+// The first entry whose slot is short.
+fn first_short(t: &[u16], tick: u32, bit: u32) -> Option<u16>
     requires { RightTable t.now }
-    ensures { result ≡ first_short t.now tick bit }
+    ensures { Ok result ≡ found_of t.now (first_short t.now tick bit) }
 {
     let longest = longest_members(t);
-    let n = entries::count(t);
-    let mut e: u16 = 0;
-    while e < n {
+    for e in 0..entries::count(t) {
         if !slot_holds(tick, bit, entries::delay(t, e), entry_bytes(t, e, &longest)) {
-            return e;
+            return Some(e);
         }
-        e += 1;
     }
-    e
+    None
 }
 
 // The data bytes of the longest member of each list.
@@ -85,15 +67,12 @@ fn longest_members(t: &[u16]) -> [u16; Limits::MEMBERS]
     ensures { Longest t.now result }
 {
     let mut longest = [0u16; Limits::MEMBERS];
-    let n = members::count(t);
-    let mut m: u16 = 0;
-    while m < n {
+    for m in 0..members::count(t) {
         let l = members::list(t, m) as usize;
         let bytes = frames::length(t, members::frame(t, m));
         if longest[l] < bytes {
             longest[l] = bytes;
         }
-        m += 1;
     }
     longest
 }

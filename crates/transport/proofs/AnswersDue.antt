@@ -10,6 +10,7 @@ use Rattle.refusal.specs.Answers.{value_told}
 use Rattle.transport.specs.Cutting.{message_frames}
 use Rattle.transport.specs.Exchange.{answer_due}
 use Rattle.transport.specs.declared.reassembly.Answer.TheVariants.{Started, More, Done}
+use Rattle.std.specs.Prelude.{Ok}
 use Rattle.transport.proofs.CuttingLaws.{frames_one, frames_more}
 use Rattle.transport.proofs.Tests.{order, whether}
 
@@ -20,24 +21,24 @@ next_frame_due n i h =
 
 module _ (n : ℕ) where
   -- done at the only frame
-  pub due_single : n ≤ 6 → answer_due n 0 ≡ Done n
+  pub due_single : n ≤ 6 → answer_due n 0 ≡ Ok (Done n)
   unfolding answer_due
   due_single h = rw (frames_one n h)
 
   -- started at the first of several
-  pub due_first : 6 < n → answer_due n 0 ≡ Started
+  pub due_first : 6 < n → answer_due n 0 ≡ Ok Started
   unfolding answer_due
   due_first h = rw (ne_eqb (0 + 1) (message_frames n) (λ e. omega (arith, frames_more n h)))
 
   -- more while bytes are missing
-  pub due_more : (i : ℕ) → 5 + 6 * suc i < n → answer_due n (suc i) ≡ More
+  pub due_more : (i : ℕ) → 5 + 6 * suc i < n → answer_due n (suc i) ≡ Ok More
   unfolding answer_due
   due_more i h =
       let l : 6 < n = omega arith in
       rw (ne_eqb (suc i + 1) (message_frames n) (λ e. omega (arith, frames_more n l)), ne_eqb (suc i) 0 (λ e. omega arith))
 
   -- done at the frame with the last bytes
-  pub due_last : (i : ℕ) → 6 < n → 5 + 6 * i < n → n ≤ 5 + 6 * suc i → answer_due n (suc i) ≡ Done n
+  pub due_last : (i : ℕ) → 6 < n → 5 + 6 * i < n → n ≤ 5 + 6 * suc i → answer_due n (suc i) ≡ Ok (Done n)
   unfolding answer_due
   due_last i l h k = rw (eq-eqb (suc i + 1) (message_frames n) (omega (arith, frames_more n l)))
 

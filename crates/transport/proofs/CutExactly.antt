@@ -1,6 +1,6 @@
 -- Cutting in the paper's own words: each byte of each frame, the number of frames, and when 9 is answered.
 use Prim.Native.Nat.{ℕ, zero, suc, ◌+◌, ◌-◌, ◌*◌, ◌/◌, ◌%◌, ◌≤◌, ◌<◌}
-use mathlib.Core.Path.{◌≡◌, refl, sym, ◌∙◌, ap}
+use mathlib.Core.Path.{◌≡◌, refl, sym, ◌∙◌}
 use mathlib.Core.List.{List, [], ◌∷◌, ◌++◌}
 use mathlib.Core.Logic.{◌↔◌, ◌⊎◌, inl, inr, ⊎_elim}
 use native.Mathlib.Omega.{arith}
@@ -8,10 +8,8 @@ use borrow.Author.Tests.{le-leb, lt-leb, lt-ltb, le-ltb, ltb-true, ltb-false}
 use lib.Dec.{ltb}
 use lib.ListN.{length, get_or, replicate, length-append, get_or-eq_default, get_or-append}
 use lib.Seq.{ext_get_or, get_or-append-add}
-use Rattle.transport.specs.Cutting.{data_bytes, single_frame, first_frame, next_frame, message_frame, message_frames, is_length, count_of, cut_of}
-use Rattle.transport.specs.declared.cutting.Counted.TheVariants as count
-use Rattle.transport.specs.declared.cutting.Answer.TheVariants as answer
-use Rattle.transport.specs.declared.cutting.Cut.{Cut}
+use Rattle.transport.specs.Cutting.{data_bytes, single_frame, first_frame, next_frame, message_frame, message_frames, is_length, count_of, cut_of, cut_bytes}
+use Rattle.std.specs.Prelude.{Some, None, Ok, Err}
 use Rattle.transport.proofs.Bytes.{any_default}
 use Rattle.transport.proofs.CuttingLaws.{frame_single, frame_first, frame_next, frames_one, frames_more}
 use Rattle.transport.proofs.Tests.{order, whether}
@@ -96,7 +94,7 @@ module _ (nad : ℕ) (m f : List ℕ) where
 -- ---- what is answered
 
 -- a length is refused with 9 exactly where it is 0 or above 4,095
-pub count_refused_exactly : (n : ℕ) → (count_of n ≡ count.Refused (record { number = 9; place = 0 })) ↔ ((n ≡ 0) ⊎ (4096 ≤ n))
+pub count_refused_exactly : (n : ℕ) → (count_of n ≡ Err (record { number = 9; place = 0 })) ↔ ((n ≡ 0) ⊎ (4096 ≤ n))
 unfolding count_of
 count_refused_exactly n = (
   (λ e. order 1 n
@@ -108,7 +106,7 @@ count_refused_exactly n = (
 )
 
 -- "Frames: 1, or 1 + (length - 5) / 6 rounded up": r frames, where the r - 1 next frames of six bytes are the fewest that hold what is left
-pub count_exactly : (n r : ℕ) → (count_of n ≡ count.Frames r)
+pub count_exactly : (n r : ℕ) → (count_of n ≡ Ok r)
     ↔ (((1 ≤ n) × (n ≤ 6) × (r ≡ 1)) ⊎ ((7 ≤ n) × (n ≤ 4095) × (2 ≤ r) × (n ≤ 5 + 6 * (r - 1)) × (5 + 6 * (r - 2) < n)))
 unfolding count_of
 count_exactly n r = (
@@ -127,17 +125,17 @@ count_exactly n r = (
       (λ h. let a : message_frames n ≡ r = omega (arith, frames_more n h.0) in rw (le-leb 1 n (omega arith), le-leb n 4095 h.1, a)),
 )
 
--- frame k of a message of 1 to 4,095 bytes is cut exactly where k is below their number, and otherwise eight bytes of 255 stand there
+-- frame k of a message of 1 to 4,095 bytes is cut exactly where k is below their number, and otherwise there is none
 module _ (nad : ℕ) (m : List ℕ) (k : ℕ) where
-  pub cut_exactly : (f : List ℕ) → (cut_of nad m k ≡ record { answer = answer.Frame; bytes = f })
-      ↔ ((r : ℕ) × (count_of (length m) ≡ count.Frames r) × (k < r) × (f ≡ message_frame nad m k))
+  pub cut_exactly : (f : List ℕ) → (cut_of nad m k ≡ Ok (Some f))
+      ↔ ((r : ℕ) × (count_of (length m) ≡ Ok r) × (k < r) × (f ≡ message_frame nad m k))
   unfolding cut_of count_of
   cut_exactly f = (
     (λ e. whether (is_length (length m))
         (λ t. whether (ltb k (message_frames (length m)))
-        (λ u. (message_frames (length m), rw t, ltb-true _ _ u, sym (rw (t, u) at (ap (λ (c : Cut). c.bytes) e))))
-        (λ u. let q = rw (t, u) at (ap (λ (c : Cut). c.answer) e) in let z : ◌≡◌ {A = ℕ} 0 1 = cc in absurd (omega arith)))
-        (λ t. let q = rw t at (ap (λ (c : Cut). c.answer) e) in let z : ◌≡◌ {A = ℕ} 0 1 = cc in absurd (omega arith))),
+        (λ u. let q = rw (t, u) at e in let a : f ≡ message_frame nad m k = cc in (message_frames (length m), rw t, ltb-true _ _ u, a))
+        (λ u. let q = rw (t, u) at e in let z : ◌≡◌ {A = ℕ} 0 1 = cc in absurd (omega arith)))
+        (λ t. let q = rw t at e in let z : ◌≡◌ {A = ℕ} 0 1 = cc in absurd (omega arith))),
     (λ h. whether (is_length (length m))
         (λ t.
         let q = rw t at h.1 in
@@ -146,15 +144,15 @@ module _ (nad : ℕ) (m : List ℕ) (k : ℕ) where
         (λ t. let q = rw t at h.1 in let z : ◌≡◌ {A = ℕ} 0 1 = cc in absurd (omega arith))),
   )
 
-  pub cut_missing_exactly : (cut_of nad m k ≡ record { answer = answer.Missing; bytes = replicate 8 255 })
-      ↔ ((r : ℕ) × (count_of (length m) ≡ count.Frames r) × (r ≤ k))
+  pub cut_missing_exactly : (cut_of nad m k ≡ Ok None)
+      ↔ ((r : ℕ) × (count_of (length m) ≡ Ok r) × (r ≤ k))
   unfolding cut_of count_of
   cut_missing_exactly = (
     (λ e. whether (is_length (length m))
         (λ t. whether (ltb k (message_frames (length m)))
-        (λ u. let q = rw (t, u) at (ap (λ (c : Cut). c.answer) e) in let z : ◌≡◌ {A = ℕ} 0 1 = cc in absurd (omega arith))
+        (λ u. let q = rw (t, u) at e in let z : ◌≡◌ {A = ℕ} 0 1 = cc in absurd (omega arith))
         (λ u. (message_frames (length m), rw t, ltb-false _ _ u)))
-        (λ t. let q = rw t at (ap (λ (c : Cut). c.answer) e) in let z : ◌≡◌ {A = ℕ} 0 1 = cc in absurd (omega arith))),
+        (λ t. let q = rw t at e in let z : ◌≡◌ {A = ℕ} 0 1 = cc in absurd (omega arith))),
     (λ h. whether (is_length (length m))
         (λ t.
         let q = rw t at h.1 in
@@ -163,16 +161,23 @@ module _ (nad : ℕ) (m : List ℕ) (k : ℕ) where
         (λ t. let q = rw t at h.1 in let z : ◌≡◌ {A = ℕ} 0 1 = cc in absurd (omega arith))),
   )
 
-  pub cut_refused_exactly : (cut_of nad m k ≡ record { answer = answer.Refused (record { number = 9; place = 0 }); bytes = replicate 8 255 })
+  pub cut_refused_exactly : (cut_of nad m k ≡ Err (record { number = 9; place = 0 }))
       ↔ ((length m ≡ 0) ⊎ (4096 ≤ length m))
   unfolding cut_of
   cut_refused_exactly = (
     (λ e. order 1 (length m)
         (λ l. order (length m) 4095
         (λ h. whether (ltb k (message_frames (length m)))
-        (λ u. let q = rw (le-leb 1 (length m) l, le-leb (length m) 4095 h, u) at (ap (λ (c : Cut). c.answer) e) in let z : ◌≡◌ {A = ℕ} 0 1 = cc in absurd (omega arith))
-        (λ u. let q = rw (le-leb 1 (length m) l, le-leb (length m) 4095 h, u) at (ap (λ (c : Cut). c.answer) e) in let z : ◌≡◌ {A = ℕ} 0 1 = cc in absurd (omega arith)))
+        (λ u. let q = rw (le-leb 1 (length m) l, le-leb (length m) 4095 h, u) at e in let z : ◌≡◌ {A = ℕ} 0 1 = cc in absurd (omega arith))
+        (λ u. let q = rw (le-leb 1 (length m) l, le-leb (length m) 4095 h, u) at e in let z : ◌≡◌ {A = ℕ} 0 1 = cc in absurd (omega arith)))
         (λ h. inr h))
         (λ l. inl (omega arith))),
     ⊎_elim (λ h. rw h) (λ h. rw (le-leb 1 (length m) (omega arith), lt-leb (length m) 4095 h)),
   )
+
+  -- eight bytes of 255 stand for a frame that is not there, and for one that is refused
+  pub missing_bytes : ((r : ℕ) × (count_of (length m) ≡ Ok r) × (r ≤ k)) → cut_bytes (cut_of nad m k) ≡ replicate 8 255
+  missing_bytes h = rw (cut_missing_exactly.1 h)
+
+  pub refused_bytes : (length m ≡ 0) ⊎ (4096 ≤ length m) → cut_bytes (cut_of nad m k) ≡ replicate 8 255
+  refused_bytes h = rw (cut_refused_exactly.1 h)

@@ -9,7 +9,7 @@ use lib.Dec.{leb, ltb, eqb}
 use Rattle.transport.specs.Cutting.{longest}
 use Rattle.transport.specs.Reassembly.{between, next_frames, assembly_fits, fits}
 use Rattle.transport.specs.declared.reassembly.Assembly.{Assembly}
-use Rattle.transport.specs.declared.reassembly.Reassembly.TheVariants.{Open}
+use Rattle.std.specs.Prelude.{Some}
 use Rattle.transport.proofs.KindLaws.{between_true}
 use Rattle.transport.proofs.Tests.{and_left, and_right}
 
@@ -62,6 +62,6 @@ module _ (m : Assembly) where
   fits_exactly = (fit_facts, facts_fit)
 
   -- the same of a state with that message open
-  pub open_fits : fits (Open m) ≡ true → FitAssembly m
+  pub open_fits : fits (Some m) ≡ true → FitAssembly m
   unfolding fits
   open_fits = fit_facts

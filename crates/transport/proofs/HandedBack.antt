@@ -11,8 +11,8 @@ use Rattle.transport.specs.Reassembly.{step, fits, Kind, single, first, next, ot
 use Rattle.transport.specs.Reassembly.{kind_of, kind_ignored, kind_step, single_step, first_step, next_step, counter_due, continued, reached, bytes_due}
 use Rattle.transport.specs.Exchange.{Between, after}
 use Rattle.transport.specs.declared.reassembly.Assembly.{Assembly}
-use Rattle.transport.specs.declared.reassembly.Reassembly.{Reassembly}
-use Rattle.transport.specs.declared.reassembly.Reassembly.TheVariants.{Nothing, Open}
+use Rattle.transport.specs.Reassembly.{State}
+use Rattle.std.specs.Prelude.{None, Some}
 use Rattle.transport.proofs.FitLaws.{FitAssembly, fits_exactly, open_fits}
 use Rattle.transport.proofs.FrameBytes.{Bytes}
 use Rattle.transport.proofs.KindLaws.{Pci, pci_of_kind}
@@ -41,7 +41,7 @@ reached_fits m h =
     (λ t. rw t)
 
 -- what an accepted frame of each kind hands back fits
-kind_fits : (k : Kind) (s : Reassembly) (f b : List ℕ) → Accepted s f b → Bytes f → kind_ignored k s f b ≡ false → Pci k (frame_pci f)
+kind_fits : (k : Kind) (s : State) (f b : List ℕ) → Accepted s f b → Bytes f → kind_ignored k s f b ≡ false → Pci k (frame_pci f)
     → fits (kind_step k s f).taken.state ≡ true
 unfolding fits kind_step single_step first_step next_step continued
 kind_fits single s f b a bytes h p = refl
@@ -58,13 +58,13 @@ kind_fits first s f b a bytes h p =
       count_below = omega arith;
       counter_is = refl;
     })
-kind_fits next Nothing f b a bytes h p = refl
-kind_fits next (Open m) f b a bytes h p =
+kind_fits next None f b a bytes h p = refl
+kind_fits next (Some m) f b a bytes h p =
     whether (counter_due m f) (λ t. rw t (reached_fits m (open_fits m a.fit))) (λ t. rw t)
 kind_fits other s f b a bytes h p = a.fit
 
 -- the state handed back for a frame of bytes fits
-pub handed_fits : (s : Reassembly) (f b : List ℕ) → fits s ≡ true → Bytes f → fits (step s f b).taken.state ≡ true
+pub handed_fits : (s : State) (f b : List ℕ) → fits s ≡ true → Bytes f → fits (step s f b).taken.state ≡ true
 handed_fits s f b fit bytes =
     step_cases s f b (λ st. fits st.taken.state ≡ true)
     (λ a. fit)
@@ -75,16 +75,16 @@ unfolding reached
 reached_room m n b h = whether (ltb n m.length) (λ t. rw t h) (λ t. rw t tt)
 
 -- what a frame of each kind hands back has room
-kind_room : (k : Kind) (s : Reassembly) (f b : List ℕ) → kind_ignored k s f b ≡ false → Room s b → Room (kind_step k s f).taken.state b
+kind_room : (k : Kind) (s : State) (f b : List ℕ) → kind_ignored k s f b ≡ false → Room s b → Room (kind_step k s f).taken.state b
 unfolding kind_step single_step first_step next_step continued
 kind_room single s f b h r = tt
 kind_room first s f b h r = (first_room s f b h).1
-kind_room next Nothing f b h r = tt
-kind_room next (Open m) f b h r = whether (counter_due m f) (λ t. rw t (reached_room m (m.count + bytes_due m) b r)) (λ t. rw t tt)
+kind_room next None f b h r = tt
+kind_room next (Some m) f b h r = whether (counter_due m f) (λ t. rw t (reached_room m (m.count + bytes_due m) b r)) (λ t. rw t tt)
 kind_room other s f b h r = r
 
 -- a buffer that holds the open message holds the one that is open after the frame
-pub handed_room : (s : Reassembly) (f b : List ℕ) → Room s b → Room (step s f b).taken.state b
+pub handed_room : (s : State) (f b : List ℕ) → Room s b → Room (step s f b).taken.state b
 handed_room s f b room =
     step_cases s f b (λ st. Room st.taken.state b)
     (λ a. room)
@@ -95,9 +95,9 @@ pub after_length : (x : Between) (f : List ℕ) → length (after x f).buffer �
 unfolding after
 after_length x f = written_length x.buffer _ _ (delivered_inside x.state f x.buffer)
 
-room_of_length : (s : Reassembly) (b c : List ℕ) → length b ≡ length c → Room s b → Room s c
-room_of_length Nothing b c e r = tt
-room_of_length (Open m) b c e r = omega arith
+room_of_length : (s : State) (b c : List ℕ) → length b ≡ length c → Room s b → Room s c
+room_of_length None b c e r = tt
+room_of_length (Some m) b c e r = omega arith
 
 -- so from frame to frame a kept buffer holds the open message
 pub after_room : (x : Between) (f : List ℕ) → Room x.state x.buffer → Room (after x f).state (after x f).buffer

@@ -10,7 +10,7 @@ use Rattle.transport.specs.Cutting.{is_length, message_frames, message_frame}
 use Rattle.transport.specs.Reassembly.{Step, fits, listens}
 use Rattle.transport.specs.Exchange.{Between, Foreign, answer_to, answer_due, after, after_all, after_frames, after_mixed}
 use Rattle.transport.specs.declared.reassembly.Assembly.{Assembly}
-use Rattle.transport.specs.declared.reassembly.Reassembly.TheVariants.{Nothing, Open}
+use Rattle.std.specs.Prelude.{None, Some, Ok}
 use Rattle.transport.specs.declared.reassembly.Answer.TheVariants.{Ignored}
 use Rattle.transport.proofs.Received.{midway}
 use Rattle.transport.proofs.RoundTrip.{between_frames, between_fits, answers_due, reassembled}
@@ -23,10 +23,10 @@ AllForeign nad fs = (i : ℕ) → i < length fs → Foreign nad (get_or fs i [])
 
 -- an open message, and a buffer
 abbrev pub opened : Assembly → List ℕ → Between
-opened m b = record { state = Open m; buffer = b }
+opened m b = record { state = Some m; buffer = b }
 
 -- from an open message that fits
-module _ (m : Assembly) (b : List ℕ) (fit : fits (Open m) ≡ true) where
+module _ (m : Assembly) (b : List ℕ) (fit : fits (Some m) ≡ true) where
   foreign_nothing : (f : List ℕ) → Foreign m.nad f → after (opened m b) f ≡ opened m b
   unfolding after
   foreign_nothing f h = rw (foreign_ignored m fit f b h, written_none b 0)
@@ -44,7 +44,7 @@ module _ (m : Assembly) (b : List ℕ) (fit : fits (Open m) ≡ true) where
 
   -- and each of them is ignored
   pub others_ignored : (fs : List (List ℕ)) → AllForeign m.nad fs → (i : ℕ) → i < length fs
-      → answer_to (after_all (opened m b) (take i fs)) (get_or fs i []) ≡ Ignored
+      → answer_to (after_all (opened m b) (take i fs)) (get_or fs i []) ≡ Ok Ignored
   others_ignored fs h i l =
       rw (others_nothing (take i fs) (first_foreign fs h i))
       (ap (λ (st : Step). st.taken.answer) (foreign_ignored m fit (get_or fs i []) b (h i l)))
@@ -82,5 +82,5 @@ module _
 
   -- and the message still stands in the buffer after the last one
   pub mixed_reassembled : after_mixed nad m others x (message_frames (length m))
-      ≡ record { state = Nothing; buffer = m ++ drop (length m) x.buffer }
+      ≡ record { state = None; buffer = m ++ drop (length m) x.buffer }
   mixed_reassembled = mixed (message_frames (length m)) (omega arith) ∙ reassembled nad m x sized fit heard room

@@ -6,17 +6,15 @@ use borrow.Author.Tests.{lt-ltb, le-ltb, eq-eqb, ne_eqb}
 use lib.ListN.{length, take, drop}
 use Rattle.refusal.specs.Numbers.{refused, buffer}
 use Rattle.transport.specs.Reassembly.{Step, Leaves, written, step_to, frame_pci, first_length, kind_ignored, kind_step, single, first, single_step}
-use Rattle.transport.specs.Reassembly.{first_step, counter_due, continued, bytes_due, reached}
+use Rattle.transport.specs.Reassembly.{first_step, counter_due, continued, bytes_due, reached, State, Taken}
 use Rattle.transport.specs.Parts.{kind_outcome, message_outcome}
 use Rattle.transport.specs.declared.reassembly.Assembly.{Assembly}
-use Rattle.transport.specs.declared.reassembly.Reassembly.{Reassembly}
-use Rattle.transport.specs.declared.reassembly.Reassembly.TheVariants.{Nothing, Open}
-use Rattle.transport.specs.declared.reassembly.Answer.{Answer}
-use Rattle.transport.specs.declared.reassembly.Answer.TheVariants.{Ignored, Broken, Refused}
-use Rattle.transport.specs.declared.reassembly.Taken.{Taken}
+use Rattle.std.specs.Prelude.{None, Some, Ok, Err}
+use Rattle.transport.specs.Answers.{Answered}
+use Rattle.transport.specs.declared.reassembly.Answer.TheVariants.{Ignored, Broken}
 
 -- a step that delivers nothing leaves the buffer as it was
-pub leaves_plain : (st : Step) (b : List ℕ) (s : Reassembly) (a : Answer) (r : Taken) → st ≡ step_to s a → r ≡ (step_to s a).taken → Leaves st b r b
+pub leaves_plain : (st : Step) (b : List ℕ) (s : State) (a : Answered) (r : Taken) → st ≡ step_to s a → r ≡ (step_to s a).taken → Leaves st b r b
 unfolding written
 leaves_plain st b s a r e h = rw e (record { handed = h; left = refl })
 
@@ -24,8 +22,8 @@ leaves_plain st b s a r e h = rw e (record { handed = h; left = refl })
 pub leaves_written : (st due : Step) (b after : List ℕ) (r : Taken) → st ≡ due → r ≡ due.taken → after ≡ written b due.place due.bytes → Leaves st b r after
 leaves_written st due b after r e h w = rw e (record { handed = h; left = w })
 
-module _ (s : Reassembly) (f b : List ℕ) where
-  pub single_ignored : length b < frame_pci f → kind_outcome single s f b ≡ step_to s Ignored
+module _ (s : State) (f b : List ℕ) where
+  pub single_ignored : length b < frame_pci f → kind_outcome single s f b ≡ step_to s (Ok Ignored)
   unfolding kind_outcome kind_ignored
   single_ignored h = rw (lt-ltb _ _ h)
 
@@ -33,11 +31,11 @@ module _ (s : Reassembly) (f b : List ℕ) where
   unfolding kind_outcome kind_ignored kind_step
   single_taken h = rw (le-ltb _ _ h)
 
-  pub first_low : first_length f < 7 → kind_outcome first s f b ≡ step_to s Ignored
+  pub first_low : first_length f < 7 → kind_outcome first s f b ≡ step_to s (Ok Ignored)
   unfolding kind_outcome kind_ignored
   first_low h = rw (lt-ltb _ _ h)
 
-  pub first_high : 7 ≤ first_length f → length b < first_length f → kind_outcome first s f b ≡ step_to s Ignored
+  pub first_high : 7 ≤ first_length f → length b < first_length f → kind_outcome first s f b ≡ step_to s (Ok Ignored)
   unfolding kind_outcome kind_ignored
   first_high l h = rw (le-ltb _ _ l, lt-ltb _ _ h)
 
@@ -46,11 +44,11 @@ module _ (s : Reassembly) (f b : List ℕ) where
   first_taken l h = rw (le-ltb _ _ l, le-ltb _ _ h)
 
 module _ (m : Assembly) (f b : List ℕ) where
-  pub next_broken : (frame_pci f ≡ 32 + m.counter → ⊥) → message_outcome m f b ≡ step_to Nothing Broken
+  pub next_broken : (frame_pci f ≡ 32 + m.counter → ⊥) → message_outcome m f b ≡ step_to None (Ok Broken)
   unfolding message_outcome counter_due
   next_broken h = rw (ne_eqb _ _ h)
 
-  pub next_short : frame_pci f ≡ 32 + m.counter → length b < m.length → message_outcome m f b ≡ step_to (Open m) (Refused (refused buffer))
+  pub next_short : frame_pci f ≡ 32 + m.counter → length b < m.length → message_outcome m f b ≡ step_to (Some m) (Err (refused buffer))
   unfolding message_outcome counter_due
   next_short e h = rw (eq-eqb _ _ e, lt-ltb _ _ h)
 

@@ -8,20 +8,19 @@ use borrow.Author.Tests.{le-ltb, lt-ltb, eq-eqb, ne_eqb}
 use lib.ListN.{length, take, drop}
 use Rattle.transport.specs.Cutting.{data_bytes, single_frame, first_frame, next_frame}
 use Rattle.transport.specs.Reassembly.{Step, step, fits, listens, single, first, next, kind_ignored, kind_step, single_step, first_step, next_step}
-use Rattle.transport.specs.Reassembly.{counter_due, continued, reached, bytes_due}
+use Rattle.transport.specs.Reassembly.{counter_due, continued, reached, bytes_due, Taken}
 use Rattle.transport.specs.Exchange.{Between, answer_to, after}
 use Rattle.transport.specs.declared.reassembly.Assembly.{Assembly}
-use Rattle.transport.specs.declared.reassembly.Reassembly.TheVariants.{Nothing, Open}
-use Rattle.transport.specs.declared.reassembly.Answer.{Answer}
+use Rattle.std.specs.Prelude.{None, Some, Ok}
+use Rattle.transport.specs.Answers.{Answered}
 use Rattle.transport.specs.declared.reassembly.Answer.TheVariants.{Started, More, Done}
-use Rattle.transport.specs.declared.reassembly.Taken.{Taken}
 use Rattle.transport.proofs.Filled.{filled, filled_none, filled_length, filled_on, data_take}
 use Rattle.transport.proofs.FitLaws.{fits_exactly}
 use Rattle.transport.proofs.KindLaws.{kind_single, kind_first, kind_next}
 use Rattle.transport.proofs.StepCases.{never_too_short, early_not_too_short, step_by_kind}
 
 -- the answer to a frame, and what it leaves
-pub record Received (x : Between) (f : List ℕ) (a : Answer) (y : Between) : Type 0 where
+pub record Received (x : Between) (f : List ℕ) (a : Answered) (y : Between) : Type 0 where
   pub answered : answer_to x f ≡ a
   pub left : after x f ≡ y
 
@@ -47,21 +46,21 @@ open_at nad m i = record { nad = nad; length = length m; count = 5 + 6 * i; coun
 
 -- that message is open, and its bytes so far are in the buffer
 abbrev pub midway : ℕ → List ℕ → List ℕ → ℕ → Between
-midway nad m b i = record { state = Open (open_at nad m i); buffer = filled (5 + 6 * i) m b }
+midway nad m b i = record { state = Some (open_at nad m i); buffer = filled (5 + 6 * i) m b }
 
 -- the whole message is in the buffer, and none is open
 abbrev pub complete : List ℕ → List ℕ → Between
-complete m b = record { state = Nothing; buffer = filled (length m) m b }
+complete m b = record { state = None; buffer = filled (length m) m b }
 
 -- what is answered and handed back at a first frame, where next frame i is due, and at the end
 abbrev started : ℕ → List ℕ → Taken
-started nad m = record { state = Open (open_at nad m 0); answer = Started }
+started nad m = record { state = Some (open_at nad m 0); answer = Ok Started }
 
 abbrev more : ℕ → List ℕ → ℕ → Taken
-more nad m i = record { state = Open (open_at nad m i); answer = More }
+more nad m i = record { state = Some (open_at nad m i); answer = Ok More }
 
 abbrev done : List ℕ → Taken
-done m = record { state = Nothing; answer = Done (length m) }
+done m = record { state = None; answer = Ok (Done (length m)) }
 
 -- a state that listens to the NAD, and a buffer that holds the message
 module _
@@ -81,7 +80,7 @@ module _
       ∙ rw (data_take m 0 6 (length m) k (omega arith))
 
   -- a single frame answers done and brings the whole message
-  pub single_received : 1 ≤ length m → length m ≤ 6 → Received x (single_frame nad m) (Done (length m)) (complete m x.buffer)
+  pub single_received : 1 ≤ length m → length m ≤ 6 → Received x (single_frame nad m) (Ok (Done (length m))) (complete m x.buffer)
   single_received h k =
       received x (single_frame nad m) (done m) 0 (length m) (length m) m x.buffer
       (single_step_lem h k) (sym (filled_none m x.buffer)) (omega arith) (omega arith) room
@@ -97,7 +96,7 @@ module _
       ∙ rw (n, data_take m 0 5 5 (omega arith) (omega arith))
 
   -- a first frame answers started and brings five bytes
-  pub first_received : 7 ≤ length m → length m ≤ 4095 → Received x (first_frame nad m) Started (midway nad m x.buffer 0)
+  pub first_received : 7 ≤ length m → length m ≤ 4095 → Received x (first_frame nad m) (Ok Started) (midway nad m x.buffer 0)
   first_received h k =
       received x (first_frame nad m) (started nad m) 0 5 5 m x.buffer
       (first_step_lem h k) (sym (filled_none m x.buffer)) (omega arith) (omega arith) room
@@ -150,7 +149,7 @@ module _
       rw (c, lt-ltb (5 + 6 * suc i) (length m) h, d)
 
   -- a next frame that leaves bytes missing answers more and brings six
-  pub more_received : 5 + 6 * suc i < length m → Received (midway nad m b i) (next_frame nad m i) More (midway nad m b (suc i))
+  pub more_received : 5 + 6 * suc i < length m → Received (midway nad m b i) (next_frame nad m i) (Ok More) (midway nad m b (suc i))
   unfolding bytes_due
   more_received h =
       received (midway nad m b i) (next_frame nad m i) (more nad m (suc i)) (5 + 6 * i) 6 (5 + 6 * suc i) m b
@@ -161,7 +160,7 @@ module _
   reached_last n e = rw (e, le-ltb (length m) (length m) (omega arith))
 
   -- the last next frame answers done and brings the rest
-  pub last_received : length m ≤ 5 + 6 * suc i → Received (midway nad m b i) (next_frame nad m i) (Done (length m)) (complete m b)
+  pub last_received : length m ≤ 5 + 6 * suc i → Received (midway nad m b i) (next_frame nad m i) (Ok (Done (length m))) (complete m b)
   unfolding bytes_due
   last_received h =
       let n : ℕ = length m - (5 + 6 * i) in

@@ -12,7 +12,7 @@ use Rattle.refusal.specs.Answers.{value_told}
 use Rattle.transport.specs.Cutting.{is_length, longest, message_frames, message_frame}
 use Rattle.transport.specs.Reassembly.{fits, listens}
 use Rattle.transport.specs.Exchange.{Between, answer_to, after_frames, answer_due}
-use Rattle.transport.specs.declared.reassembly.Reassembly.TheVariants.{Nothing}
+use Rattle.std.specs.Prelude.{None}
 use Rattle.transport.proofs.AnswersDue.{next_frame_due, due_single, due_first, due_more, due_last, due_length}
 use Rattle.transport.proofs.CuttingLaws.{frame_single, frame_first, frame_next, frames_one, frames_more}
 use Rattle.transport.proofs.Filled.{filled_all}
@@ -93,20 +93,20 @@ module _
       (last_received nad m x.buffer i known l high room (omega arith) (omega arith)).left)
 
   -- after the last frame the message stands in the buffer, the bytes behind it are the old ones, and none is open
-  pub reassembled : after_frames nad m x (message_frames (length m)) ≡ record { state = Nothing; buffer = m ++ drop (length m) x.buffer }
+  pub reassembled : after_frames nad m x (message_frames (length m)) ≡ record { state = None; buffer = m ++ drop (length m) x.buffer }
   reassembled = rw (← filled_all m x.buffer) all_frames
 
 -- from no open message: each frame gets the answer due, and after the last one the message stands in the buffer
 pub record RoundTrip (nad : ℕ) (m b : List ℕ) : Type 0 where
   pub answers : (k : ℕ) → k < message_frames (length m)
-      → answer_to (after_frames nad m (record { state = Nothing; buffer = b }) k) (message_frame nad m k) ≡ answer_due (length m) k
-  pub message : after_frames nad m (record { state = Nothing; buffer = b }) (message_frames (length m))
-      ≡ record { state = Nothing; buffer = m ++ drop (length m) b }
+      → answer_to (after_frames nad m (record { state = None; buffer = b }) k) (message_frame nad m k) ≡ answer_due (length m) k
+  pub message : after_frames nad m (record { state = None; buffer = b }) (message_frames (length m))
+      ≡ record { state = None; buffer = m ++ drop (length m) b }
 
 -- the round trip of every message of 1..4095 bytes, with any NAD but 0 and a buffer that holds it
 pub round_trip : (nad : ℕ) (m b : List ℕ) → 1 ≤ nad → is_length (length m) ≡ true → length m ≤ length b → RoundTrip nad m b
 unfolding fits listens
 round_trip nad m b h sized room =
-    let x : Between = record { state = Nothing; buffer = b } in
-    let heard : listens Nothing nad ≡ true = rw (ne_eqb nad 0 (λ e. omega arith)) in
+    let x : Between = record { state = None; buffer = b } in
+    let heard : listens None nad ≡ true = rw (ne_eqb nad 0 (λ e. omega arith)) in
     record { answers = answers_due nad m x sized refl heard room; message = reassembled nad m x sized refl heard room }

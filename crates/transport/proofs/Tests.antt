@@ -1,5 +1,6 @@
 -- What a test on Booleans says, and cases by a test.
 use Prim.Native.Nat.{ℕ, ◌≤◌, ◌<◌}
+use native.Mathlib.Omega.{arith}
 use mathlib.Core.Path.{◌≡◌, refl}
 use mathlib.Core.Bool.{Bool, true, false, ◌&&◌, ◌||◌}
 use borrow.Author.Tests.{leb-true, leb-false}
@@ -31,3 +32,7 @@ whether false yes-case no-case = no-case refl
 -- by cases of an order
 abbrev pub order : {A : Type 0} → (a b : ℕ) → (a ≤ b → A) → (b < a → A) → A
 order a b low high = whether (leb a b) (λ t. low (leb-true a b t)) (λ t. high (leb-false a b t))
+
+-- a test is not both
+pub clash : {A : Type 0} → (t : Bool) → t ≡ true → t ≡ false → A
+clash t h k = let z : ◌≡◌ {A = ℕ} 0 1 = cc in absurd (omega arith)

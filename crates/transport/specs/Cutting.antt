@@ -1,12 +1,8 @@
 -- Document 01, "Diagnostic messages": how a message is cut into frames of eight bytes.
 use Rattle.std.specs.Prelude.{ℕ, zero, suc, ◌+◌, ◌-◌, ◌*◌, ◌/◌, ◌%◌, Bool, cond, ◌&&◌, List, [], ◌∷◌, leb, ltb, length, get_or, replicate}
+use Rattle.std.specs.Prelude.{Some, None, Ok, Err}
 use Rattle.refusal.specs.Numbers.{message_length}
-use Rattle.transport.specs.Answers.{count_refused, cut_refused}
-use Rattle.transport.specs.declared.cutting.Counted.{Counted}
-use Rattle.transport.specs.declared.cutting.Counted.TheVariants as count
-use Rattle.transport.specs.declared.cutting.Answer.{Answer}
-use Rattle.transport.specs.declared.cutting.Answer.TheVariants as answer
-use Rattle.transport.specs.declared.cutting.Cut.{Cut}
+use Rattle.transport.specs.Answers.{Counted, Cut, count_refused, cut_refused}
 
 -- "4095": the length of the longest message
 abbrev pub longest : ℕ
@@ -48,17 +44,17 @@ message_frame nad m (suc i) = next_frame nad m i
 
 -- what is answered for a length
 unfoldable pub count_of : ℕ → Counted
-count_of n = cond (is_length n) (count.Frames (message_frames n)) (count_refused message_length)
-
--- what is answered where there is no frame: eight bytes of 255 beside it
-abbrev pub without_frame : Answer → Cut
-without_frame a = record { answer = a; bytes = replicate 8 255 }
+count_of n = cond (is_length n) (Ok (message_frames n)) (count_refused message_length)
 
 -- what is answered for frame k of a message
 unfoldable pub cut_of : ℕ → List ℕ → ℕ → Cut
 cut_of nad m k =
     cond (is_length (length m))
-    (cond (ltb k (message_frames (length m)))
-    (record { answer = answer.Frame; bytes = message_frame nad m k })
-    (without_frame answer.Missing))
-    (without_frame (cut_refused message_length))
+    (cond (ltb k (message_frames (length m))) (Ok (Some (message_frame nad m k))) (Ok None))
+    (cut_refused message_length)
+
+-- the bytes of what is answered, eight of 255 where there is no frame
+abbrev pub cut_bytes : Cut → List ℕ
+cut_bytes (Ok (Some f)) = f
+cut_bytes (Ok None) = replicate 8 255
+cut_bytes (Err r) = replicate 8 255

@@ -1,15 +1,21 @@
 -- Document 01, "Diagnostic messages": the reassembler. What a frame does to a state and to the lent buffer.
 use Rattle.std.specs.Prelude.{ℕ, ◌+◌, ◌-◌, ◌*◌, ◌/◌, ◌%◌, min, ◌≡◌, Bool, true, false, cond, not, ◌&&◌, ◌||◌, List, [], ◌∷◌, ◌++◌, leb, ltb, eqb, length, get_or, take, drop}
+use Rattle.std.specs.Prelude.{Option, None, Some, Ok}
 use Rattle.refusal.specs.Numbers.{buffer, state, frame}
 use Rattle.refusal.specs.Answers.{Test, test}
-use Rattle.transport.specs.Answers.{take_refused}
+use Rattle.transport.specs.Answers.{Answered, take_refused}
 use Rattle.transport.specs.Cutting.{longest}
 use Rattle.transport.specs.declared.reassembly.Assembly.{Assembly}
-use Rattle.transport.specs.declared.reassembly.Reassembly.{Reassembly}
-use Rattle.transport.specs.declared.reassembly.Reassembly.TheVariants.{Nothing, Open}
-use Rattle.transport.specs.declared.reassembly.Answer.{Answer}
 use Rattle.transport.specs.declared.reassembly.Answer.TheVariants.{Ignored, Started, More, Done, Broken}
-use Rattle.transport.specs.declared.reassembly.Taken.{Taken}
+
+-- the state from frame to frame: the open message, if there is one
+abbrev pub State : Type 0
+State = Option Assembly
+
+-- the answer to a frame, and the state handed back
+pub record Taken : Type 0 where
+  pub state : State
+  pub answer : Answered
 
 -- what a frame does: the answer and the state handed back, and the bytes that it delivers to a place of the buffer
 pub record Step : Type 0 where
@@ -22,7 +28,7 @@ unfoldable pub written : List ℕ → ℕ → List ℕ → List ℕ
 written b at ds = take at b ++ (ds ++ drop (at + length ds) b)
 
 -- a step that delivers no byte and changes no buffer
-abbrev pub step_to : Reassembly → Answer → Step
+abbrev pub step_to : State → Answered → Step
 step_to s a = record { taken = record { state = s; answer = a }; place = 0; bytes = [] }
 
 -- the NAD of a frame
@@ -67,19 +73,19 @@ assembly_fits m =
     && eqb m.counter ((1 + next_frames m.count) % 16)
 
 -- a state that is not refused with 3
-unfoldable pub fits : Reassembly → Bool
-fits Nothing = true
-fits (Open m) = assembly_fits m
+unfoldable pub fits : State → Bool
+fits None = true
+fits (Some m) = assembly_fits m
 
 -- a message is open
-abbrev pub is_assembling : Reassembly → Bool
-is_assembling Nothing = false
-is_assembling (Open m) = true
+abbrev pub is_assembling : State → Bool
+is_assembling None = false
+is_assembling (Some m) = true
 
 -- a NAD that is not ignored; ignored are "NAD 0; .. another NAD than the open one"
-unfoldable pub listens : Reassembly → ℕ → Bool
-listens Nothing nad = not (eqb nad 0)
-listens (Open m) nad = not (eqb nad 0) && eqb nad m.nad
+unfoldable pub listens : State → ℕ → Bool
+listens None nad = not (eqb nad 0)
+listens (Some m) nad = not (eqb nad 0) && eqb nad m.nad
 
 -- the next frame brings the counter due
 unfoldable pub counter_due : Assembly → List ℕ → Bool
@@ -90,27 +96,27 @@ unfoldable pub would_be_taken : Assembly → List ℕ → Bool
 would_be_taken m f = eqb (length f) 8 && eqb (frame_nad f) m.nad && counter_due m f
 
 -- refusal 2: "a next frame that would be taken, in a state 3 doesn't refuse, meets a buffer shorter than its open message"
-unfoldable pub too_short : Reassembly → List ℕ → List ℕ → Bool
-too_short Nothing f b = false
-too_short (Open m) f b = assembly_fits m && would_be_taken m f && ltb (length b) m.length
+unfoldable pub too_short : State → List ℕ → List ℕ → Bool
+too_short None f b = false
+too_short (Some m) f b = assembly_fits m && would_be_taken m f && ltb (length b) m.length
 
 -- what is ignored by its kind: "PCI 0, 7..15 or 48 and above; a first length below 7 or above the buffer; a single length above
 -- the buffer; a next frame with none open"
-unfoldable pub kind_ignored : Kind → Reassembly → List ℕ → List ℕ → Bool
+unfoldable pub kind_ignored : Kind → State → List ℕ → List ℕ → Bool
 kind_ignored single s f b = ltb (length b) (frame_pci f)
 kind_ignored first s f b = ltb (first_length f) 7 || ltb (length b) (first_length f)
 kind_ignored next s f b = not (is_assembling s)
 kind_ignored other s f b = true
 
 -- "Ignored": for its NAD, or by its kind
-unfoldable pub ignored : Reassembly → List ℕ → List ℕ → Bool
+unfoldable pub ignored : State → List ℕ → List ℕ → Bool
 ignored s f b = not (listens s (frame_nad f)) || kind_ignored (kind_of (frame_pci f)) s f b
 
 -- a single frame: done, with as many bytes as its PCI says
 unfoldable pub single_step : List ℕ → Step
 single_step f =
     record {
-      taken = record { state = Nothing; answer = Done (frame_pci f) };
+      taken = record { state = None; answer = Ok (Done (frame_pci f)) };
       place = 0;
       bytes = take (frame_pci f) (drop 2 f);
     }
@@ -120,8 +126,8 @@ unfoldable pub first_step : List ℕ → Step
 first_step f =
     record {
       taken = record {
-        state = Open (record { nad = frame_nad f; length = first_length f; count = 5; counter = 1 });
-        answer = Started;
+        state = Some (record { nad = frame_nad f; length = first_length f; count = 5; counter = 1 });
+        answer = Ok Started;
       };
       place = 0;
       bytes = take 5 (drop 3 f);
@@ -132,10 +138,10 @@ unfoldable pub reached : Assembly → ℕ → Taken
 reached m n =
     cond (ltb n m.length)
     (record {
-      state = Open (record { nad = m.nad; length = m.length; count = n; counter = (m.counter + 1) % 16 });
-      answer = More;
+      state = Some (record { nad = m.nad; length = m.length; count = n; counter = (m.counter + 1) % 16 });
+      answer = Ok More;
     })
-    (record { state = Nothing; answer = Done m.length })
+    (record { state = None; answer = Ok (Done m.length) })
 
 -- the bytes that a next frame brings: six, or the rest where fewer are left
 unfoldable pub bytes_due : Assembly → ℕ
@@ -151,24 +157,24 @@ continued m f =
     }
 
 -- a next frame of the open NAD: "A wrong counter answers broken and closes."
-unfoldable pub next_step : Reassembly → List ℕ → Step
-next_step Nothing f = step_to Nothing Ignored
-next_step (Open m) f = cond (counter_due m f) (continued m f) (step_to Nothing Broken)
+unfoldable pub next_step : State → List ℕ → Step
+next_step None f = step_to None (Ok Ignored)
+next_step (Some m) f = cond (counter_due m f) (continued m f) (step_to None (Ok Broken))
 
 -- a frame that is neither refused nor ignored, by its kind
-unfoldable pub kind_step : Kind → Reassembly → List ℕ → Step
+unfoldable pub kind_step : Kind → State → List ℕ → Step
 kind_step single s f = single_step f
 kind_step first s f = first_step f
 kind_step next s f = next_step s f
-kind_step other s f = step_to s Ignored
+kind_step other s f = step_to s (Ok Ignored)
 
 -- what a frame does: refusals 2, 3 and 11, "the lowest number is given"; ignored; or by its kind
-unfoldable pub step : Reassembly → List ℕ → List ℕ → Step
+unfoldable pub step : State → List ℕ → List ℕ → Step
 step s f b =
     cond (too_short s f b) (step_to s (take_refused buffer))
     (cond (not (fits s)) (step_to s (take_refused state))
     (cond (not (eqb (length f) 8)) (step_to s (take_refused frame))
-    (cond (ignored s f b) (step_to s Ignored)
+    (cond (ignored s f b) (step_to s (Ok Ignored))
     (kind_step (kind_of (frame_pci f)) s f))))
 
 -- what a step leaves: the answer with the state handed back, and the buffer ("Only the bytes delivered by a frame are written,
@@ -181,17 +187,17 @@ pub record Leaves (st : Step) (b : List ℕ) (r : Taken) (after : List ℕ) : Ty
 
 -- 2 "a next frame that would be taken .. meets a buffer shorter than its open message"; 3 an open reassembly that does not fit; 11 "a frame for the
 -- reassembler not of eight bytes"
-abbrev pub take_tests : Reassembly → List ℕ → List ℕ → List Test
+abbrev pub take_tests : State → List ℕ → List ℕ → List Test
 take_tests s f b = test 2 (not (too_short s f b)) ∷ test 3 (fits s) ∷ test 11 (eqb (length f) 8) ∷ []
 
 -- "done with the length": what is told of a frame that is not refused, of a single one its own length, and of a next one that of the message where that is
 -- all there with it
-abbrev pub kind_values : Kind → Reassembly → List ℕ → List ℕ
+abbrev pub kind_values : Kind → State → List ℕ → List ℕ
 kind_values single s f = frame_pci f ∷ []
 kind_values first s f = []
-kind_values next Nothing f = []
-kind_values next (Open m) f = cond (counter_due m f && leb m.length (m.count + bytes_due m)) (m.length ∷ []) []
+kind_values next None f = []
+kind_values next (Some m) f = cond (counter_due m f && leb m.length (m.count + bytes_due m)) (m.length ∷ []) []
 kind_values other s f = []
 
-abbrev pub take_values : Reassembly → List ℕ → List ℕ → List ℕ
+abbrev pub take_values : State → List ℕ → List ℕ → List ℕ
 take_values s f b = cond (ignored s f b) [] (kind_values (kind_of (frame_pci f)) s f)

@@ -1,64 +1,34 @@
 // Cutting a message into frames: NAD, PCI, then data; unused bytes are 255.
-ghost use Rattle.std.specs.Prelude.{◌≡◌, [], ◌∷◌, ◌≤◌, length, get_or};
+ghost use Rattle.std.specs.Prelude.{◌≡◌, [], ◌∷◌, ◌++◌, ◌-◌, ◌≤◌, length};
 ghost use Rattle.refusal.specs.Answers.{test, first_failing};
 ghost use Rattle.transport.specs.Answers.{count_told, cut_told};
-ghost use Rattle.transport.specs.Cutting.{longest, is_length, count_of, cut_of, without_frame, message_frames};
-ghost use Rattle.transport.specs.Cutting.{message_frame, single_frame, first_frame, next_frame, data_bytes};
+ghost use Rattle.transport.specs.Cutting.{longest, is_length, count_of, cut_of, message_frames};
+ghost use Rattle.transport.specs.Cutting.{message_frame, data_bytes};
 
 use crate::reassembly::Assembly;
 use refusal::Refusal;
 
-// What is answered for a length: the number of frames, or refusal 9.
-#[derive(Clone, Copy)]
-pub enum Counted {
-    Frames(u16),
-    Refused(Refusal),
-}
-
-// What is answered for a frame's number: there is such a frame, there is none, or refusal 9 for the message's length.
-#[derive(Clone, Copy)]
-pub enum Answer {
-    Frame,
-    Missing,
-    Refused(Refusal),
-}
-
-// The answer, and the frame's eight bytes; where there is no frame they are all 255.
-#[derive(Clone, Copy)]
-pub struct Cut {
-    pub answer: Answer,
-    pub bytes: [u8; 8],
-}
-
-// The number of frames that a message of a length takes.
-pub fn count(length: usize) -> Counted
+// The number of frames that a message of a length takes, or refusal 9.
+pub fn count(length: usize) -> Result<u16, Refusal>
     ensures value { result ≡ count_of length }
     ensures told { count_told result ≡ first_failing (test 9 (is_length length) ∷ []) (message_frames length ∷ []) }
 {
     if 1 <= length && length <= Assembly::LONGEST as usize {
-        Counted::Frames(frames(length))
+        Ok(frames(length))
     } else {
-        Counted::Refused(Refusal::of(Refusal::MESSAGE_LENGTH))
+        Err(Refusal::of(Refusal::MESSAGE_LENGTH))
     }
 }
 
-// Frame k of a message, counted from 0.
-pub fn frame(nad: u8, message: &[u8], k: u16) -> Cut
+// Frame k of a message, counted from 0, if there is such a frame, or refusal 9 for the message's length.
+pub fn frame(nad: u8, message: &[u8], k: u16) -> Result<Option<[u8; 8]>, Refusal>
     ensures value { result ≡ cut_of nad message.now k }
-    ensures told { cut_told result.answer ≡ first_failing (test 9 (is_length (length message.now)) ∷ []) [] }
+    ensures told { cut_told result ≡ first_failing (test 9 (is_length (length message.now)) ∷ []) [] }
 {
-    match count(message.len()) {
-        Counted::Refused(refusal) => without_frame(Answer::Refused(refusal)),
-        Counted::Frames(frames) => {
-            if k < frames {
-                Cut {
-                    answer: Answer::Frame,
-                    bytes: frame_bytes(nad, message, k),
-                }
-            } else {
-                without_frame(Answer::Missing)
-            }
-        }
+    if k < count(message.len())? {
+        Ok(Some(frame_bytes(nad, message, k)))
+    } else {
+        Ok(None)
     }
 }
 
@@ -74,83 +44,36 @@ fn frames(length: usize) -> u16
     }
 }
 
-// What is answered where there is no frame.
-fn without_frame(answer: Answer) -> Cut
-    ensures { result ≡ without_frame answer }
-{
-    Cut {
-        answer,
-        bytes: [255; 8],
-    }
-}
-
-// The eight bytes of frame k.
+// The eight bytes of frame k: a next frame behind the first one, and else the only frame or the first of several.
 fn frame_bytes(nad: u8, message: &[u8], k: u16) -> [u8; 8]
     requires { length message.now ≤ longest }
     ensures { result ≡ message_frame nad message.now k }
 {
+    let n = message.len();
     if 0 < k {
-        return next_frame(nad, message, k - 1);
+        let counter = k % 16;
+        with_data(
+            &[nad, (32 + counter) as u8],
+            message,
+            5 + 6 * (k as usize - 1),
+        )
+    } else if n <= 6 {
+        with_data(&[nad, n as u8], message, 0)
+    } else {
+        with_data(&[nad, (16 + n / 256) as u8, (n % 256) as u8], message, 0)
     }
-    if message.len() <= 6 {
-        return single_frame(nad, message);
-    }
-    first_frame(nad, message)
 }
 
-// The only frame of a message of at most six bytes.
-fn single_frame(nad: u8, message: &[u8]) -> [u8; 8]
-    requires { length message.now ≤ 6 }
-    ensures { result ≡ single_frame nad message.now }
+// A header, and behind it the message's bytes from a place on; unused bytes are 255.
+fn with_data(header: &[u8], message: &[u8], place: usize) -> [u8; 8]
+    requires { length header.now ≤ 8 }
+    ensures { result ≡ header.now ++ data_bytes message.now place (8 - length header.now) }
 {
-    with_six(nad, message.len() as u8, message, 0)
-}
-
-// The first frame of a longer message.
-fn first_frame(nad: u8, message: &[u8]) -> [u8; 8]
-    requires { length message.now ≤ longest }
-    ensures { result ≡ first_frame nad message.now }
-{
-    [
-        nad,
-        (16 + message.len() / 256) as u8,
-        (message.len() % 256) as u8,
-        data_byte(message, 0),
-        data_byte(message, 1),
-        data_byte(message, 2),
-        data_byte(message, 3),
-        data_byte(message, 4),
-    ]
-}
-
-// Next frame i, counted from 0.
-fn next_frame(nad: u8, message: &[u8], i: u16) -> [u8; 8]
-    ensures { result ≡ next_frame nad message.now i }
-{
-    let counter = (1 + i as u32) % 16;
-    with_six(nad, (32 + counter) as u8, message, 5 + 6 * (i as u32))
-}
-
-// A NAD, a PCI and six bytes of the message from a place on.
-fn with_six(nad: u8, pci: u8, message: &[u8], place: u32) -> [u8; 8]
-    ensures { result ≡ nad ∷ pci ∷ data_bytes message.now place 6 }
-{
-    let at = place as usize;
-    [
-        nad,
-        pci,
-        data_byte(message, at),
-        data_byte(message, at + 1),
-        data_byte(message, at + 2),
-        data_byte(message, at + 3),
-        data_byte(message, at + 4),
-        data_byte(message, at + 5),
-    ]
-}
-
-// The byte of the message at i, and 255 behind its last one.
-fn data_byte(message: &[u8], i: usize) -> u8
-    ensures { result ≡ get_or message.now i 255 }
-{
-    if i < message.len() { message[i] } else { 255 }
+    let mut bytes = [255; 8];
+    let h = header.len();
+    bytes[..h].copy_from_slice(header);
+    let rest = &message[message.len().min(place)..];
+    let n = rest.len().min(8 - h);
+    bytes[h..h + n].copy_from_slice(&rest[..n]);
+    bytes
 }

@@ -4,12 +4,12 @@ use Rattle.wire.specs.Answers.{told}
 use Rattle.refusal.specs.Answers.{value_told}
 use Rattle.wire.specs.Checksum.{checksum_of}
 use Rattle.wire.specs.Identifier.{protected_of}
-use Rattle.wire.specs.declared.Answer.{Answer}
+use Rattle.wire.specs.Answers.{Answer}
 use Rattle.wire.specs.declared.checksum.Model.{Model}
 use Rattle.wire.specs.declared.checksum.Model.TheVariants.{Classic, Enhanced}
 use Rattle.signal.specs.Signal.{put_scalar}
 use Rattle.transport.specs.Answers.{count_told, cut_told}
-use Rattle.transport.specs.Cutting.{count_of, cut_of}
+use Rattle.transport.specs.Cutting.{count_of, cut_of, cut_bytes}
 
 -- an example of one kind or another
 pub data Example : Type 0 where
@@ -40,7 +40,7 @@ filled (x ∷ xs) = 255 ∷ filled xs
 -- the frames of a message from frame k on are answered, and nothing is refused
 abbrev pub same_frames : ℕ → List ℕ → ℕ → List (List ℕ) → Bool
 same_frames nad m k [] = true
-same_frames nad m k (f ∷ fs) = eqb (cut_told (cut_of nad m k).answer).number 0 && same_bytes (cut_of nad m k).bytes f && same_frames nad m (suc k) fs
+same_frames nad m k (f ∷ fs) = eqb (cut_told (cut_of nad m k)).number 0 && same_bytes (cut_bytes (cut_of nad m k)) f && same_frames nad m (suc k) fs
 
 -- the test: what the definitions give is what the example says
 unfoldable pub holds : Example → Bool

@@ -10,34 +10,34 @@ use borrow.Author.Tests.{lt-ltb, le-leb}
 use Rattle.refusal.specs.declared.Refusal.{Refusal}
 use Rattle.refusal.specs.Answers.{test, first_failing}
 use Rattle.wire.specs.Answers.{told, refused_with}
-use Rattle.wire.specs.declared.Answer.{Answer}
-use Rattle.wire.specs.declared.Answer.TheVariants.{Byte, Refused}
+use Rattle.wire.specs.Answers.{Answer}
+use Rattle.std.specs.Prelude.{Ok, Err}
 use Rattle.wire.specs.declared.checksum.Model.{Model}
 use Rattle.wire.specs.Identifier.{protected_byte, protected_of, right_parity, read_of}
 use Rattle.wire.specs.Checksum.{checksum_byte, checksum_of, checksum_tests}
 use Rattle.wire.proofs.Tests.{whether}
 
 module _ (id : ℕ) where
-  gives : id < 64 → protected_of id ≡ Byte (protected_byte id)
+  gives : id < 64 → protected_of id ≡ Ok (protected_byte id)
   unfolding protected_of
   gives h = rw (lt-ltb id 64 h)
 
-  pub built : (b : ℕ) → id < 64 → protected_of id ≡ Byte b → b ≡ protected_byte id
-  built b h e = let q : Byte b ≡ Byte (protected_byte id) = sym e ∙ gives h in cc
+  pub built : (b : ℕ) → id < 64 → protected_of id ≡ Ok b → b ≡ protected_byte id
+  built b h e = let q : Ok b ≡ Ok (protected_byte id) = sym e ∙ gives h in cc
 
-  pub not_refused : (r : Refusal) → id < 64 → protected_of id ≡ Refused r → ⊥
-  not_refused r h e = let q : Refused r ≡ Byte (protected_byte id) = sym e ∙ gives h in let z : ◌≡◌ {A = ℕ} 0 1 = cc in omega arith
+  pub not_refused : (r : Refusal) → id < 64 → protected_of id ≡ Err r → ⊥
+  not_refused r h e = let q : Err r ≡ Ok (protected_byte id) = sym e ∙ gives h in let z : ◌≡◌ {A = ℕ} 0 1 = cc in omega arith
 
 module _ (id : ℕ) (wish : Model) (bs : List ℕ) where
-  pub sums : (id < 64) × (1 ≤ length bs) × (length bs ≤ 8) → checksum_of id wish bs ≡ Byte (checksum_byte id wish bs)
+  pub sums : (id < 64) × (1 ≤ length bs) × (length bs ≤ 8) → checksum_of id wish bs ≡ Ok (checksum_byte id wish bs)
   unfolding checksum_of
   sums h = rw (lt-ltb id 64 h.0, le-leb 1 (length bs) h.1, le-leb (length bs) 8 h.2)
 
-  pub summed : (b : ℕ) → (id < 64) × (1 ≤ length bs) × (length bs ≤ 8) → checksum_of id wish bs ≡ Byte b → b ≡ checksum_byte id wish bs
-  summed b h e = let q : Byte b ≡ Byte (checksum_byte id wish bs) = sym e ∙ sums h in cc
+  pub summed : (b : ℕ) → (id < 64) × (1 ≤ length bs) × (length bs ≤ 8) → checksum_of id wish bs ≡ Ok b → b ≡ checksum_byte id wish bs
+  summed b h e = let q : Ok b ≡ Ok (checksum_byte id wish bs) = sym e ∙ sums h in cc
 
-  pub not_summed : (r : Refusal) → (id < 64) × (1 ≤ length bs) × (length bs ≤ 8) → checksum_of id wish bs ≡ Refused r → ⊥
-  not_summed r h e = let q : Refused r ≡ Byte (checksum_byte id wish bs) = sym e ∙ sums h in let z : ◌≡◌ {A = ℕ} 0 1 = cc in omega arith
+  pub not_summed : (r : Refusal) → (id < 64) × (1 ≤ length bs) × (length bs ≤ 8) → checksum_of id wish bs ≡ Err r → ⊥
+  not_summed r h e = let q : Err r ≡ Ok (checksum_byte id wish bs) = sym e ∙ sums h in let z : ◌≡◌ {A = ℕ} 0 1 = cc in omega arith
 
 -- ---- what the calls tell, from their answers
 
@@ -54,7 +54,7 @@ pub sum_told : (id : ℕ) (wish : Model) (bs : List ℕ) (r : Answer) → r ≡ 
 unfolding checksum_of first_failing
 sum_told id wish bs r e = (e, rw e (by (ltb id 64) (leb 1 (length bs)) (leb (length bs) 8)))
   where
-    by : (a b c : Bool) → told (cond (a && b && c) (Byte (checksum_byte id wish bs)) (refused_with 11))
+    by : (a b c : Bool) → told (cond (a && b && c) (Ok (checksum_byte id wish bs)) (refused_with 11))
         ≡ first_failing (test 11 a ∷ test 11 b ∷ test 11 c ∷ []) (checksum_byte id wish bs ∷ [])
     by true true true = refl
     by true true false = refl

@@ -9,7 +9,7 @@ use lib.Dec.{ltb, leb}
 use lib.ListN.{length}
 use Rattle.wire.specs.Bits.{Bytes}
 use Rattle.wire.specs.Checksum.{with_carry, sum, covered, model_of, inverted, checksum_byte, checksum_of}
-use Rattle.wire.specs.declared.Answer.TheVariants.{Byte}
+use Rattle.std.specs.Prelude.{Ok}
 use Rattle.wire.specs.declared.checksum.Model.{Model}
 use Rattle.wire.specs.declared.checksum.Model.TheVariants.{Classic, Enhanced}
 use Rattle.wire.proofs.AnswerLaws.{sums}
@@ -113,7 +113,7 @@ module _ (id : ℕ) (wish : Model) (bs : List ℕ) where
 
   -- and otherwise it is the checksum's byte
   pub checksum_given_exactly : (c : ℕ)
-      → (checksum_of id wish bs ≡ Byte c) ↔ ((id < 64) × (1 ≤ length bs) × (length bs ≤ 8) × (c ≡ checksum_byte id wish bs))
+      → (checksum_of id wish bs ≡ Ok c) ↔ ((id < 64) × (1 ≤ length bs) × (length bs ≤ 8) × (c ≡ checksum_byte id wish bs))
   checksum_given_exactly c = (
     (λ e.
         let no : (64 ≤ id) ⊎ ((length bs ≡ 0) ⊎ (9 ≤ length bs)) → ⊥ =

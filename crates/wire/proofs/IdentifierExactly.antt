@@ -8,8 +8,8 @@ use borrow.Author.Tests.{eqb-true, eq-eqb, ltb-true, ltb-false, lt-ltb, le-ltb}
 use lib.Dec.{eqb, ltb}
 use Rattle.wire.specs.Bits.{bit}
 use Rattle.wire.specs.Identifier.{protected_byte, protected_of, read_of, right_parity, p0, p1}
-use Rattle.wire.specs.declared.Answer.{Answer}
-use Rattle.wire.specs.declared.Answer.TheVariants.{Byte, Refused}
+use Rattle.wire.specs.Answers.{Answer}
+use Rattle.std.specs.Prelude.{Ok, Err}
 use Rattle.wire.proofs.Below.{all_below, below}
 use Rattle.wire.proofs.IdentifierLaws.{protected_below, protected_identifier, parity_built}
 use Rattle.wire.proofs.Tests.{and_left, and_right, beq_true, whether}
@@ -104,7 +104,7 @@ protected_exactly id b h =
 
 -- the refusal with 11, which has no place
 abbrev pub eleven : Answer
-eleven = Refused (record { number = 11; place = 0 })
+eleven = Err (record { number = 11; place = 0 })
 
 -- building is refused with 11 above 63, and gives the byte otherwise
 pub build_refused_exactly : (id : ℕ) → (protected_of id ≡ eleven) ↔ (64 ≤ id)
@@ -116,7 +116,7 @@ build_refused_exactly id = (
   (λ h. rw (le-ltb id 64 h)),
 )
 
-pub build_exactly : (id b : ℕ) → (protected_of id ≡ Byte b) ↔ ((id < 64) × (b < 256) × (b % 64 ≡ id) × Parity b)
+pub build_exactly : (id b : ℕ) → (protected_of id ≡ Ok b) ↔ ((id < 64) × (b < 256) × (b % 64 ≡ id) × Parity b)
 unfolding protected_of
 build_exactly id b = (
   (λ e. whether (ltb id 64)
@@ -133,7 +133,7 @@ read_refused_exactly byte h = (
   (λ n. whether (right_parity byte) (λ t. absurd (n ((parity_exactly byte h).0 t))) (λ t. rw t)),
 )
 
-pub read_by_parity : (byte id : ℕ) → byte < 256 → (read_of byte ≡ Byte id) ↔ ((id ≡ byte % 64) × Parity byte)
+pub read_by_parity : (byte id : ℕ) → byte < 256 → (read_of byte ≡ Ok id) ↔ ((id ≡ byte % 64) × Parity byte)
 unfolding read_of
 read_by_parity byte id h = (
   (λ e. whether (right_parity byte)

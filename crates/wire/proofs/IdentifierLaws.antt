@@ -10,7 +10,7 @@ use Rattle.refusal.specs.Numbers.{frame}
 use Rattle.wire.specs.Answers.{refused_with}
 use Rattle.wire.specs.Bits.{bit}
 use Rattle.wire.specs.Identifier.{protected_byte, read_of, right_parity, p0, p1}
-use Rattle.wire.specs.declared.Answer.TheVariants.{Byte}
+use Rattle.std.specs.Prelude.{Ok}
 use Rattle.wire.proofs.Below.{all_below, below}
 use Rattle.wire.proofs.Tests.{beq_true, digit_below, whether}
 
@@ -37,12 +37,12 @@ unfolding parity_test
 parity_built byte h = beq_true _ _ (below 256 parity_test all_parities byte h)
 
 -- what is built is read back, for every identifier below 64
-pub read_built : (id : ℕ) → id < 64 → read_of (protected_byte id) ≡ Byte id
+pub read_built : (id : ℕ) → id < 64 → read_of (protected_byte id) ≡ Ok id
 unfolding read_of
 read_built id h =
     rw (parity_built (protected_byte id) (protected_below id h), protected_identifier id h, eq-eqb (protected_byte id) (protected_byte id) refl)
 
-right : (byte : ℕ) → right_parity byte ≡ true → read_of byte ≡ Byte (byte % 64)
+right : (byte : ℕ) → right_parity byte ≡ true → read_of byte ≡ Ok (byte % 64)
 unfolding read_of
 right byte p = rw p
 
@@ -51,7 +51,7 @@ unfolding read_of
 wrong byte p = rw p
 
 -- of the 256 bytes exactly those built from an identifier are read, as that identifier
-pub read_exactly : (byte id : ℕ) → byte < 256 → (read_of byte ≡ Byte id) ↔ ((id < 64) × (protected_byte id ≡ byte))
+pub read_exactly : (byte id : ℕ) → byte < 256 → (read_of byte ≡ Ok id) ↔ ((id < 64) × (protected_byte id ≡ byte))
 read_exactly byte id b = (
   (λ r. whether (right_parity byte)
       (λ p.

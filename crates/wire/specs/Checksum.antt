@@ -4,8 +4,8 @@ use Rattle.refusal.specs.Answers.{Test, test}
 use Rattle.refusal.specs.Numbers.{frame}
 use Rattle.wire.specs.Answers.{refused_with}
 use Rattle.wire.specs.Identifier.{protected_byte}
-use Rattle.wire.specs.declared.Answer.{Answer}
-use Rattle.wire.specs.declared.Answer.TheVariants.{Byte}
+use Rattle.wire.specs.Answers.{Answer}
+use Rattle.std.specs.Prelude.{Ok}
 use Rattle.wire.specs.declared.checksum.Model.{Model}
 use Rattle.wire.specs.declared.checksum.Model.TheVariants.{Classic, Enhanced}
 
@@ -39,7 +39,7 @@ checksum_byte id wish bs = inverted (sum 0 (covered (model_of id wish) id bs))
 unfoldable pub checksum_of : ℕ → Model → List ℕ → Answer
 checksum_of id wish bs =
     cond (ltb id 64 && leb 1 (length bs) && leb (length bs) 8)
-    (Byte (checksum_byte id wish bs))
+    (Ok (checksum_byte id wish bs))
     (refused_with frame)
 
 -- "identifier above 63 ..; data length 0 or above 8"

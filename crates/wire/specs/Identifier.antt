@@ -4,8 +4,8 @@ use Rattle.std.specs.Bool.{xor, beq}
 use Rattle.refusal.specs.Numbers.{frame}
 use Rattle.wire.specs.Answers.{refused_with}
 use Rattle.wire.specs.Bits.{bit, digit}
-use Rattle.wire.specs.declared.Answer.{Answer}
-use Rattle.wire.specs.declared.Answer.TheVariants.{Byte}
+use Rattle.wire.specs.Answers.{Answer}
+use Rattle.std.specs.Prelude.{Ok}
 
 -- "P0 = ID0 xor ID1 xor ID2 xor ID4"
 unfoldable pub p0 : ℕ → Bool
@@ -21,7 +21,7 @@ protected_byte id = id + 64 * digit (p0 id) + 128 * digit (p1 id)
 
 -- what building one answers
 unfoldable pub protected_of : ℕ → Answer
-protected_of id = cond (ltb id 64) (Byte (protected_byte id)) (refused_with frame)
+protected_of id = cond (ltb id 64) (Ok (protected_byte id)) (refused_with frame)
 
 -- both parity bits of a byte are those of its identifier bits
 unfoldable pub right_parity : ℕ → Bool
@@ -29,4 +29,4 @@ right_parity byte = beq (bit byte 6) (p0 byte) && beq (bit byte 7) (p1 byte)
 
 -- what reading one answers: "A reader refuses wrong parity"
 unfoldable pub read_of : ℕ → Answer
-read_of byte = cond (right_parity byte) (Byte (byte % 64)) (refused_with frame)
+read_of byte = cond (right_parity byte) (Ok (byte % 64)) (refused_with frame)

@@ -5,7 +5,8 @@ ghost use Rattle.refusal.specs.Answers.{first_failing};
 ghost use Rattle.wire.specs.Checksum.{with_carry, sum, covered, model_of, checksum_byte, checksum_of, checksum_tests};
 
 use crate::identifier::protected_byte;
-use crate::{Answer, refused};
+use crate::refused;
+use refusal::Refusal;
 
 // Which bytes a checksum covers: classic the data alone, enhanced the protected identifier too.
 #[derive(Clone, Copy)]
@@ -15,12 +16,12 @@ pub enum Model {
 }
 
 // The checksum of 1 to 8 data bytes under an identifier; 60 to 63 use classic whatever is wished.
-pub fn of(id: u8, wish: Model, data: &[u8]) -> Answer
+pub fn of(id: u8, wish: Model, data: &[u8]) -> Result<u8, Refusal>
     ensures value { result ≡ checksum_of id wish «data».now }
     ensures told { told result ≡ first_failing (checksum_tests id (length «data».now)) (checksum_byte id wish «data».now ∷ []) }
 {
     if id < 64 && 1 <= data.len() && data.len() <= 8 {
-        Answer::Byte(255 - sum(start(id, wish), data))
+        Ok(255 - sum(start(id, wish), data))
     } else {
         refused()
     }
@@ -57,10 +58,8 @@ fn sum(from: u8, data: &[u8]) -> u8
     ensures { result ≡ sum from «data».now }
 {
     let mut total = from;
-    let mut i: usize = 0;
-    while i < data.len() {
-        total = with_carry(total, data[i]);
-        i += 1;
+    for &byte in data {
+        total = with_carry(total, byte);
     }
     total
 }

@@ -5,28 +5,29 @@ ghost use Rattle.refusal.specs.Answers.{test, first_failing};
 ghost use Rattle.wire.specs.Identifier.{protected_byte, protected_of, right_parity, read_of};
 ghost use Rattle.wire.specs.Parts.{Listed};
 
-use crate::{Answer, refused};
+use crate::refused;
+use refusal::Refusal;
 
 // The protected identifier of an identifier below 64.
-pub fn build(id: u8) -> Answer
+pub fn build(id: u8) -> Result<u8, Refusal>
     ensures value { result ≡ protected_of id }
     ensures told { told result ≡ first_failing (test 11 (ltb id 64) ∷ []) (protected_byte id ∷ []) }
 {
     if id < 64 {
-        Answer::Byte(protected_in(&PROTECTED, id))
+        Ok(protected_in(&PROTECTED, id))
     } else {
         refused()
     }
 }
 
 // The identifier of a protected identifier with right parity.
-pub fn read(protected: u8) -> Answer
+pub fn read(protected: u8) -> Result<u8, Refusal>
     ensures value { result ≡ read_of protected }
     ensures told { told result ≡ first_failing (test 11 (right_parity protected) ∷ []) (protected % 64 ∷ []) }
 {
     let id = protected % 64;
     if protected_in(&PROTECTED, id) == protected {
-        Answer::Byte(id)
+        Ok(id)
     } else {
         refused()
     }
@@ -50,8 +51,7 @@ pub(crate) fn protected_in(list: &[u8], id: u8) -> u8
     ensures { result ≡ protected_byte id }
 {
     let half = list.len() / 2;
-    let mut i: usize = 0;
-    while i < half {
+    for i in 0..half {
         let lower = list[i];
         if lower % 64 == id {
             return lower;
@@ -60,7 +60,6 @@ pub(crate) fn protected_in(list: &[u8], id: u8) -> u8
         if upper % 64 == id {
             return upper;
         }
-        i += 1;
     }
     0
 }

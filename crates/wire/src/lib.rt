@@ -10,16 +10,9 @@ ghost use Rattle.std.specs.Prelude.{◌≡◌};
 ghost use Rattle.refusal.specs.Numbers.{frame};
 ghost use Rattle.wire.specs.Answers.{refused_with};
 
-// What every call of this crate answers: one byte, or the refusal.
-#[derive(Clone, Copy)]
-pub enum Answer {
-    Byte(u8),
-    Refused(Refusal),
-}
-
 // The refusal of an identifier, a parity or a number of bytes that no frame has.
-pub(crate) fn refused() -> Answer
+pub(crate) fn refused() -> Result<u8, Refusal>
     ensures { result ≡ refused_with frame }
 {
-    Answer::Refused(Refusal::of(Refusal::FRAME))
+    Err(Refusal::of(Refusal::FRAME))
 }

@@ -12,7 +12,6 @@ use Rattle.master.specs.Fresh.{fresh}
 use Rattle.master.specs.Plan.{asking, waited}
 use Rattle.master.specs.Seq.{Seq, ∅, ◌▹◌}
 use Rattle.master.specs.Run.{Held, held}
-use Rattle.master.specs.declared.tick.TickAnswer.{TickAnswer}
 use Rattle.master.specs.Acts.{nothing, selected, ticked, status_read, sending, on_send, is_status_read}
 use Rattle.master.specs.Schedule.{none, Scheduled, act, slot_due, plan_with, plan_by, plan_after}
 use Rattle.master.specs.History.{closes}
@@ -25,6 +24,7 @@ use Rattle.master.proofs.History.FramesAre.{FramesAre, frames_fresh, frames_quie
 use Rattle.master.proofs.History.TransferIs.{TransferIs, transfer_fresh, transfer_quiet}
 use Rattle.master.specs.State.{with_message, with_plan, with_status}
 use Rattle.master.specs.Fresh.{no_status}
+use Rattle.master.specs.Answers.{TickResult}
 
 pub record Agrees (t : List ℕ) (h : Seq Scheduled) (x : Held) : Type 0 where
   pub fits : state_fits t x.state ≡ true
@@ -95,7 +95,7 @@ module _ (t : List ℕ) (h : Seq Scheduled) (x : Held) (is : Agrees t h x) (y : 
       (rw (open_status c (rw a)) is.status_is)
 
   -- a tick that waits
-  pub agrees_waited : (m : List ℕ) (b : TickAnswer) → act y ≡ ticked m b → y.slot ≡ none → slot_due t (plan_after t h) ≡ none
+  pub agrees_waited : (m : List ℕ) (b : TickResult) → act y ≡ ticked m b → y.slot ≡ none → slot_due t (plan_after t h) ≡ none
       → state_fits t (with_plan x.state (waited x.state.plan)) ≡ true
       → Agrees t (h ▹ y) (held (with_plan x.state (waited x.state.plan)) x.bytes)
   unfolding closes plan_after plan_by plan_with

@@ -10,7 +10,6 @@ use borrow.Author.Tests.{ltb-true, lt-ltb}
 use Rattle.cluster.specs.Check.{TakenTable, RightTable}
 use Rattle.cluster.specs.Table.{member_count, member_list}
 use Rattle.transport.proofs.Tests.{whether}
-use Rattle.master.specs.declared.ahead.AheadAnswer.TheVariants as answer
 use Rattle.master.specs.Admit.{buffer_size}
 use Rattle.master.specs.Ahead.{pending_count, ahead_verdict, ahead_of}
 use Rattle.cluster.specs.Lists.{member_of, frames_ahead}
@@ -25,6 +24,7 @@ use Rattle.master.proofs.History.Computed.{pending_after}
 use Rattle.master.proofs.History.PendingLaw.{pending_iff}
 use Rattle.master.proofs.History.Counting.{count_if, count_holds}
 use Rattle.master.proofs.History.Agrees.{Agrees}
+use Rattle.std.specs.Prelude.{Ok}
 
 -- bits that say what p says count what p counts
 count_pending : (bits : List Bool) (p : ℕ → Bool) → ((f : ℕ) → get_or bits f false ≡ p f) → (fs : List ℕ) → pending_count bits fs ≡ count_if p fs
@@ -33,11 +33,11 @@ count_pending bits p e [] = refl
 count_pending bits p e (f ∷ fs) = rw (e f, count_pending bits p e fs)
 
 module _ (t : List ℕ) (is-taken : TakenTable t) (ok : RightTable t) (h : Seq Scheduled) (x : Held) (is : Agrees t h x) (f : ℕ) where
-  counts : member_of t f < member_count t → ahead_of t x.state f ≡ answer.Count (count_if (pending_after t h) (frames_ahead t f))
+  counts : member_of t f < member_count t → ahead_of t x.state f ≡ Ok (count_if (pending_after t h) (frames_ahead t f))
   unfolding ahead_of ahead_verdict
   counts b =
       rw (admits t (buffer_size t) x.state is-taken refl is.fits, lt-ltb (member_of t f) (member_count t) b)
-      (ap answer.Count (count_pending x.state.pending (pending_after t h) is.frames.bits_are (frames_ahead t f)))
+      (ap Ok (count_pending x.state.pending (pending_after t h) is.frames.bits_are (frames_ahead t f)))
 
   pub ahead_replies : AheadReply t h f (ahead_of t x.state f)
   unfolding ahead_of ahead_verdict

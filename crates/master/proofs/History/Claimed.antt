@@ -7,8 +7,6 @@ use lib.ListN.{length}
 use Rattle.cluster.specs.Table.{entry_kind, entry_target}
 use Rattle.cluster.specs.Lists.{members}
 use Rattle.transport.proofs.Tests.{whether}
-use Rattle.master.specs.declared.start.FreshAnswer.TheVariants.{Fresh}
-use Rattle.master.specs.declared.tick.TickAnswer.{TickAnswer}
 use Rattle.master.specs.declared.tick.TickAnswer.TheVariants as answer
 use Rattle.master.specs.Start.{fresh_of}
 use Rattle.master.specs.Seq.{Seq, ◌▹◌, ◌⋈◌}
@@ -30,24 +28,27 @@ use Rattle.master.proofs.History.Sent.{sent_exactly}
 use Rattle.master.proofs.History.Unchanged.{unchanged}
 use Rattle.master.proofs.History.ReceivedAre.{received_each}
 use Rattle.master.proofs.History.Runs.{Good, agrees, goods}
+use Rattle.std.specs.Prelude.{Ok}
+use Rattle.std.specs.Prelude.{Err}
+use Rattle.master.specs.Answers.{TickResult}
 
 -- a tick that starts a slot with an entry is accepted, and that slot is due
-slot_due_lem : (m : List ℕ) (a : TickAnswer) (s : Slot) (e : ℕ) → entry e ≡ on_tick (λ n b. s) none (tick_act m a) → s ≡ entry e
-slot_due_lem m answer.Waiting s e p = sym p
-slot_due_lem m answer.Idle s e p = sym p
-slot_due_lem m answer.Silent s e p = sym p
-slot_due_lem m (answer.Opened q) s e p = sym p
-slot_due_lem m (answer.Refused r) s e p = cc
+slot_due_lem : (m : List ℕ) (a : TickResult) (s : Slot) (e : ℕ) → entry e ≡ on_tick (λ n b. s) none (tick_act m a) → s ≡ entry e
+slot_due_lem m (Ok answer.Waiting) s e p = sym p
+slot_due_lem m (Ok answer.Idle) s e p = sym p
+slot_due_lem m (Ok answer.Silent) s e p = sym p
+slot_due_lem m (Ok (answer.Opened q)) s e p = sym p
+slot_due_lem m (Err r) s e p = cc
 
 -- a refused tick starts none
-slot_accepted : (m : List ℕ) (a : TickAnswer) (s : Slot) (e : ℕ) → entry e ≡ on_tick (λ n b. s) none (tick_act m a) → (r : _) → a ≡ answer.Refused r → ⊥
+slot_accepted : (m : List ℕ) (a : TickResult) (s : Slot) (e : ℕ) → entry e ≡ on_tick (λ n b. s) none (tick_act m a) → (r : _) → a ≡ Err r → ⊥
 slot_accepted m a s e p r q =
     let z : entry e ≡ none = rw q at p in
     let y : ◌≡◌ {A = ℕ} 0 1 = cc in
     omega arith
 
 -- part (b)
-list_slot : (t : List ℕ) (h : Seq Scheduled) (m : List ℕ) (a : TickAnswer) (e : ℕ) (s : Slot) → Good t h (event (tick m) a (entry e) s) → entry_kind t e ≡ 1
+list_slot : (t : List ℕ) (h : Seq Scheduled) (m : List ℕ) (a : TickResult) (e : ℕ) (s : Slot) → Good t h (event (tick m) a (entry e) s) → entry_kind t e ≡ 1
     → Takes t (Pending t h) (members t (entry_target t e)) a
 unfolding schedule slot_begun
 list_slot t h m a e s good k =
@@ -57,7 +58,7 @@ list_slot t h m a e s good k =
     (λ l. absurd (slot_accepted m a (slot_due t (plan_after t h)) e good.placed _ (good.replies.refuses l)))
 
 -- Demand 3
-pub demand_3 : (t bs : List ℕ) → (fresh_of t bs).given.answer ≡ Fresh → (cs : Seq Call) → Claim t bs cs
+pub demand_3 : (t bs : List ℕ) → (fresh_of t bs).given.answer ≡ Ok tt → (cs : Seq Call) → Claim t bs cs
 unfolding held_after
 demand_3 t bs accepted cs =
     let good : (before : Seq Scheduled) (x : Scheduled) (after : Seq Scheduled) → record_of t bs cs ≡ before ▹ x ⋈ after → Good t before x =

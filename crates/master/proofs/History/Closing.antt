@@ -10,7 +10,6 @@ use borrow.Author.Tests.{lt-ltb}
 use Rattle.transport.proofs.Tests.{whether}
 use Rattle.master.specs.declared.state.Opened.TheVariants.{Nothing}
 use Rattle.master.specs.declared.state.State.{State}
-use Rattle.master.specs.declared.byte.ByteAnswer.{ByteAnswer}
 use Rattle.master.specs.Fresh.{no_transfer}
 use Rattle.master.specs.Transfers.{format_of, is_open, open_protected}
 use Rattle.master.specs.Status.{with_counted}
@@ -19,7 +18,6 @@ use Rattle.master.specs.Closing.{failed}
 use Rattle.master.specs.Tick.{abandoned}
 use Rattle.master.specs.Seq.{Seq, ◌▹◌}
 use Rattle.master.specs.Acts.{ticked, took}
-use Rattle.master.specs.declared.tick.TickAnswer.{TickAnswer}
 use Rattle.master.specs.Schedule.{Scheduled, act, is_start, starts}
 use Rattle.master.specs.History.{is_success, is_end, closes, succeeds, open_after, is_transfer, got_by, got_after}
 use Rattle.master.specs.Answering.{message_closed, message_after, protected_of, counted_after}
@@ -30,10 +28,12 @@ use Rattle.master.proofs.History.Words.{is_transfer_lem, protected_of_lem}
 use Rattle.master.proofs.History.StatusOver.{status_over, status_counted}
 use Rattle.master.proofs.History.Agrees.{Agrees}
 use Rattle.master.specs.Run.{Held}
+use Rattle.master.specs.Answers.{TickResult}
+use Rattle.master.specs.Answers.{ByteResult}
 
 -- ---- a byte that ends its transfer
 
-module _ (t : List ℕ) (h : Seq Scheduled) (x : Held) (is : Agrees t h x) (y : Scheduled) (b : ℕ) (c : ByteAnswer) (a : act y ≡ took b c) (e : is_end c ≡ true) where
+module _ (t : List ℕ) (h : Seq Scheduled) (x : Held) (is : Agrees t h x) (y : Scheduled) (b : ℕ) (c : ByteResult) (a : act y ≡ took b c) (e : is_end c ≡ true) where
   pub end_closes : closes y ≡ true
   unfolding closes
   end_closes = rw (a, e)
@@ -79,7 +79,7 @@ module _ (t : List ℕ) (h : Seq Scheduled) (x : Held) (is : Agrees t h x) where
       let o = x.state.transfer.opened in
       whether (is_open o) (λ p. rw p) (λ n. rw n (none_open (sym is.transfer.opened_is ∙ not_open o n)))
 
-  module _ (y : Scheduled) (m : List ℕ) (c : TickAnswer) (a : act y ≡ ticked m c) (s : is_start y.slot ≡ true) where
+  module _ (y : Scheduled) (m : List ℕ) (c : TickResult) (a : act y ≡ ticked m c) (s : is_start y.slot ≡ true) where
     pub start_is : starts y ≡ true
     start_is = rw (a, s)
 

@@ -7,12 +7,13 @@ use Rattle.cluster.specs.Values.{touches}
 use Rattle.transport.proofs.Tests.{whether, or_left, or_right}
 use Rattle.master.specs.declared.state.Opened.{Opened}
 use Rattle.master.specs.declared.state.Opened.TheVariants.{Nothing, Frame, Request, Response}
-use Rattle.master.specs.declared.byte.ByteAnswer.{ByteAnswer}
 use Rattle.master.specs.declared.byte.ByteAnswer.TheVariants as byte
 use Rattle.master.specs.Acts.{Act, nothing, wrote, selected, ticked, took, status_read, sending, on_write, on_tick, on_byte}
 use Rattle.master.specs.Schedule.{Scheduled, act, is_start, starts}
 use Rattle.master.specs.History.{writes, opened_as, opens, is_success, is_end, closes, succeeds, is_transfer, carries}
 use Rattle.master.proofs.Tests.{never}
+use Rattle.std.specs.Prelude.{Ok, Err}
+use Rattle.master.specs.Answers.{ByteResult}
 
 -- a transfer of a frame is open
 pub carries_open : (o : Opened) (f : ℕ) → carries o f ≡ true → is_transfer o ≡ true
@@ -47,12 +48,12 @@ module _ (x : Scheduled) where
   unfolding closes succeeds
   keeps_unsent k = go (act x) (or_right (starts x) (on_byte (λ b a. is_end a) false (act x)) k)
     where
-      ends : (a : ByteAnswer) → is_end a ≡ false → is_success a ≡ false
-      ends byte.More e = refl
-      ends byte.Success e = e
-      ends byte.Failure e = refl
-      ends byte.Response e = e
-      ends (byte.Refused r) e = refl
+      ends : (a : ByteResult) → is_end a ≡ false → is_success a ≡ false
+      ends (Ok byte.More) e = refl
+      ends (Ok byte.Success) e = e
+      ends (Ok byte.Failure) e = refl
+      ends (Ok (byte.Response bs)) e = e
+      ends (Err r) e = refl
 
       go : (a : Act) → on_byte (λ b c. is_end c) false a ≡ false → on_byte (λ b c. is_success c) false a ≡ false
       go nothing e = refl

@@ -21,9 +21,6 @@ use Rattle.master.specs.Received.{last_of, received_up_to, received_by, last_fit
 use Rattle.cluster.specs.Check.{taken_of, faults, surplus, judged}
 use Rattle.cluster.specs.Fresh.{start_at, put_start, filled, fresh_bytes}
 use Rattle.cluster.specs.Values.{touches, first_placement, signal_published, value_fits, scalar_at, array_at, with_scalar, handed_out, start_read}
-use Rattle.master.specs.declared.start.FreshAnswer.TheVariants.{Fresh}
-use Rattle.master.specs.declared.write.WriteAnswer.TheVariants.{Written}
-use Rattle.master.specs.declared.select.SelectAnswer.TheVariants.{Selected}
 use Rattle.master.specs.declared.tick.TickAnswer.TheVariants.{Opened}
 use Rattle.master.specs.declared.byte.ByteAnswer.TheVariants.{More, Success}
 use Rattle.master.specs.Admit.{buffer_size, admitted}
@@ -43,12 +40,13 @@ use Rattle.master.specs.Calls.{Call, select, write, tick, byte_in}
 use Rattle.master.specs.Run.{answer_of, left_by, held_after, history_of}
 use Rattle.master.specs.Schedule.{slot_begun, none, entry, Scheduled, slot_of, slot_due, plan_with, plan_by, plan_after, schedule, scheduled, slot_after}
 use Rattle.master.specs.History.{writes, frame_named, transfer_named, opens, closes, succeeds, open_after, Succeeded, successes}
-use Rattle.master.specs.Replies.{plain, none_left, one_more}
+use Rattle.master.specs.Replies.{none_left, one_more}
 use Rattle.master.specs.Claim.{record_of, event}
 use Rattle.master.proofs.History.Computed.{rewritten_after, wipes, pending_after}
 use Rattle.master.proofs.History.PendingLaw.{pending_iff}
 use Rattle.master.proofs.History.Claimed.{demand_3}
 use Rattle.master.specs.Put.{put, scalar}
+use Rattle.std.specs.Prelude.{Ok}
 
 -- two frames of one byte with a signal in each, both in list 0, and a schedule of one slot of that list, at every tick
 abbrev table : List ℕ
@@ -73,19 +71,19 @@ abbrev calls : Seq Call
 calls = ∅ ▹ select 0 ▹ write (put 1 (scalar 5)) ▹ write (put 0 (scalar 7)) ▹ tick [] ▹ byte_in 7 ▹ byte_in 182 ▹ tick [] ▹ byte_in 5 ▹ byte_in 247
 
 abbrev writing : Seq Scheduled
-writing = ∅ ▹ event (select 0) Selected none none ▹ event (write (put 1 (scalar 5))) Written none none ▹ event (write (put 0 (scalar 7))) Written none none
+writing = ∅ ▹ event (select 0) (Ok tt) none none ▹ event (write (put 1 (scalar 5))) (Ok tt) none none ▹ event (write (put 0 (scalar 7))) (Ok tt) none none
 
 abbrev sending : Seq Scheduled
 sending =
     ∅
-    ▹ event (tick []) (Opened 66) (entry 0) (entry 0)
-    ▹ event (byte_in 7) (plain More) none (entry 0)
-    ▹ event (byte_in 182) (plain Success) none (entry 0)
-    ▹ event (tick []) (Opened 3) (entry 0) (entry 0)
-    ▹ event (byte_in 5) (plain More) none (entry 0)
-    ▹ event (byte_in 247) (plain Success) none (entry 0)
+    ▹ event (tick []) (Ok (Opened 66)) (entry 0) (entry 0)
+    ▹ event (byte_in 7) (Ok More) none (entry 0)
+    ▹ event (byte_in 182) (Ok Success) none (entry 0)
+    ▹ event (tick []) (Ok (Opened 3)) (entry 0) (entry 0)
+    ▹ event (byte_in 5) (Ok More) none (entry 0)
+    ▹ event (byte_in 247) (Ok Success) none (entry 0)
 
-accepted : (fresh_of table buffer).given.answer ≡ Fresh
+accepted : (fresh_of table buffer).given.answer ≡ Ok tt
 unfolding fresh_of fresh_verdict buffer_size taken_of judged faults surplus words_right front_right back_right placement_right earlier_placement again mixed sticks_out all_placed placed_signals placement_count placement_signal placement_frame placement_offset
     placement_width placement_columns some_placement at_each start_at first_placement records header_right frame_right any_below
     signal_right offset_right width_right start_limit occupied_before overlaps member_right entry_right target_right word frame_count

@@ -11,22 +11,23 @@ use Rattle.cluster.specs.Table.{identifier}
 use Rattle.transport.proofs.Tests.{whether}
 use Rattle.master.specs.declared.state.Opened.{Opened}
 use Rattle.master.specs.declared.state.Opened.TheVariants.{Nothing, Frame, Request, Response}
-use Rattle.master.specs.declared.tick.TickAnswer.{TickAnswer}
 use Rattle.master.specs.declared.tick.TickAnswer.TheVariants.{Silent, Opened as opens}
 use Rattle.master.specs.Tick.{first_pending}
 use Rattle.master.specs.Replies.{Takes, takes, leaves}
 use Rattle.master.proofs.Tests.{never}
+use Rattle.std.specs.Prelude.{Ok}
+use Rattle.master.specs.Answers.{TickResult}
 
 unfoldable pub first_with : (ℕ → Bool) → List ℕ → Opened
 first_with p [] = Nothing
 first_with p (f ∷ fs) = cond (p f) (Frame f) (first_with p fs)
 
 -- what a tick answers where its slot opens something or nothing
-abbrev pub answer_for : List ℕ → Opened → TickAnswer
-answer_for t Nothing = Silent
-answer_for t (Frame f) = opens (protected_byte (identifier t f))
-answer_for t Request = opens (protected_byte 60)
-answer_for t Response = opens (protected_byte 61)
+abbrev pub answer_for : List ℕ → Opened → TickResult
+answer_for t Nothing = Ok Silent
+answer_for t (Frame f) = Ok (opens (protected_byte (identifier t f)))
+answer_for t Request = Ok (opens (protected_byte 60))
+answer_for t Response = Ok (opens (protected_byte 61))
 
 -- the first pending member of a list, by bits that say what p says
 pub first_pending_lem : (bits : List Bool) (p : ℕ → Bool) → ((f : ℕ) → get_or bits f false ≡ p f) → (fs : List ℕ) → first_pending bits fs ≡ first_with p fs
@@ -39,7 +40,7 @@ module _ (t : List ℕ) (p : ℕ → Bool) (P : ℕ → Type 0) (decides : (f : 
   passed : (f : ℕ) (gs : List ℕ) → p f ≡ false → ((g : ℕ) → Memᴰ g gs → ¬ P g) → (g : ℕ) → Memᴰ g (f ∷ gs) → ¬ P g
   passed f gs b n g i x = ⊎_elim (λ e. never (sym b ∙ (ap p (sym e) ∙ (decides g).1 x))) (λ j. n g j x) (Memᴰ.cases_cons i)
 
-  later : (f : ℕ) (fs : List ℕ) {a : TickAnswer} → p f ≡ false → Takes t P fs a → Takes t P (f ∷ fs) a
+  later : (f : ℕ) (fs : List ℕ) {a : TickResult} → p f ≡ false → Takes t P fs a → Takes t P (f ∷ fs) a
   later f fs b (takes ahead behind g e n x) = takes (f ∷ ahead) behind g (ap (λ gs. f ∷ gs) e) (passed f ahead b n) x
   later f fs b (leaves n) = leaves (passed f fs b n)
 
@@ -51,7 +52,7 @@ module _ (t : List ℕ) (p : ℕ → Bool) (P : ℕ → Type 0) (decides : (f : 
       (λ b. rw b (takes [] fs f refl (λ g i. absurd (Memᴰ.not-nil i)) ((decides f).0 b)))
       (λ b. rw b (later f fs b (first_takes fs)))
 
--- a frame with p is reached: the slot opens it, or one with p ahead of it
+-- a frame with p is reached: the slot (Ok opens) it, or one with p ahead of it
 pub first_reaches : (p : ℕ → Bool) (ahead behind : List ℕ) (f : ℕ) → p f ≡ true
     → (g : ℕ) × (first_with p (ahead ++ (f ∷ behind)) ≡ Frame g) × ((g ≡ f) ⊎ (Memᴰ g ahead × (p g ≡ true)))
 unfolding first_with

@@ -17,7 +17,6 @@ use Rattle.cluster.proofs.Starts.{fresh_length}
 use Rattle.transport.proofs.Tests.{whether, order}
 use Rattle.master.specs.declared.state.Opened.{Opened}
 use Rattle.master.specs.declared.state.Opened.TheVariants.{Nothing, Frame, Request, Response}
-use Rattle.master.specs.declared.byte.ByteAnswer.{ByteAnswer}
 use Rattle.master.specs.Admit.{buffer_size}
 use Rattle.master.specs.Closing.{pending_sent}
 use Rattle.master.specs.Write.{marked_from}
@@ -34,6 +33,7 @@ use Rattle.master.proofs.History.Quiet.{is_quiet, quiet_byte, quiet_write, quiet
 use Rattle.master.proofs.History.SameBytes.{SameBytes, same_refl, same_written}
 use Rattle.master.proofs.ReadBack.{value_length}
 use Rattle.master.specs.Put.{Value, with_value}
+use Rattle.master.specs.Answers.{ByteResult}
 
 -- the bits and the bytes, whatever holds them
 pub record FramesAre (t : List ℕ) (h : Seq Scheduled) (bits : List Bool) (bs : List ℕ) : Type 0 where
@@ -78,7 +78,7 @@ module _ (t : List ℕ) (h : Seq Scheduled) (bits : List Bool) (bs : List ℕ) (
       (written_quiet t h y q)
 
   -- a byte that is not answered with success
-  pub frames_byte : (b : ℕ) (c : ByteAnswer) → act y ≡ took b c → is_success c ≡ false → FramesAre t (h ▹ y) bits bs
+  pub frames_byte : (b : ℕ) (c : ByteResult) → act y ≡ took b c → is_success c ≡ false → FramesAre t (h ▹ y) bits bs
   unfolding succeeds writes bytes_after written_bytes
   frames_byte b c a n = kept (λ f. rw a) (rw a n) (rw (a, n)) (rw a)
 
@@ -99,7 +99,7 @@ module _ (t : List ℕ) (h : Seq Scheduled) (bits : List Bool) (bs : List ℕ) (
       touched_bit f w = omega (arith, touched_below t ok s f w, frame_count_lem t ok, is.bit_count)
 
   -- a byte that is answered with success: the bit of the frame that was sent
-  module _ (b : ℕ) (c : ByteAnswer) (a : act y ≡ took b c) (good : is_success c ≡ true) where
+  module _ (b : ℕ) (c : ByteResult) (a : act y ≡ took b c) (good : is_success c ≡ true) where
     sent_succeeds : succeeds y ≡ true
     unfolding succeeds
     sent_succeeds = rw a good

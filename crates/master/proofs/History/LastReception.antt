@@ -1,7 +1,7 @@
 -- In every history a signal that the master does not publish reads as the last successful reception of a frame that has it brought it, or as its start
 -- value.
 use Prim.Native.Nat.{ℕ, ◌+◌, ◌*◌, ◌/◌, ◌%◌, ◌<◌, ◌≤◌}
-use mathlib.Core.Path.{◌≡◌, refl, sym, ◌∙◌, ap}
+use mathlib.Core.Path.{◌≡◌, refl, sym, ◌∙◌}
 use mathlib.Core.Bool.{Bool, true, false}
 use mathlib.Core.List.{List}
 use native.Mathlib.Nat.{mod-eq_of_lt}
@@ -27,17 +27,10 @@ use Rattle.cluster.proofs.SignalLaws.{array_start_high}
 use Rattle.transport.specs.Reassembly.{written}
 use Rattle.transport.proofs.WrittenLaws.{written_inside, written_before, written_behind}
 use Rattle.transport.proofs.Tests.{whether}
-use Rattle.master.specs.declared.start.FreshAnswer.TheVariants.{Fresh}
 use Rattle.master.specs.declared.state.Opened.{Opened}
 use Rattle.master.specs.declared.state.Opened.TheVariants.{Nothing, Frame, Request, Response}
-use Rattle.master.specs.declared.write.WriteAnswer.TheVariants as write
-use Rattle.master.specs.declared.select.SelectAnswer.TheVariants as select
 use Rattle.master.specs.declared.tick.TickAnswer.TheVariants as tick
 use Rattle.master.specs.declared.byte.ByteAnswer.TheVariants as byte
-use Rattle.master.specs.declared.read.StatusAnswer.TheVariants as status
-use Rattle.master.specs.declared.send.SendAnswer.TheVariants as send
-use Rattle.master.specs.declared.state.Last.{Last}
-use Rattle.master.specs.declared.state.Last.TheVariants.{Never, Placement}
 use Rattle.master.specs.Put.{Value, with_value}
 use Rattle.master.specs.Write.{is_bytes, fits_signal}
 use Rattle.master.specs.Start.{fresh_of}
@@ -60,11 +53,14 @@ use Rattle.master.proofs.Admitted.{fits_clauses}
 use Rattle.master.proofs.History.LastWrite.{Holds, holds_other, holds_bits, call_allowed, read_number_lem, reads}
 use Rattle.master.proofs.History.Runs.{RepliesTo, good_step, table_taken, fresh_table, agrees}
 use Rattle.master.proofs.History.Steps.{steps}
+use Rattle.std.specs.Prelude.{Ok}
+use Rattle.std.specs.Prelude.{Err}
+use Rattle.std.specs.Prelude.{Some, None, Option}
 
 -- what is known of a signal, and what the buffer then holds
-abbrev Known : List ℕ → List ℕ → ℕ → Last → Value → Type 0
-Known t bs s Never v = v ≡ start_value t s
-Known t bs s (Placement k) v = Of t s k × Holds t bs s k v
+abbrev Known : List ℕ → List ℕ → ℕ → Option ℕ → Value → Type 0
+Known t bs s None v = v ≡ start_value t s
+Known t bs s (Some k) v = Of t s k × Holds t bs s k v
 
 module _ (t : List ℕ) (ok : RightTable t) (bs : List ℕ) (size : length bs ≡ 8 * frame_count t) (f : ℕ) (there : f < frame_count t)
     (ds : List ℕ) (long : length ds ≡ frame_length t f) where
@@ -96,7 +92,7 @@ module _ (t : List ℕ) (ok : RightTable t) (bs : List ℕ) (size : length bs �
 
   module _ (s : ℕ) (hs : s < signal_count t) where
     -- a success of a frame that has the signal brings it
-    brought_holds : touches t s f ≡ true → Known t (written bs (8 * f) ds) s (Placement (placement_in t s f)) (brought_by t s f ds)
+    brought_holds : touches t s f ≡ true → Known t (written bs (8 * f) ds) s (Some (placement_in t s f)) (brought_by t s f ds)
     unfolding brought_by array_fits scalar_at array_at get_scalar get_array placement_width
     brought_holds y =
         whether (is_array t s)
@@ -134,10 +130,10 @@ module _ (t : List ℕ) (ok : RightTable t) (bs : List ℕ) (size : length bs �
         scalar_is = number_ext _ to from (λ i b. at_bit i (omega arith))
 
     -- one of another frame leaves it
-    left_holds : touches t s f ≡ false → (l : Last) (v : Value) → Known t bs s l v → Known t (written bs (8 * f) ds) s l v
+    left_holds : touches t s f ≡ false → (l : Option ℕ) (v : Value) → Known t bs s l v → Known t (written bs (8 * f) ds) s l v
     unfolding touches
-    left_holds n Never v is = is
-    left_holds n (Placement k) v is =
+    left_holds n None v is = is
+    left_holds n (Some k) v is =
         let o = is.0 in (
           o,
           holds_bits t ok s hs k o (written bs (8 * f) ds) bs (other_bit k o.there (λ e.
@@ -155,25 +151,25 @@ module _ (t : List ℕ) (h : Seq Scheduled) (f : ℕ) (op : open_after t h ≡ F
   came (call.byte_in b ⇒ r) e y =
       whether (ltb (length (got_after h)) (frame_length t f))
       (λ l.
-      let q : r.answer ≡ byte.More = ap (λ z. z.answer) e ∙ rw (op, p, l) in
+      let q : r ≡ Ok byte.More = e ∙ rw (op, p, l) in
       let n = rw q at y in
       let z : ◌≡◌ {A = ℕ} 0 1 = cc in absurd (omega arith))
       (λ l. omega (arith, ltb-false (length (got_after h)) (frame_length t f) l))
-  came (call.write w ⇒ write.Written) e y = let z : ◌≡◌ {A = ℕ} 0 1 = cc in absurd (omega arith)
-  came (call.write w ⇒ write.Refused r) e y = let z : ◌≡◌ {A = ℕ} 0 1 = cc in absurd (omega arith)
+  came (call.write w ⇒ Ok tt) e y = let z : ◌≡◌ {A = ℕ} 0 1 = cc in absurd (omega arith)
+  came (call.write w ⇒ Err r) e y = let z : ◌≡◌ {A = ℕ} 0 1 = cc in absurd (omega arith)
   came (call.read s ⇒ a) e y = let z : ◌≡◌ {A = ℕ} 0 1 = cc in absurd (omega arith)
   came (call.read_array s ⇒ a) e y = let z : ◌≡◌ {A = ℕ} 0 1 = cc in absurd (omega arith)
-  came (call.select n ⇒ select.Selected) e y = let z : ◌≡◌ {A = ℕ} 0 1 = cc in absurd (omega arith)
-  came (call.select n ⇒ select.Refused r) e y = let z : ◌≡◌ {A = ℕ} 0 1 = cc in absurd (omega arith)
-  came (call.tick m ⇒ tick.Waiting) e y = let z : ◌≡◌ {A = ℕ} 0 1 = cc in absurd (omega arith)
-  came (call.tick m ⇒ tick.Idle) e y = let z : ◌≡◌ {A = ℕ} 0 1 = cc in absurd (omega arith)
-  came (call.tick m ⇒ tick.Silent) e y = let z : ◌≡◌ {A = ℕ} 0 1 = cc in absurd (omega arith)
-  came (call.tick m ⇒ tick.Opened q) e y = let z : ◌≡◌ {A = ℕ} 0 1 = cc in absurd (omega arith)
-  came (call.tick m ⇒ tick.Refused r) e y = let z : ◌≡◌ {A = ℕ} 0 1 = cc in absurd (omega arith)
-  came (call.read_status ⇒ status.Word w) e y = let z : ◌≡◌ {A = ℕ} 0 1 = cc in absurd (omega arith)
-  came (call.read_status ⇒ status.Refused r) e y = let z : ◌≡◌ {A = ℕ} 0 1 = cc in absurd (omega arith)
-  came (call.send nad n ⇒ send.Sending) e y = let z : ◌≡◌ {A = ℕ} 0 1 = cc in absurd (omega arith)
-  came (call.send nad n ⇒ send.Refused r) e y = let z : ◌≡◌ {A = ℕ} 0 1 = cc in absurd (omega arith)
+  came (call.select n ⇒ Ok tt) e y = let z : ◌≡◌ {A = ℕ} 0 1 = cc in absurd (omega arith)
+  came (call.select n ⇒ Err r) e y = let z : ◌≡◌ {A = ℕ} 0 1 = cc in absurd (omega arith)
+  came (call.tick m ⇒ Ok tick.Waiting) e y = let z : ◌≡◌ {A = ℕ} 0 1 = cc in absurd (omega arith)
+  came (call.tick m ⇒ Ok tick.Idle) e y = let z : ◌≡◌ {A = ℕ} 0 1 = cc in absurd (omega arith)
+  came (call.tick m ⇒ Ok tick.Silent) e y = let z : ◌≡◌ {A = ℕ} 0 1 = cc in absurd (omega arith)
+  came (call.tick m ⇒ Ok (tick.Opened q)) e y = let z : ◌≡◌ {A = ℕ} 0 1 = cc in absurd (omega arith)
+  came (call.tick m ⇒ Err r) e y = let z : ◌≡◌ {A = ℕ} 0 1 = cc in absurd (omega arith)
+  came (call.read_status ⇒ Ok w) e y = let z : ◌≡◌ {A = ℕ} 0 1 = cc in absurd (omega arith)
+  came (call.read_status ⇒ Err r) e y = let z : ◌≡◌ {A = ℕ} 0 1 = cc in absurd (omega arith)
+  came (call.send nad n ⇒ Ok tt) e y = let z : ◌≡◌ {A = ℕ} 0 1 = cc in absurd (omega arith)
+  came (call.send nad n ⇒ Err r) e y = let z : ◌≡◌ {A = ℕ} 0 1 = cc in absurd (omega arith)
   came (call.message_state ⇒ a) e y = let z : ◌≡◌ {A = ℕ} 0 1 = cc in absurd (omega arith)
   came (call.number_ahead g ⇒ a) e y = let z : ◌≡◌ {A = ℕ} 0 1 = cc in absurd (omega arith)
 
@@ -184,10 +180,10 @@ Complete t h x =
 
 module _ (t : List ℕ) (ok : RightTable t) (s : ℕ) (hs : s < signal_count t) (theirs : signal_published t s ≡ false) where
   -- a write is one of another signal
-  known_written : (bs : List ℕ) (r : ℕ) (w : Value) → Writable t r (is_bytes w) (fits_signal t r w) → (l : Last) (v : Value) → Known t bs s l v
+  known_written : (bs : List ℕ) (r : ℕ) (w : Value) → Writable t r (is_bytes w) (fits_signal t r w) → (l : Option ℕ) (v : Value) → Known t bs s l v
       → Known t (with_value t bs r w) s l v
-  known_written bs r w a Never v is = is
-  known_written bs r w a (Placement k) v is =
+  known_written bs r w a None v is = is
+  known_written bs r w a (Some k) v is =
       (is.0, holds_other t ok s hs k is.0 bs r (λ e. let q = a.is_published in let z : ◌≡◌ {A = ℕ} 0 1 = cc in omega arith) w a v is.1)
 
   known_event : (h : Seq Scheduled) (x : Scheduled) → length (bytes_after t h) ≡ 8 * frame_count t
@@ -223,7 +219,7 @@ module _ (t : List ℕ) (ok : RightTable t) (s : ℕ) (hs : s < signal_count t) 
 
 -- ---- every history
 
-module _ (t bs : List ℕ) (accepted : (fresh_of t bs).given.answer ≡ Fresh) (s : ℕ) (hs : s < signal_count t) (theirs : signal_published t s ≡ false) where
+module _ (t bs : List ℕ) (accepted : (fresh_of t bs).given.answer ≡ Ok tt) (s : ℕ) (hs : s < signal_count t) (theirs : signal_published t s ≡ false) where
   ok : RightTable t
   ok = fresh_table t bs accepted
 
@@ -253,7 +249,7 @@ module _ (t bs : List ℕ) (accepted : (fresh_of t bs).given.answer ≡ Fresh) (
       known_event t ok s hs theirs h (schedule t h (c ⇒ answer_of t x c)) (all_length cs) (call_allowed t x c) (complete cs c) (known_after cs)
 
   -- before any reception it reads as its start value
-  reads_start : (cs : Seq Call) → received_after t (record_of t bs cs) s ≡ Never → ReadsAs t (held_after t bs cs) s (start_value t s)
+  reads_start : (cs : Seq Call) → received_after t (record_of t bs cs) s ≡ None → ReadsAs t (held_after t bs cs) s (start_value t s)
   unfolding start_value read_from read_reply read_array_reply scalar_read array_given start_read handed_out
   reads_start cs e =
       let h = record_of t bs cs in
@@ -276,7 +272,7 @@ module _ (t bs : List ℕ) (accepted : (fresh_of t bs).given.answer ≡ Fresh) (
       v : Value
       v = received_value t s (record_of t bs cs)
 
-      by : (l : Last) → received_after t (record_of t bs cs) s ≡ l → Known t (bytes_after t (record_of t bs cs)) s l v → ReadsAs t (held_after t bs cs) s v
-      by Never e is = rw is (reads_start cs e)
-      by (Placement k) e is =
+      by : (l : Option ℕ) → received_after t (record_of t bs cs) s ≡ l → Known t (bytes_after t (record_of t bs cs)) s l v → ReadsAs t (held_after t bs cs) s v
+      by None e is = rw is (reads_start cs e)
+      by (Some k) e is =
           reads t bs accepted s hs cs k (rw (theirs, e)) v (rw (agrees t bs accepted cs).frames.bytes_are is.1)

@@ -21,20 +21,10 @@ use Rattle.cluster.proofs.SomePlacement.{Of}
 use Rattle.cluster.proofs.FreshLaws.{array_length_lem, fresh_scalar, fresh_array}
 use Rattle.cluster.proofs.ValueLaws.{scalar_at_own, array_at_own, read_scalar_at, read_array_at, other_scalar_scalar, other_array_scalar, other_scalar_array, other_array_array}
 use Rattle.transport.proofs.Tests.{whether}
-use Rattle.master.specs.declared.start.FreshAnswer.TheVariants.{Fresh}
-use Rattle.master.specs.declared.state.Last.TheVariants.{Placement}
 use Rattle.master.specs.Start.{fresh_of}
-use Rattle.master.specs.declared.select.SelectAnswer.{SelectAnswer}
-use Rattle.master.specs.declared.select.SelectAnswer.TheVariants as select
-use Rattle.master.specs.declared.tick.TickAnswer.{TickAnswer}
 use Rattle.master.specs.declared.tick.TickAnswer.TheVariants as tick
-use Rattle.master.specs.declared.byte.ByteAnswer.{ByteAnswer}
 use Rattle.master.specs.declared.byte.ByteAnswer.TheVariants as byte
-use Rattle.master.specs.declared.read.StatusAnswer.{StatusAnswer}
-use Rattle.master.specs.declared.read.StatusAnswer.TheVariants as status
-use Rattle.master.specs.declared.send.SendAnswer.{SendAnswer}
-use Rattle.master.specs.declared.send.SendAnswer.TheVariants as send
-use Rattle.master.specs.declared.write.Wrote.{Wrote}
+use Rattle.master.specs.Answers.{Wrote}
 use Rattle.master.specs.Admit.{buffer_size, admitted, Step}
 use Rattle.master.specs.Put.{Value, scalar, array, Put, with_value}
 use Rattle.master.specs.Write.{is_bytes, fits_signal, write_verdict, write_of}
@@ -54,6 +44,14 @@ use Rattle.master.proofs.History.SameBytes.{SameBytes}
 use Rattle.master.proofs.History.Agrees.{Agrees}
 use Rattle.master.proofs.History.Steps.{steps}
 use Rattle.master.proofs.History.Runs.{table_taken, fresh_table, agrees}
+use Rattle.std.specs.Prelude.{Ok}
+use Rattle.std.specs.Prelude.{Err}
+use Rattle.master.specs.Answers.{SelectAnswer}
+use Rattle.master.specs.Answers.{SendAnswer}
+use Rattle.master.specs.Answers.{StatusAnswer}
+use Rattle.master.specs.Answers.{TickResult}
+use Rattle.master.specs.Answers.{ByteResult}
+use Rattle.std.specs.Prelude.{Some}
 
 -- a buffer holds a value in a placement of a signal
 abbrev pub Holds : List ℕ → List ℕ → ℕ → ℕ → Value → Type 0
@@ -121,31 +119,31 @@ module _ (t : List ℕ) (ok : RightTable t) (s : ℕ) (hs : s < signal_count t) 
 -- ---- the events of a run
 
 -- only a write that is answered with written counts as one
-tick_wrote : (m : List ℕ) (a : TickAnswer) (r : ℕ) (v : Value) → ¬ (tick_act m a ≡ wrote r v)
-tick_wrote m tick.Waiting r v e = let z : ◌≡◌ {A = ℕ} 0 1 = cc in omega arith
-tick_wrote m tick.Idle r v e = let z : ◌≡◌ {A = ℕ} 0 1 = cc in omega arith
-tick_wrote m tick.Silent r v e = let z : ◌≡◌ {A = ℕ} 0 1 = cc in omega arith
-tick_wrote m (tick.Opened p) r v e = let z : ◌≡◌ {A = ℕ} 0 1 = cc in omega arith
-tick_wrote m (tick.Refused q) r v e = let z : ◌≡◌ {A = ℕ} 0 1 = cc in omega arith
+tick_wrote : (m : List ℕ) (a : TickResult) (r : ℕ) (v : Value) → ¬ (tick_act m a ≡ wrote r v)
+tick_wrote m (Ok tick.Waiting) r v e = let z : ◌≡◌ {A = ℕ} 0 1 = cc in omega arith
+tick_wrote m (Ok tick.Idle) r v e = let z : ◌≡◌ {A = ℕ} 0 1 = cc in omega arith
+tick_wrote m (Ok tick.Silent) r v e = let z : ◌≡◌ {A = ℕ} 0 1 = cc in omega arith
+tick_wrote m (Ok (tick.Opened p)) r v e = let z : ◌≡◌ {A = ℕ} 0 1 = cc in omega arith
+tick_wrote m (Err q) r v e = let z : ◌≡◌ {A = ℕ} 0 1 = cc in omega arith
 
-byte_wrote : (b : ℕ) (a : ByteAnswer) (r : ℕ) (v : Value) → ¬ (byte_act b a ≡ wrote r v)
-byte_wrote b byte.More r v e = let z : ◌≡◌ {A = ℕ} 0 1 = cc in omega arith
-byte_wrote b byte.Success r v e = let z : ◌≡◌ {A = ℕ} 0 1 = cc in omega arith
-byte_wrote b byte.Failure r v e = let z : ◌≡◌ {A = ℕ} 0 1 = cc in omega arith
-byte_wrote b byte.Response r v e = let z : ◌≡◌ {A = ℕ} 0 1 = cc in omega arith
-byte_wrote b (byte.Refused q) r v e = let z : ◌≡◌ {A = ℕ} 0 1 = cc in omega arith
+byte_wrote : (b : ℕ) (a : ByteResult) (r : ℕ) (v : Value) → ¬ (byte_act b a ≡ wrote r v)
+byte_wrote b (Ok byte.More) r v e = let z : ◌≡◌ {A = ℕ} 0 1 = cc in omega arith
+byte_wrote b (Ok byte.Success) r v e = let z : ◌≡◌ {A = ℕ} 0 1 = cc in omega arith
+byte_wrote b (Ok byte.Failure) r v e = let z : ◌≡◌ {A = ℕ} 0 1 = cc in omega arith
+byte_wrote b (Ok (byte.Response bs)) r v e = let z : ◌≡◌ {A = ℕ} 0 1 = cc in omega arith
+byte_wrote b (Err q) r v e = let z : ◌≡◌ {A = ℕ} 0 1 = cc in omega arith
 
 select_wrote : (n : ℕ) (a : SelectAnswer) (r : ℕ) (v : Value) → ¬ (select_act n a ≡ wrote r v)
-select_wrote n select.Selected r v e = let z : ◌≡◌ {A = ℕ} 0 1 = cc in omega arith
-select_wrote n (select.Refused q) r v e = let z : ◌≡◌ {A = ℕ} 0 1 = cc in omega arith
+select_wrote n (Ok tt) r v e = let z : ◌≡◌ {A = ℕ} 0 1 = cc in omega arith
+select_wrote n (Err q) r v e = let z : ◌≡◌ {A = ℕ} 0 1 = cc in omega arith
 
 status_wrote : (a : StatusAnswer) (r : ℕ) (v : Value) → ¬ (status_act a ≡ wrote r v)
-status_wrote (status.Word w) r v e = let z : ◌≡◌ {A = ℕ} 0 1 = cc in omega arith
-status_wrote (status.Refused q) r v e = let z : ◌≡◌ {A = ℕ} 0 1 = cc in omega arith
+status_wrote (Ok w) r v e = let z : ◌≡◌ {A = ℕ} 0 1 = cc in omega arith
+status_wrote (Err q) r v e = let z : ◌≡◌ {A = ℕ} 0 1 = cc in omega arith
 
 send_wrote : (nad n : ℕ) (a : SendAnswer) (r : ℕ) (v : Value) → ¬ (send_act nad n a ≡ wrote r v)
-send_wrote nad n send.Sending r v e = let z : ◌≡◌ {A = ℕ} 0 1 = cc in omega arith
-send_wrote nad n (send.Refused q) r v e = let z : ◌≡◌ {A = ℕ} 0 1 = cc in omega arith
+send_wrote nad n (Ok tt) r v e = let z : ◌≡◌ {A = ℕ} 0 1 = cc in omega arith
+send_wrote nad n (Err q) r v e = let z : ◌≡◌ {A = ℕ} 0 1 = cc in omega arith
 
 -- an accepted write is one that the table allows
 write_allowed : (t : List ℕ) (x : Held) (w : Put) (r : ℕ) (v : Value) → act_of (call.write w ⇒ answer_of t x (call.write w)) ≡ wrote r v
@@ -167,7 +165,7 @@ call_allowed t x (call.read s) r v e = let z : ◌≡◌ {A = ℕ} 0 1 = cc in a
 call_allowed t x (call.read_array s) r v e = let z : ◌≡◌ {A = ℕ} 0 1 = cc in absurd (omega arith)
 call_allowed t x (call.select n) r v e = absurd (select_wrote n (answer_of t x (call.select n)) r v e)
 call_allowed t x (call.tick m) r v e = absurd (tick_wrote m (answer_of t x (call.tick m)) r v e)
-call_allowed t x (call.byte_in b) r v e = absurd (byte_wrote b (answer_of t x (call.byte_in b)).answer r v e)
+call_allowed t x (call.byte_in b) r v e = absurd (byte_wrote b (answer_of t x (call.byte_in b)) r v e)
 call_allowed t x call.read_status r v e = absurd (status_wrote (answer_of t x call.read_status) r v e)
 call_allowed t x (call.send nad n) r v e = absurd (send_wrote nad n (answer_of t x (call.send nad n)) r v e)
 call_allowed t x call.message_state r v e = let z : ◌≡◌ {A = ℕ} 0 1 = cc in absurd (omega arith)
@@ -175,7 +173,7 @@ call_allowed t x (call.number_ahead f) r v e = let z : ◌≡◌ {A = ℕ} 0 1 =
 
 -- ---- every history
 
-module _ (t bs : List ℕ) (accepted : (fresh_of t bs).given.answer ≡ Fresh) (s : ℕ) (hs : s < signal_count t) where
+module _ (t bs : List ℕ) (accepted : (fresh_of t bs).given.answer ≡ Ok tt) (s : ℕ) (hs : s < signal_count t) where
   ok : RightTable t
   ok = fresh_table t bs accepted
 
@@ -205,7 +203,7 @@ module _ (t bs : List ℕ) (accepted : (fresh_of t bs).given.answer ≡ Fresh) (
   read_number_lem false a = rw (lt-ltb s (signal_count t) hs, a)
 
   -- a read that takes its value from a placement gives what is held there
-  pub reads : (cs : Seq Call) (k : ℕ) → read_from t (record_of t bs cs) s ≡ Placement k → (v : Value) → Holds t (held_after t bs cs).bytes s k v
+  pub reads : (cs : Seq Call) (k : ℕ) → read_from t (record_of t bs cs) s ≡ Some k → (v : Value) → Holds t (held_after t bs cs).bytes s k v
       → ReadsAs t (held_after t bs cs) s v
   unfolding read_reply read_array_reply scalar_read array_given array_read handed_out array_fits
   reads cs k from v h = by v h

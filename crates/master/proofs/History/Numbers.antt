@@ -6,8 +6,6 @@ use mathlib.Core.List.{List}
 use lib.Dec.{ltb, eqb}
 use Rattle.refusal.specs.declared.Refusal.{Refusal}
 use Rattle.refusal.specs.Numbers as number
-use Rattle.cluster.specs.declared.Verdict.{Verdict}
-use Rattle.cluster.specs.declared.Verdict.TheVariants.{Accepted, Refused}
 use Rattle.cluster.specs.Table.{signal_count, schedule_count, is_array}
 use Rattle.cluster.specs.Values.{signal_published}
 use Rattle.transport.specs.Cutting.{is_length}
@@ -22,10 +20,12 @@ use Rattle.master.specs.Put.{Value, scalar, array}
 use Rattle.master.specs.Write.{is_bytes, fits_signal}
 use Rattle.master.specs.Replies.{put_number}
 use Rattle.cluster.specs.Values.{value_fits, array_fits}
+use Rattle.std.specs.Prelude.{Ok, Err}
+use Rattle.cluster.specs.Check.{Verdict}
 
 -- 0 accepts
 abbrev pub by_number : ℕ → Verdict
-by_number n = cond (eqb n 0) Accepted (Refused (number.refused n))
+by_number n = cond (eqb n 0) (Ok tt) (Err (number.refused n))
 
 -- one test in front of others
 tested : (b : Bool) (n later : ℕ) → eqb n 0 ≡ false → unless b n (by_number later) ≡ by_number (test b n later)
@@ -57,19 +57,19 @@ put_verdict_lem t s (scalar v) = write_verdict_lem t s false (value_fits t s v)
 put_verdict_lem t s (array vs) = write_verdict_lem t s true (array_fits t s vs)
 
 pub read_verdict_lem : (t : List ℕ) (s : ℕ) (as_array : Bool)
-    → unless (ltb s (signal_count t)) number.unknown (unless (beq (is_array t s) as_array) number.kind Accepted) ≡ by_number (read_number t s as_array)
+    → unless (ltb s (signal_count t)) number.unknown (unless (beq (is_array t s) as_array) number.kind (Ok tt)) ≡ by_number (read_number t s as_array)
 unfolding read_number
 read_verdict_lem t s as_array =
     let k = beq (is_array t s) as_array in
     ap (λ (v : Verdict). unless (ltb s (signal_count t)) 4 v) (tested k 6 0 refl)
     ∙ tested (ltb s (signal_count t)) 4 (test k 6 0) refl
 
-pub select_verdict_lem : (t : List ℕ) (n : ℕ) → unless (ltb n (schedule_count t)) number.unknown Accepted ≡ by_number (select_number t n)
+pub select_verdict_lem : (t : List ℕ) (n : ℕ) → unless (ltb n (schedule_count t)) number.unknown (Ok tt) ≡ by_number (select_number t n)
 unfolding select_number
 select_verdict_lem t n = tested (ltb n (schedule_count t)) 4 0 refl
 
 pub send_verdict_lem : (x : Message) (n : ℕ)
-    → unless (is_length n) number.message_length (unless (not (is_sending x)) number.sending Accepted) ≡ by_number (send_number x n)
+    → unless (is_length n) number.message_length (unless (not (is_sending x)) number.sending (Ok tt)) ≡ by_number (send_number x n)
 unfolding send_number
 send_verdict_lem x n =
     rw (being_sent x)

@@ -16,13 +16,7 @@ use Rattle.cluster.specs.Table.{identifier, member_count, member_list, entry_cou
 use Rattle.cluster.specs.Lists.{members}
 use Rattle.cluster.proofs.EntryLaws.{entry_kind_high}
 use Rattle.transport.proofs.Tests.{whether}
-use Rattle.master.specs.declared.state.Current.{Current}
-use Rattle.master.specs.declared.state.Current.TheVariants as current
-use Rattle.master.specs.declared.start.FreshAnswer.TheVariants.{Fresh}
-use Rattle.master.specs.declared.tick.TickAnswer.{TickAnswer}
 use Rattle.master.specs.declared.tick.TickAnswer.TheVariants.{Opened}
-use Rattle.master.specs.declared.ahead.AheadAnswer.{AheadAnswer}
-use Rattle.master.specs.declared.ahead.AheadAnswer.TheVariants as counts
 use Rattle.master.specs.Start.{fresh_of}
 use Rattle.master.specs.Plan.{waits, entry_due}
 use Rattle.cluster.specs.Lists.{member_of, frames_ahead}
@@ -47,6 +41,10 @@ use Rattle.master.proofs.History.Words.{slot_with, slot_due_lem}
 use Rattle.master.proofs.History.Agrees.{Agrees}
 use Rattle.master.proofs.History.Steps.{steps}
 use Rattle.master.proofs.History.Runs.{fresh_taken, table_taken, fresh_table, agrees}
+use Rattle.std.specs.Prelude.{Ok}
+use Rattle.master.specs.Answers.{AheadAnswer}
+use Rattle.master.specs.Answers.{TickResult}
+use Rattle.std.specs.Prelude.{Some, None, Option}
 
 -- ---- a list slot
 
@@ -61,8 +59,8 @@ first_one P (k ∷ us) f bs (l ∷ cs) g ds e n m x y =
     first_one P us f bs cs g ds i (λ j w. n j (Memᴰ.tail w)) (λ j w. m j (Memᴰ.tail w)) x y
 
 -- so its answer is one
-takes_one : (t : List ℕ) (P : ℕ → Type 0) (fs : List ℕ) {a b : TickAnswer} → Takes t P fs a → Takes t P fs b → a ≡ b
-takes_one t P fs (takes us bs f e n x) (takes cs ds g q m y) = ap (λ k. Opened (protected_byte (identifier t k))) (first_one P us f bs cs g ds (sym e ∙ q) n m x y)
+takes_one : (t : List ℕ) (P : ℕ → Type 0) (fs : List ℕ) {a b : TickResult} → Takes t P fs a → Takes t P fs b → a ≡ b
+takes_one t P fs (takes us bs f e n x) (takes cs ds g q m y) = ap (λ k. Ok (Opened (protected_byte (identifier t k)))) (first_one P us f bs cs g ds (sym e ∙ q) n m x y)
 takes_one t P fs (takes us bs f e n x) (leaves m) = absurd (m f (subst (λ gs. Memᴰ f gs) (sym e) (Memᴰ.append_right us (Memᴰ.head refl))) x)
 takes_one t P fs (leaves n) (takes cs ds g q m y) = absurd (n g (subst (λ gs. Memᴰ g gs) (sym q) (Memᴰ.append_right cs (Memᴰ.head refl))) y)
 takes_one t P fs (leaves n) (leaves m) = refl
@@ -87,7 +85,7 @@ ahead_one t ok h f a b x y =
     let v = y.listed (member_list t (member_of t f)) (frames_ahead t f) p.0 p.1 in
     let same : u.0 ≡ v.0 =
     sym (count_is (pending_after t h) (Pending t h) (pending_iff t h) u.2) ∙ count_is (pending_after t h) (Pending t h) (pending_iff t h) v.2 in
-    u.1 ∙ ap counts.Count same ∙ sym v.1)
+    u.1 ∙ ap Ok same ∙ sym v.1)
     (λ l. x.unlisted (nowhere l) ∙ sym (y.unlisted (nowhere l)))
   where
     nowhere : ltb (member_of t f) (member_count t) ≡ false → (l : ℕ) → ¬ Memᴰ f (members t l)
@@ -108,7 +106,7 @@ kinds k h a b c d =
       ]
     ]
 
-entry_one : (t : List ℕ) (h : Seq Scheduled) (e : ℕ) (a b : TickAnswer) → entry_kind t e ≤ 3 → EntryReply t h e a → EntryReply t h e b → a ≡ b
+entry_one : (t : List ℕ) (h : Seq Scheduled) (e : ℕ) (a b : TickResult) → entry_kind t e ≤ 3 → EntryReply t h e a → EntryReply t h e b → a ≡ b
 entry_one t h e a b k x y =
     kinds (entry_kind t e) k
     (λ p. x.frame p ∙ sym (y.frame p))
@@ -117,9 +115,9 @@ entry_one t h e a b k x y =
     (λ p. x.response p ∙ sym (y.response p))
 
 -- the entry due is one of the table
-entry_of : (c : Current) (e : ℕ) → slot_with c ≡ entry e → c ≡ current.Entry e
-entry_of current.None e p = cc
-entry_of (current.Entry k) e p = let i : k ≡ e = cc in ap current.Entry i
+entry_of : (c : Option ℕ) (e : ℕ) → slot_with c ≡ entry e → c ≡ Some e
+entry_of None e p = cc
+entry_of (Some k) e p = let i : k ≡ e = cc in ap Some i
 
 due_below : (t : List ℕ) → RightTable t → (h : Seq Scheduled) (x : Held) → Agrees t h x → (e : ℕ) → slot_due t (plan_after t h) ≡ entry e → e < entry_count t
 due_below t ok h x is e p =
@@ -132,12 +130,12 @@ due_below t ok h x is e p =
     (due_there t ok plan.requested plan.current cl.schedule_there_lem cl.entry_there_lem)))
 
 module _ (t : List ℕ) (ok : RightTable t) (h : Seq Scheduled) (x : Held) (is : Agrees t h x) where
-  slot_one : (s : Slot) → slot_due t (plan_after t h) ≡ s → (a b : TickAnswer) → SlotReply t h s a → SlotReply t h s b → a ≡ b
+  slot_one : (s : Slot) → slot_due t (plan_after t h) ≡ s → (a b : TickResult) → SlotReply t h s a → SlotReply t h s b → a ≡ b
   slot_one none d a b p q = p ∙ sym q
   slot_one unscheduled d a b p q = p ∙ sym q
   slot_one (entry e) d a b p q = entry_one t h e a b (entry_kind_high t ok e (due_below t ok h x is e d)) p q
 
-  tick_one : (m : List ℕ) (a b : TickAnswer) → TickReply t h m a → TickReply t h m b → a ≡ b
+  tick_one : (m : List ℕ) (a b : TickResult) → TickReply t h m a → TickReply t h m b → a ≡ b
   tick_one m a b p q =
       whether (lent_right (message_after t h) (length m))
       (λ l. slot_one (slot_due t (plan_after t h)) refl a b (p.goes_on l) (q.goes_on l))
@@ -158,7 +156,7 @@ module _ (t : List ℕ) (ok : RightTable t) (h : Seq Scheduled) (x : Held) (is :
   one_reply (call.number_ahead f) a b p q = ahead_one t ok h f a b p q
 
 -- after every history, an answer that the claim takes is the one that the core gives
-pub only_answer : (t bs : List ℕ) → (fresh_of t bs).given.answer ≡ Fresh → (cs : Seq Call) (c : Call) (a : Answer c) → Replies t (record_of t bs cs) c a
+pub only_answer : (t bs : List ℕ) → (fresh_of t bs).given.answer ≡ Ok tt → (cs : Seq Call) (c : Call) (a : Answer c) → Replies t (record_of t bs cs) c a
     → a ≡ answer_of t (held_after t bs cs) c
 only_answer t bs accepted cs c a r =
     let is = agrees t bs accepted cs in
@@ -167,7 +165,7 @@ only_answer t bs accepted cs c a r =
 
 -- ---- whatever the core
 
-module _ (t bs : List ℕ) (accepted : (fresh_of t bs).given.answer ≡ Fresh) where
+module _ (t bs : List ℕ) (accepted : (fresh_of t bs).given.answer ≡ Ok tt) where
   -- the core's own events meet (f)
   core_meets : (cs : Seq Call) → Meets t (history_of t bs cs)
   unfolding history_of

@@ -13,7 +13,6 @@ use Rattle.master.specs.declared.state.Opened.{Opened}
 use Rattle.master.specs.declared.state.Opened.TheVariants.{Nothing, Frame, Request, Response}
 use Rattle.master.specs.declared.state.Message.{Message}
 use Rattle.master.specs.declared.state.Message.TheVariants as message
-use Rattle.master.specs.declared.tick.TickAnswer.{TickAnswer}
 use Rattle.master.specs.Admit.{buffer_size}
 use Rattle.master.specs.Fits.{frame_there, is_sending, message_fits, lent_fits}
 use Rattle.master.specs.Transfers.{format_of, open_length, open_checksum, sends, frame_data, request_data, sent_data, copied, opening}
@@ -31,6 +30,7 @@ use Rattle.master.proofs.History.Words.{data_of_lem, checksum_over_lem}
 use Rattle.master.proofs.History.NineBytes.{nine_of, nine_snoc}
 use Rattle.master.proofs.History.SameBytes.{SameBytes, same_data}
 use Rattle.master.proofs.History.TransferIs.{TransferIs}
+use Rattle.master.specs.Answers.{TickResult}
 
 -- where a request is opened, a message is being sent, it has a frame left, and it is lent whole
 pub record Sendable (x : Message) (m : List ℕ) : Type 0 where
@@ -74,7 +74,7 @@ module _ (t : List ℕ) (ok : RightTable t) (bs : List ℕ) (size : length bs �
   sent_length x m Request h s = request_data_length x m
   sent_length x m Response h s = never s
 
-  module _ (h : Seq Scheduled) (same : SameBytes t bs (written_bytes t h)) (y : Scheduled) (m : List ℕ) (c : TickAnswer) (a : act y ≡ ticked m c)
+  module _ (h : Seq Scheduled) (same : SameBytes t bs (written_bytes t h)) (y : Scheduled) (m : List ℕ) (c : TickResult) (a : act y ≡ ticked m c)
       (k : closes y ≡ true) (o : Opened) (p : opens t y ≡ o) (there : frame_there t o ≡ true) (can : Requests (message_after t (h ▹ y)) m o) where
     abbrev msg : Message
     msg = message_after t (h ▹ y)

@@ -18,7 +18,6 @@ use Rattle.cluster.proofs.SomePlacement.{Of}
 use Rattle.cluster.proofs.FreshLaws.{fresh_scalar, fresh_array}
 use Rattle.cluster.proofs.ValueLaws.{scalar_at_own, array_at_own, array_put_bit, read_scalar_at}
 use Rattle.cluster.proofs.ValueLaws.{other_scalar_scalar, other_array_scalar, other_scalar_array, other_array_array}
-use Rattle.master.specs.declared.start.FreshAnswer.TheVariants.{Fresh}
 use Rattle.master.specs.Start.{fresh_of}
 use Rattle.master.specs.Put.{Value, scalar, array, with_value}
 use Rattle.master.specs.Write.{is_bytes, fits_signal}
@@ -33,6 +32,7 @@ use Rattle.master.specs.InWords.{Alike}
 use Rattle.master.proofs.Answered.{Writable}
 use Rattle.master.proofs.History.LastWrite.{published_bits, call_allowed, written_length}
 use Rattle.master.proofs.History.Runs.{fresh_table, agrees}
+use Rattle.std.specs.Prelude.{Ok}
 
 module _ (t : List ℕ) (ok : RightTable t) (s : ℕ) (hs : s < signal_count t) (j k : ℕ) (of-j : Of t s j) (of-k : Of t s k) where
   -- a fresh buffer
@@ -91,7 +91,7 @@ module _ (t : List ℕ) (ok : RightTable t) (s : ℕ) (hs : s < signal_count t) 
       by status_read e = rw e is
       by (sending nad n) e = rw e is
 
-module _ (t bs : List ℕ) (accepted : (fresh_of t bs).given.answer ≡ Fresh) (s : ℕ) (hs : s < signal_count t) where
+module _ (t bs : List ℕ) (accepted : (fresh_of t bs).given.answer ≡ Ok tt) (s : ℕ) (hs : s < signal_count t) where
   ok : RightTable t
   ok = fresh_table t bs accepted
 

@@ -6,7 +6,6 @@ use mathlib.Core.List.{List, ◌∷◌, [], ◌++◌}
 use Rattle.cluster.specs.Values.{touches}
 use Rattle.master.specs.declared.state.Opened.{Opened}
 use Rattle.master.specs.declared.state.Opened.TheVariants.{Nothing, Frame, Request, Response}
-use Rattle.master.specs.declared.byte.ByteAnswer.{ByteAnswer}
 use Rattle.master.specs.Seq.{Seq, ◌▹◌}
 use Rattle.master.specs.Schedule.{Scheduled, act}
 use Rattle.master.specs.Acts.{Act, nothing, wrote, selected, ticked, took, status_read, sending, on_write, on_byte}
@@ -15,6 +14,7 @@ use Rattle.master.specs.Answering.{due_after}
 use Rattle.master.proofs.Tests.{never, or_false}
 use Rattle.master.proofs.History.Computed.{hits, rewritten_after, rewritten_on}
 use Rattle.master.specs.Put.{Value, with_value}
+use Rattle.master.specs.Answers.{ByteResult}
 
 -- neither a write nor a byte
 abbrev pub is_quiet : Act → Bool
@@ -35,7 +35,7 @@ quiet_write f other (took b a) q = refl
 quiet_write f other status_read q = refl
 quiet_write f other (sending nad n) q = refl
 
-pub quiet_byte : {A : Type 0} (f : ℕ → ByteAnswer → A) (other : A) (a : Act) → is_quiet a ≡ true → on_byte f other a ≡ other
+pub quiet_byte : {A : Type 0} (f : ℕ → ByteResult → A) (other : A) (a : Act) → is_quiet a ≡ true → on_byte f other a ≡ other
 quiet_byte f other nothing q = refl
 quiet_byte f other (wrote s v) q = refl
 quiet_byte f other (selected n) q = refl

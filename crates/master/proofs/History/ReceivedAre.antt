@@ -7,8 +7,6 @@ use native.Mathlib.Omega.{arith}
 use lib.ListN.{length, get_or, replicate}
 use Rattle.cluster.specs.Check.{RightTable}
 use Rattle.cluster.proofs.HeaderLaws.{signal_count_lem}
-use Rattle.master.specs.declared.state.Last.{Last}
-use Rattle.master.specs.declared.state.Last.TheVariants.{Never, Placement}
 use Rattle.master.specs.declared.state.Opened.{Opened}
 use Rattle.master.specs.declared.state.Opened.TheVariants.{Nothing, Frame, Request, Response}
 use Rattle.master.specs.declared.state.Reception.{Reception}
@@ -20,6 +18,7 @@ use Rattle.master.specs.History.{succeeds, open_after}
 use Rattle.master.specs.Answering.{received_in, received_after, scalar_read, array_given}
 use Rattle.master.specs.Transfers.{format_of, sends}
 use Rattle.master.proofs.ReceivedLaws.{never_last, frame_received, received_length}
+use Rattle.std.specs.Prelude.{Some, None, Option}
 
 pub record ReceivedAre (t : List ℕ) (h : Seq Scheduled) (rs : List Reception) : Type 0 where
   pub all : length rs ≡ 256
@@ -30,7 +29,7 @@ unfolding received_after
 received_fresh t = record { all = refl; each = never_last t 256 }
 
 -- a transfer that the master sends sets none
-sent_none : (t : List ℕ) (o : Opened) (s : ℕ) (x : Last) → sends t o ≡ true → received_in t o s x ≡ x
+sent_none : (t : List ℕ) (o : Opened) (s : ℕ) (x : Option ℕ) → sends t o ≡ true → received_in t o s x ≡ x
 unfolding received_in format_of
 sent_none t Nothing s x y = refl
 sent_none t (Frame f) s x y = rw y
@@ -66,15 +65,15 @@ module _ (t : List ℕ) (h : Seq Scheduled) (rs : List Reception) (is : Received
   }
 
 -- the value where a read takes it, in the words of the call and of the history
-pub scalars_same : (t bs : List ℕ) (s : ℕ) (x : Last) → scalar_from t bs s x ≡ scalar_read t bs s x
+pub scalars_same : (t bs : List ℕ) (s : ℕ) (x : Option ℕ) → scalar_from t bs s x ≡ scalar_read t bs s x
 unfolding scalar_from scalar_read
-scalars_same t bs s Never = refl
-scalars_same t bs s (Placement k) = refl
+scalars_same t bs s None = refl
+scalars_same t bs s (Some k) = refl
 
-pub arrays_same : (t bs : List ℕ) (s : ℕ) (x : Last) → array_from t bs s x ≡ array_given t bs s x
+pub arrays_same : (t bs : List ℕ) (s : ℕ) (x : Option ℕ) → array_from t bs s x ≡ array_given t bs s x
 unfolding array_from array_given
-arrays_same t bs s Never = refl
-arrays_same t bs s (Placement k) = refl
+arrays_same t bs s None = refl
+arrays_same t bs s (Some k) = refl
 
 -- what is kept of each signal, as the claim says it
 pub received_each : (t : List ℕ) (h : Seq Scheduled) (rs : List Reception) → ReceivedAre t h rs → (s : ℕ) → (get_or rs s never_received).last ≡ received_after t h s

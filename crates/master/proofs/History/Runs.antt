@@ -6,11 +6,9 @@ use mathlib.Core.List.{List}
 use native.Mathlib.Omega.{arith}
 use borrow.Author.Tests.{eq-eqb}
 use lib.ListN.{length, take}
-use Rattle.cluster.specs.declared.Verdict.TheVariants as verdict
 use Rattle.cluster.specs.Check.{taken_of, TakenTable, RightTable}
 use Rattle.cluster.proofs.Accepted.{then_first}
-use Rattle.master.specs.declared.start.FreshAnswer.TheVariants as start
-use Rattle.master.specs.declared.start.Started.{Started}
+use Rattle.master.specs.Answers.{Started}
 use Rattle.master.specs.Admit.{buffer_size, Step}
 use Rattle.master.specs.Start.{fresh_verdict, fresh_of}
 use Rattle.master.specs.Transfers.{is_open, open_length, sends}
@@ -30,6 +28,7 @@ use Rattle.master.proofs.History.Progress.{Lawful}
 use Rattle.master.proofs.History.Stepped.{Stepped}
 use Rattle.master.proofs.History.Steps.{steps}
 use Rattle.cluster.proofs.TakenLaws.{taken_right}
+use Rattle.std.specs.Prelude.{Ok}
 
 -- the answer of an event is the one that the history before it gives
 abbrev pub RepliesTo : List ℕ → Seq Scheduled → Event → Type 0
@@ -61,15 +60,15 @@ module _ (t : List ℕ) (h : Seq Scheduled) (x : Held) (is : Agrees t h x) (c : 
   }
 
 -- a fresh call is accepted for every accepted table and every buffer of its size
-pub fresh_taken : (t bs : List ℕ) → TakenTable t → length bs ≡ buffer_size t → (fresh_of t bs).given.answer ≡ start.Fresh
+pub fresh_taken : (t bs : List ℕ) → TakenTable t → length bs ≡ buffer_size t → (fresh_of t bs).given.answer ≡ Ok tt
 unfolding fresh_of fresh_verdict
 fresh_taken t bs ok size = rw (ok, eq-eqb (length bs) (buffer_size t) size)
 
-module _ (t bs : List ℕ) (accepted : (fresh_of t bs).given.answer ≡ start.Fresh) where
-  fresh_accepts : fresh_verdict t (length bs) ≡ verdict.Accepted
+module _ (t bs : List ℕ) (accepted : (fresh_of t bs).given.answer ≡ Ok tt) where
+  fresh_accepts : fresh_verdict t (length bs) ≡ Ok tt
   unfolding fresh_of
   fresh_accepts =
-      by_verdict (λ (w : Step Started). w.given.answer ≡ start.Fresh → fresh_verdict t (length bs) ≡ verdict.Accepted) (fresh_verdict t (length bs)) _ _
+      by_verdict (λ (w : Step Started). w.given.answer ≡ Ok tt → fresh_verdict t (length bs) ≡ Ok tt) (fresh_verdict t (length bs)) _ _
       (λ r e k. let z : ◌≡◌ {A = ℕ} 0 1 = cc in absurd (omega arith))
       (λ a k. a)
       accepted

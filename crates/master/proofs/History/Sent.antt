@@ -15,7 +15,7 @@ use Rattle.master.specs.declared.state.Opened.TheVariants.{Frame}
 use Rattle.master.specs.declared.byte.ByteAnswer.TheVariants as byte
 use Rattle.master.specs.Transfers.{format_of, open_length, sends, sent_data}
 use Rattle.master.specs.Seq.{Seq, ∅, ◌▹◌, ◌⋈◌, Each}
-use Rattle.master.specs.Calls.{byte_in, Reply}
+use Rattle.master.specs.Calls.{byte_in}
 use Rattle.master.specs.Acts.{Act, nothing, wrote, selected, ticked, took, status_read, sending, on_tick}
 use Rattle.master.specs.Schedule.{Slot, Scheduled, act, is_start, starts}
 use Rattle.master.specs.History.{opens, closes, open_after, written_bytes, response_of, got_after}
@@ -26,6 +26,8 @@ use Rattle.master.proofs.Tests.{never}
 use Rattle.master.proofs.History.Events.{starts_closes, opens_starts}
 use Rattle.master.proofs.History.Opening.{open_since}
 use Rattle.master.proofs.History.Runs.{Good}
+use Rattle.std.specs.Prelude.{Ok}
+use Rattle.master.specs.Answers.{ByteResult}
 
 -- the bytes since an opening are those of the events since
 got_since : (before : Seq Scheduled) (start : Scheduled) (during : Seq Scheduled) → closes start ≡ true → Each (λ x. closes x ≡ false) during
@@ -60,16 +62,16 @@ module _ (t : List ℕ) where
 
 -- the answer of a sent byte is success exactly where it is the last one due and all before it were right
 module _ (n : ℕ) (due got : List ℕ) (b : ℕ) (long : length due ≡ suc n) (short : length got ≤ n) (matched : got ≡ take (length got) due) where
-  last_one : sent_reply n due got b ≡ byte.Success → (length got ≡ n) × (get_or due (length got) 0 ≡ b)
+  last_one : sent_reply n due got b ≡ Ok byte.Success → (length got ≡ n) × (get_or due (length got) 0 ≡ b)
   unfolding sent_reply
   last_one e =
       whether (eqb (get_or due (length got) 0) b)
       (λ p. whether (ltb (length got) n)
-      (λ q. let z : byte.More ≡ byte.Success = rw (p, q) at e in absurd (let y : ◌≡◌ {A = ℕ} 0 1 = cc in omega arith))
+      (λ q. let z : (Ok byte.More) ≡ (Ok byte.Success) = rw (p, q) at e in absurd (let y : ◌≡◌ {A = ℕ} 0 1 = cc in omega arith))
       (λ q. (omega (arith, ltb-false (length got) n q), eqb-true (get_or due (length got) 0) b p)))
-      (λ p. let z : byte.Failure ≡ byte.Success = rw p at e in absurd (let y : ◌≡◌ {A = ℕ} 0 1 = cc in omega arith))
+      (λ p. let z : (Ok byte.Failure) ≡ (Ok byte.Success) = rw p at e in absurd (let y : ◌≡◌ {A = ℕ} 0 1 = cc in omega arith))
 
-  all_due : sent_reply n due got b ≡ byte.Success → got ++ (b ∷ []) ≡ due
+  all_due : sent_reply n due got b ≡ Ok byte.Success → got ++ (b ∷ []) ≡ due
   all_due e =
       let w = last_one e in
       let k : length got < length due = omega (arith, w.0) in
@@ -77,20 +79,20 @@ module _ (n : ℕ) (due got : List ℕ) (b : ℕ) (long : length due ≡ suc n) 
       ∙ rw (← w.1) (sym (take-suc due (length got) 0 k))
       ∙ take_all (suc (length got)) due (omega (arith, w.0))
 
-  due_all : got ++ (b ∷ []) ≡ due → sent_reply n due got b ≡ byte.Success
+  due_all : got ++ (b ∷ []) ≡ due → sent_reply n due got b ≡ Ok byte.Success
   unfolding sent_reply
   due_all e =
       let l : length got ≡ n = omega (arith, ap length e, length-append got (b ∷ [])) in
       let g : get_or due (length got) 0 ≡ b = rw (← e) (get_or_at got b [] 0 (length got) refl) in
       rw (g, eq-eqb b b refl, le-ltb (length got) n (omega (arith, l)))
 
-  pub success_iff : (sent_reply n due got b ≡ byte.Success) ↔ (got ++ (b ∷ []) ≡ due)
+  pub success_iff : (sent_reply n due got b ≡ Ok byte.Success) ↔ (got ++ (b ∷ []) ≡ due)
   success_iff = (all_due, due_all)
 
 -- part (c), at an event of which all is good
-pub sent_exactly : (t : List ℕ) (before : Seq Scheduled) (start : Scheduled) (during : Seq Scheduled) (b : ℕ) (r : Reply) (s k : Slot) (f : ℕ)
+pub sent_exactly : (t : List ℕ) (before : Seq Scheduled) (start : Scheduled) (during : Seq Scheduled) (b : ℕ) (r : ByteResult) (s k : Slot) (f : ℕ)
     → Good t (before ▹ start ⋈ during) (event (byte_in b) r s k) → opens t start ≡ Frame f → published t f ≡ true → Each (λ x. closes x ≡ false) during
-    → (r.answer ≡ byte.Success) ↔ (got_after during ++ (b ∷ []) ≡ response_of t (written_bytes t before) f)
+    → (r ≡ Ok byte.Success) ↔ (got_after during ++ (b ∷ []) ≡ response_of t (written_bytes t before) f)
 unfolding byte_reply format_of
 sent_exactly t before start during b r s k f good o p q =
     let h = before ▹ start ⋈ during in
@@ -100,8 +102,8 @@ sent_exactly t before start during b r s k f good o p q =
     let g : got_after h ≡ got_after during = got_since before start during c q in
     let d : due_after t h ≡ response_of t (written_bytes t before) f = due_since t before start during q ∙ due_opened t before start f st o in
     let snd : sends t (open_after t h) ≡ true = rw (op, p) in
-    let reply : r.answer ≡ sent_reply (open_length t (Frame f)) (response_of t (written_bytes t before) f) (got_after during) b =
-    ap (λ (z : Reply). z.answer) good.replies ∙ rw (op, p, g, d) in
+    let reply : r ≡ sent_reply (open_length t (Frame f)) (response_of t (written_bytes t before) f) (got_after during) b =
+    good.replies ∙ rw (op, p, g, d) in
     rw reply
     (success_iff (open_length t (Frame f)) (response_of t (written_bytes t before) f) (got_after during) b
     (rw (d, op) at (good.due_length snd))

@@ -4,28 +4,19 @@ use mathlib.Core.Path.{◌≡◌, refl, sym, ◌∙◌, ap}
 use mathlib.Core.Bool.{Bool, true, false}
 use mathlib.Core.List.{List}
 use native.Mathlib.Omega.{arith}
-use lib.ListN.{length, replicate}
+use lib.ListN.{length}
 use Rattle.refusal.specs.declared.Refusal.{Refusal}
 use Rattle.refusal.specs.Numbers as number
-use Rattle.cluster.specs.declared.Verdict.TheVariants as verdict
-use Rattle.cluster.specs.Check.{TakenTable, RightTable}
+use Rattle.cluster.specs.Check.{TakenTable, RightTable, Verdict}
 use Rattle.cluster.specs.declared.values.Array.{Array}
 use Rattle.transport.proofs.Tests.{whether}
 use Rattle.master.specs.declared.state.State.{State}
-use Rattle.master.specs.declared.write.WriteAnswer.TheVariants as write
-use Rattle.master.specs.declared.write.Wrote.{Wrote}
-use Rattle.master.specs.declared.read.ReadAnswer.TheVariants as read
-use Rattle.master.specs.declared.read.ArrayAnswer.TheVariants as bytes
-use Rattle.master.specs.declared.select.SelectAnswer.TheVariants as select
-use Rattle.master.specs.declared.select.Chosen.{Chosen}
-use Rattle.master.specs.declared.tick.TickAnswer.TheVariants as tick
-use Rattle.master.specs.declared.tick.Ticked.{Ticked}
-use Rattle.master.specs.declared.byte.ByteAnswer.TheVariants as byte
-use Rattle.master.specs.declared.byte.Took.{Took}
-use Rattle.master.specs.declared.read.StatusAnswer.TheVariants as status
-use Rattle.master.specs.declared.read.StatusRead.{StatusRead}
-use Rattle.master.specs.declared.send.SendAnswer.TheVariants as send
-use Rattle.master.specs.declared.send.Sent.{Sent}
+use Rattle.master.specs.Answers.{Wrote}
+use Rattle.master.specs.Answers.{Chosen}
+use Rattle.master.specs.Answers.{Ticked}
+use Rattle.master.specs.Answers.{Took}
+use Rattle.master.specs.Answers.{StatusRead}
+use Rattle.master.specs.Answers.{Sent}
 use Rattle.master.specs.Admit.{unless, buffer_size, admitted, Step}
 use Rattle.master.specs.Fits.{lent_fits}
 use Rattle.master.specs.Transfers.{is_open}
@@ -43,7 +34,7 @@ use Rattle.master.specs.Acts.{nothing, act_of}
 use Rattle.master.specs.Schedule.{slot_begun, Scheduled, schedule}
 use Rattle.master.specs.Answering.{message_after, counted_after, bytes_after, read_from, scalar_read, array_given}
 use Rattle.master.specs.Received.{source_of, scalar_from, array_from}
-use Rattle.master.specs.Replies.{put_number, Replies, read_number, select_number, send_number, write_reply, read_reply, read_array_reply, select_reply, send_reply, byte_reply, plain, lent_right}
+use Rattle.master.specs.Replies.{put_number, Replies, read_number, select_number, send_number, write_reply, read_reply, read_array_reply, select_reply, send_reply, byte_reply, lent_right}
 use Rattle.master.proofs.Tests.{never}
 use Rattle.master.proofs.Admitted.{admits, fits_clauses, fits_all, unless_test}
 use Rattle.master.proofs.Answered.{by_verdict, writable_signal}
@@ -66,9 +57,10 @@ use Rattle.master.specs.Write.{writable, marked, write_verdict, write_of}
 use Rattle.cluster.proofs.TakenLaws.{taken_right}
 use Rattle.master.specs.Put.{Put}
 use Rattle.master.specs.Write.{is_bytes, fits_signal}
+use Rattle.std.specs.Prelude.{Ok, Err}
 
 -- an accepted call is not refused
-refused_never : {A : Type 0} (q : Refusal) → verdict.Accepted ≡ verdict.Refused q → A
+refused_never : {A : Type 0} (q : Refusal) → ◌≡◌ {A = Verdict} (Ok tt) (Err q) → A
 refused_never q e = let z : ◌≡◌ {A = ℕ} 0 1 = cc in absurd (omega arith)
 
 module _ (t : List ℕ) (is-taken : TakenTable t) (h : Seq Scheduled) (x : Held) (is : Agrees t h x) where
@@ -79,10 +71,10 @@ module _ (t : List ℕ) (is-taken : TakenTable t) (h : Seq Scheduled) (x : Held)
   s = x.state
 
   -- the call is admitted, with the frame bytes and without them
-  lent_admitted : admitted t (length x.bytes) s ≡ verdict.Accepted
+  lent_admitted : admitted t (length x.bytes) s ≡ Ok tt
   lent_admitted = admits t (length x.bytes) s is-taken is.frames.size is.fits
 
-  own_admitted : admitted t (buffer_size t) s ≡ verdict.Accepted
+  own_admitted : admitted t (buffer_size t) s ≡ Ok tt
   own_admitted = admits t (buffer_size t) s is-taken refl is.fits
 
   -- a call that counts for nothing
@@ -106,13 +98,13 @@ module _ (t : List ℕ) (is-taken : TakenTable t) (h : Seq Scheduled) (x : Held)
       let inner : write_verdict t (length x.bytes) s w ≡ writable t r (is_bytes v) (fits_signal t r v) = rw lent_admitted in
       let number_is : by_number n ≡ write_verdict t (length x.bytes) s w = sym (put_verdict_lem t r v) ∙ sym inner in
       by_verdict (λ (z : Step Wrote). Stepped t h (call.write w) z.given.answer (held z.given.state z.left)) (write_verdict t (length x.bytes) s w) _ _
-      (λ q e. step_nothing (call.write w) (write.Refused q) refl (reply_is n (λ i. write.Refused i) write.Written (verdict.Refused q) (number_is ∙ e)))
+      (λ q e. step_nothing (call.write w) (Err q) refl (reply_is n (λ i. Err i) (Ok tt) (Err q) (number_is ∙ e)))
       (λ a. let k = writable_signal t r (is_bytes v) (fits_signal t r v) (sym inner ∙ a) in
       record {
         agrees =
-            agrees_wrote t ok h x is (schedule t h (call.write w ⇒ write.Written)) r v refl k.below
+            agrees_wrote t ok h x is (schedule t h (call.write w ⇒ Ok tt)) r v refl k.below
             (fits_all t (marked t r s) (marked_fits t s (fits_clauses t s is.fits) ok r k.below k.is_published));
-        replies = reply_is n (λ i. write.Refused i) write.Written verdict.Accepted (number_is ∙ a);
+        replies = reply_is n (λ i. Err i) (Ok tt) (Ok tt) (number_is ∙ a);
         lawful = λ e q p k. never q;
       })
 
@@ -138,7 +130,7 @@ module _ (t : List ℕ) (is-taken : TakenTable t) (h : Seq Scheduled) (x : Held)
   step_read r =
       let v = scalar_from t x.bytes r (source_of t s.received r) in
       step_nothing (call.read r) (read_scalar_of t s x.bytes r) refl
-      (reply_is (read_number t r false) (λ q. read.Refused q) (read.Value v) (read_verdict t (length x.bytes) s r false) (read_inner r false)
+      (reply_is (read_number t r false) (λ q. Err q) (Ok v) (read_verdict t (length x.bytes) s r false) (read_inner r false)
       ∙ ap (λ (w : ℕ). read_reply (read_number t r false) w) (scalar_same r))
 
   step_read_array : (r : ℕ) → Stepped t h (call.read_array r) (answer_of t x (call.read_array r)) (left_by t x (call.read_array r))
@@ -146,8 +138,8 @@ module _ (t : List ℕ) (is-taken : TakenTable t) (h : Seq Scheduled) (x : Held)
   step_read_array r =
       let a = array_from t x.bytes r (source_of t s.received r) in
       step_nothing (call.read_array r) (read_array_of t s x.bytes r) refl
-      (reply_is (read_number t r true) (λ q. record { answer = bytes.Refused q; bytes = replicate 8 255 })
-      (record { answer = bytes.Bytes a.count; bytes = a.bytes })
+      (reply_is (read_number t r true) (λ q. Err q)
+      (Ok a)
       (read_verdict t (length x.bytes) s r true) (read_inner r true)
       ∙ ap (λ (w : Array). read_array_reply (read_number t r true) w) (array_same r))
 
@@ -167,11 +159,11 @@ module _ (t : List ℕ) (is-taken : TakenTable t) (h : Seq Scheduled) (x : Held)
       let keeps = keeps_fit t x (call.select n) is.fits in
       let number_is : by_number (select_number t n) ≡ select_verdict t s n = sym (select_verdict_lem t n) ∙ rw own_admitted in
       by_verdict (λ (z : Chosen). Stepped t h (call.select n) z.answer (held z.state x.bytes)) (select_verdict t s n) _ _
-      (λ q e. step_nothing (call.select n) (select.Refused q) refl
-      (reply_is (select_number t n) (λ i. select.Refused i) select.Selected (verdict.Refused q) (number_is ∙ e)))
+      (λ q e. step_nothing (call.select n) (Err q) refl
+      (reply_is (select_number t n) (λ i. Err i) (Ok tt) (Err q) (number_is ∙ e)))
       (λ a. record {
-        agrees = agrees_selected t h x is (schedule t h (call.select n ⇒ select.Selected)) n refl (rw a at keeps);
-        replies = reply_is (select_number t n) (λ i. select.Refused i) select.Selected verdict.Accepted (number_is ∙ a);
+        agrees = agrees_selected t h x is (schedule t h (call.select n ⇒ Ok tt)) n refl (rw a at keeps);
+        replies = reply_is (select_number t n) (λ i. Err i) (Ok tt) (Ok tt) (number_is ∙ a);
         lawful = λ e q p k. never q;
       })
 
@@ -182,7 +174,7 @@ module _ (t : List ℕ) (is-taken : TakenTable t) (h : Seq Scheduled) (x : Held)
       by_verdict (λ (z : StatusRead). Stepped t h call.read_status z.answer (held z.state x.bytes)) (admitted t (buffer_size t) s) _ _
       (λ q e. refused_never q (sym own_admitted ∙ e))
       (λ a. record {
-        agrees = agrees_status t h x is (schedule t h (call.read_status ⇒ status.Word (status_word s.status))) refl (rw a at keeps);
+        agrees = agrees_status t h x is (schedule t h (call.read_status ⇒ Ok (status_word s.status))) refl (rw a at keeps);
         replies = rw (is.status_is, word_over_lem (counted_after t h));
         lawful = λ e q p k. never q;
       })
@@ -193,11 +185,11 @@ module _ (t : List ℕ) (is-taken : TakenTable t) (h : Seq Scheduled) (x : Held)
       let keeps = keeps_fit t x (call.send nad n) is.fits in
       let number_is : by_number (send_number (message_after t h) n) ≡ send_verdict t s n = sym (send_verdict_lem (message_after t h) n) ∙ rw (own_admitted, is.message_is) in
       by_verdict (λ (z : Sent). Stepped t h (call.send nad n) z.answer (held z.state x.bytes)) (send_verdict t s n) _ _
-      (λ q e. step_nothing (call.send nad n) (send.Refused q) refl
-      (reply_is (send_number (message_after t h) n) (λ i. send.Refused i) send.Sending (verdict.Refused q) (number_is ∙ e)))
+      (λ q e. step_nothing (call.send nad n) (Err q) refl
+      (reply_is (send_number (message_after t h) n) (λ i. Err i) (Ok tt) (Err q) (number_is ∙ e)))
       (λ a. record {
-        agrees = agrees_sending t h x is (schedule t h (call.send nad n ⇒ send.Sending)) nad n refl (rw a at keeps);
-        replies = reply_is (send_number (message_after t h) n) (λ i. send.Refused i) send.Sending verdict.Accepted (number_is ∙ a);
+        agrees = agrees_sending t h x is (schedule t h (call.send nad n ⇒ Ok tt)) nad n refl (rw a at keeps);
+        replies = reply_is (send_number (message_after t h) n) (λ i. Err i) (Ok tt) (Ok tt) (number_is ∙ a);
         lawful = λ e q p k. never q;
       })
 
@@ -211,26 +203,26 @@ module _ (t : List ℕ) (is-taken : TakenTable t) (h : Seq Scheduled) (x : Held)
       let same : fits ≡ lent_right (message_after t h) (length m) = lent_right_lem s.message (length m) ∙ rw is.message_is in
       let inner = tick_refusal t n (length m) s is-taken is.frames.size is.fits in
       by_verdict (λ (z : Ticked). Stepped t h (call.tick m) z.answer (held z.state x.bytes)) (tick_verdict t n (length m) s) _ _
-      (λ q e. step_nothing (call.tick m) (tick.Refused q) refl (record {
-        refuses = λ l. let z : verdict.Refused (number.refused number.state) ≡ verdict.Refused q = rw (same ∙ l) at (sym inner ∙ e) in cc;
+      (λ q e. step_nothing (call.tick m) (Err q) refl (record {
+        refuses = λ l. let z : Err (number.refused number.state) ≡ Err q = rw (same ∙ l) at (sym inner ∙ e) in cc;
         goes_on = λ l. refused_never q (rw (same ∙ l) at (sym inner ∙ e));
       }))
-      (λ a. tick_goes t ok h x is m (unless_test fits number.state verdict.Accepted (sym inner ∙ a)))
+      (λ a. tick_goes t ok h x is m (unless_test fits number.state (Ok tt) (sym inner ∙ a)))
 
   step_byte : (b : ℕ) → Stepped t h (call.byte_in b) (answer_of t x (call.byte_in b)) (left_by t x (call.byte_in b))
   unfolding answer_of left_by byte_of byte_verdict byte_reply
   step_byte b =
       let o = is_open s.transfer.opened in
-      let inner : byte_verdict t (length x.bytes) s ≡ unless o number.no_transfer verdict.Accepted = rw lent_admitted in
-      by_verdict (λ (z : Step Took). Stepped t h (call.byte_in b) (record { answer = z.given.answer; response = z.given.response }) (held z.given.state z.left))
+      let inner : byte_verdict t (length x.bytes) s ≡ unless o number.no_transfer (Ok tt) = rw lent_admitted in
+      by_verdict (λ (z : Step Took). Stepped t h (call.byte_in b) (z.given.answer) (held z.given.state z.left))
       (byte_verdict t (length x.bytes) s) _ _
-      (λ q e. step_nothing (call.byte_in b) (plain (byte.Refused q)) refl
+      (λ q e. step_nothing (call.byte_in b) (Err q) refl
       (whether o
       (λ l. refused_never q (rw l at (sym inner ∙ e)))
-      (λ l. let z : verdict.Refused (number.refused number.no_transfer) ≡ verdict.Refused q = rw l at (sym inner ∙ e) in
+      (λ l. let z : Err (number.refused number.no_transfer) ≡ Err q = rw l at (sym inner ∙ e) in
       let i : q ≡ number.refused number.no_transfer = cc in
       rw (← is.transfer.opened_is, not_open s.transfer.opened l, i))))
-      (λ a. byte_goes t ok h x is b (unless_test o number.no_transfer verdict.Accepted (sym inner ∙ a))
+      (λ a. byte_goes t ok h x is b (unless_test o number.no_transfer (Ok tt) (sym inner ∙ a))
       (fits_all t (byte_effect t s x.bytes b).given.state (taken_fits t ok s (fits_clauses t s is.fits) x.bytes b)))
 
   -- every call

@@ -17,9 +17,8 @@ use Rattle.master.specs.declared.state.Opened.{Opened}
 use Rattle.master.specs.declared.state.Opened.TheVariants.{Nothing, Frame, Request, Response}
 use Rattle.master.specs.declared.state.Message.{Message}
 use Rattle.master.specs.declared.state.State.{State}
-use Rattle.master.specs.declared.byte.ByteAnswer.{ByteAnswer}
 use Rattle.master.specs.declared.byte.ByteAnswer.TheVariants as byte
-use Rattle.master.specs.declared.byte.Took.{Took}
+use Rattle.master.specs.Answers.{Took}
 use Rattle.master.specs.Admit.{Step}
 use Rattle.master.specs.Fits.{state_fits, frame_there}
 use Rattle.master.specs.Transfers.{format_of, is_open, open_length, open_checksum, sends}
@@ -28,13 +27,13 @@ use Rattle.master.specs.Closing.{failed, pending_sent, sent, received}
 use Rattle.master.specs.Byte.{passed, early, with_byte, sent_byte, checksum_right, accepted, last_byte, received_byte, byte_effect}
 use Rattle.master.specs.Seq.{Seq, ◌▹◌}
 use Rattle.master.specs.Calls as call
-use Rattle.master.specs.Calls.{Reply, ◌⇒◌}
+use Rattle.master.specs.Calls.{◌⇒◌}
 use Rattle.master.specs.Run.{Held, held}
 use Rattle.master.specs.Acts.{took, byte_act}
 use Rattle.master.specs.Schedule.{slot_begun, Scheduled, act, plan_by, plan_after, schedule}
 use Rattle.master.specs.History.{opens, is_success, is_end, closes, open_after, checksum_over, got_after, succeeds}
 use Rattle.master.specs.Answering.{message_after, due_after, stored_by, counted_after}
-use Rattle.master.specs.Replies.{plain, sent_reply, received_reply, byte_reply}
+use Rattle.master.specs.Replies.{sent_reply, received_reply, byte_reply}
 use Rattle.master.proofs.Tests.{never}
 use Rattle.master.proofs.Admitted.{fits_clauses, open_count, open_length_high}
 use Rattle.master.proofs.PendingFits.{received_keeps}
@@ -47,6 +46,9 @@ use Rattle.master.proofs.History.TransferIs.{TransferIs, due_byte, received_nine
 use Rattle.master.proofs.History.Closing.{end_closes, end_message, end_status}
 use Rattle.master.proofs.History.Agrees.{Agrees}
 use Rattle.master.proofs.History.Stepped.{Stepped}
+use Rattle.std.specs.Prelude.{Ok}
+use Rattle.master.specs.Answers.{ByteResult}
+use Rattle.master.specs.Answers.{handed}
 
 -- what the master sends is stored nowhere
 stored_sent : (t : List ℕ) (o : Opened) (ds bs : List ℕ) → sends t o ≡ true → stored_by t o ds bs ≡ bs
@@ -57,19 +59,19 @@ stored_sent t Request ds bs s = refl
 stored_sent t Response ds bs s = refl
 
 -- "A successful response frame .. answers its eight bytes."
-abbrev success_reply : Opened → List ℕ → Reply
-success_reply Nothing got = plain byte.Success
-success_reply (Frame f) got = plain byte.Success
-success_reply Request got = plain byte.Success
-success_reply Response got = record { answer = byte.Response; response = got }
+abbrev success_reply : Opened → List ℕ → ByteResult
+success_reply Nothing got = (Ok byte.Success)
+success_reply (Frame f) got = (Ok byte.Success)
+success_reply Request got = (Ok byte.Success)
+success_reply Response got = Ok (byte.Response got)
 
 -- what is answered in a transfer that the master sends, and in one that it receives
 module _ (t : List ℕ) (o : Opened) (due got : List ℕ) (b : ℕ) where
-  reply_sent : sends t o ≡ true → byte_reply t o due got b ≡ plain (sent_reply (open_length t o) due got b)
+  reply_sent : sends t o ≡ true → byte_reply t o due got b ≡ (sent_reply (open_length t o) due got b)
   unfolding byte_reply format_of
   reply_sent s = by o s
     where
-      by : (o : Opened) → sends t o ≡ true → byte_reply t o due got b ≡ plain (sent_reply (open_length t o) due got b)
+      by : (o : Opened) → sends t o ≡ true → byte_reply t o due got b ≡ (sent_reply (open_length t o) due got b)
       by Nothing s = never s
       by (Frame f) s = rw s
       by Request s = refl
@@ -104,16 +106,16 @@ module _ (t : List ℕ) (ok : RightTable t) (h : Seq Scheduled) (x : Held) (is :
 
   -- ---- the state after a byte
 
-  abbrev event : Reply → Scheduled
+  abbrev event : ByteResult → Scheduled
   event r = schedule t h (call.byte_in b ⇒ r)
 
   module _ (y : Scheduled) where
-    agrees_more : act y ≡ took b byte.More → (nine : List ℕ) → state_fits t (passed s nine) ≡ true → TransferIs t (h ▹ y) (passed s nine).transfer
+    agrees_more : act y ≡ took b (Ok byte.More) → (nine : List ℕ) → state_fits t (passed s nine) ≡ true → TransferIs t (h ▹ y) (passed s nine).transfer
         → Agrees t (h ▹ y) (held (passed s nine) x.bytes)
     unfolding passed plan_after plan_by message_after counted_after closes succeeds
     agrees_more a nine f r = record {
       fits = f;
-      frames = frames_byte t h s.pending x.bytes is.frames y b byte.More a refl;
+      frames = frames_byte t h s.pending x.bytes is.frames y b (Ok byte.More) a refl;
       transfer = r;
       plan_is = rw a is.plan_is;
       message_is = rw a is.message_is;
@@ -121,22 +123,22 @@ module _ (t : List ℕ) (ok : RightTable t) (h : Seq Scheduled) (x : Held) (is :
       received_are = received_quiet t h s.received is.received_are y (rw a);
     }
 
-    agrees_failed : act y ≡ took b byte.Failure → state_fits t (failed t s true) ≡ true → Agrees t (h ▹ y) (held (failed t s true) x.bytes)
+    agrees_failed : act y ≡ took b (Ok byte.Failure) → state_fits t (failed t s true) ≡ true → Agrees t (h ▹ y) (held (failed t s true) x.bytes)
     unfolding failed plan_after plan_by opens succeeds
     agrees_failed a f = record {
       fits = f;
-      frames = frames_byte t h s.pending x.bytes is.frames y b byte.Failure a refl;
-      transfer = transfer_closed t h y (end_closes t h x is y b byte.Failure a refl) (rw a);
+      frames = frames_byte t h s.pending x.bytes is.frames y b (Ok byte.Failure) a refl;
+      transfer = transfer_closed t h y (end_closes t h x is y b (Ok byte.Failure) a refl) (rw a);
       plan_is = rw a is.plan_is;
-      message_is = message_failed_lem o s.message ∙ sym (end_message t h x is y b byte.Failure a refl);
-      status_is = end_status t h x is y b byte.Failure a refl open-now;
+      message_is = message_failed_lem o s.message ∙ sym (end_message t h x is y b (Ok byte.Failure) a refl);
+      status_is = end_status t h x is y b (Ok byte.Failure) a refl open-now;
       received_are = received_quiet t h s.received is.received_are y (rw a);
     }
 
   -- a state that may stand after a success, with the frame bytes handed over
   abbrev Ends : State → Type 0
   Ends after =
-      (y : Scheduled) (c : ByteAnswer) → act y ≡ took b c → is_end c ≡ true → is_success c ≡ true → state_fits t after ≡ true → (bs : List ℕ)
+      (y : Scheduled) (c : ByteResult) → act y ≡ took b c → is_end c ≡ true → is_success c ≡ true → state_fits t after ≡ true → (bs : List ℕ)
       → FramesAre t (h ▹ y) (pending_sent o s.transfer.written s.pending) bs → Agrees t (h ▹ y) (held after bs)
 
   agrees_sent : sends t o ≡ true → Ends (sent t s)
@@ -183,7 +185,7 @@ module _ (t : List ℕ) (ok : RightTable t) (h : Seq Scheduled) (x : Held) (is :
     sent_now = rw is.transfer.opened_is at sent
 
     sent_replies : byte_reply t (open_after t h) (due_after t h) (got_after h) b
-        ≡ plain (cond (eqb (get_or s.transfer.bytes s.transfer.count 0) b) (cond (early t s.transfer) byte.More byte.Success) byte.Failure)
+        ≡ cond (eqb (get_or s.transfer.bytes s.transfer.count 0) b) (cond (early t s.transfer) (Ok byte.More) (Ok byte.Success)) (Ok byte.Failure)
     unfolding sent_reply
     sent_replies =
         reply_sent t (open_after t h) (due_after t h) (got_after h) b sent_now
@@ -218,13 +220,13 @@ module _ (t : List ℕ) (ok : RightTable t) (h : Seq Scheduled) (x : Held) (is :
       right_is = rw (last_is, data_are)
 
       last_replies : byte_reply t (open_after t h) (due_after t h) (got_after h) b
-          ≡ cond (checksum_right t o nine) (success_reply o (got_after h)) (plain byte.Failure)
+          ≡ cond (checksum_right t o nine) (success_reply o (got_after h)) (Ok byte.Failure)
       unfolding received_reply
       last_replies =
           reply_received t (open_after t h) (due_after t h) (got_after h) b is_open_lem received_now
           ∙ rw (← early_is, last, right_is, is.transfer.opened_is)
 
-    more_replies : early t s.transfer ≡ true → byte_reply t (open_after t h) (due_after t h) (got_after h) b ≡ plain byte.More
+    more_replies : early t s.transfer ≡ true → byte_reply t (open_after t h) (due_after t h) (got_after h) b ≡ (Ok byte.More)
     unfolding received_reply
     more_replies e = reply_received t (open_after t h) (due_after t h) (got_after h) b is_open_lem received_now ∙ rw (← early_is, e)
 
@@ -233,43 +235,43 @@ module _ (t : List ℕ) (ok : RightTable t) (h : Seq Scheduled) (x : Held) (is :
   abbrev Goes : Step Took → Type 0
   Goes w =
       state_fits t w.given.state ≡ true
-      → Stepped t h (call.byte_in b) (record { answer = w.given.answer; response = w.given.response }) (held w.given.state w.left)
+      → Stepped t h (call.byte_in b) (w.given.answer) (held w.given.state w.left)
 
   -- what counts of a byte
-  event_act : (r : Reply) → act (event r) ≡ byte_act b r.answer
+  event_act : (r : ByteResult) → act (event r) ≡ byte_act b r
   unfolding schedule slot_begun
   event_act r = refl
 
   -- an answer that leaves the frame bytes
-  abbrev leaving : State → ByteAnswer → Step Took
-  leaving s' a = record { given = record { state = s'; answer = a; response = replicate 8 255 }; left = x.bytes }
+  abbrev leaving : State → ByteResult → Step Took
+  leaving s' a = record { given = handed s' a; left = x.bytes }
 
-  goes_more : (nine : List ℕ) → byte_reply t (open_after t h) (due_after t h) (got_after h) b ≡ plain byte.More
-      → TransferIs t (h ▹ event (plain byte.More)) (passed s nine).transfer → Goes (leaving (passed s nine) byte.More)
+  goes_more : (nine : List ℕ) → byte_reply t (open_after t h) (due_after t h) (got_after h) b ≡ (Ok byte.More)
+      → TransferIs t (h ▹ event (Ok byte.More)) (passed s nine).transfer → Goes (leaving (passed s nine) (Ok byte.More))
   unfolding schedule slot_begun
   goes_more nine r tr f = record {
-    agrees = agrees_more (event (plain byte.More)) refl nine f tr;
+    agrees = agrees_more (event (Ok byte.More)) refl nine f tr;
     replies = sym r;
     lawful = λ e q p k. never q;
   }
 
-  goes_failed : byte_reply t (open_after t h) (due_after t h) (got_after h) b ≡ plain byte.Failure → Goes (leaving (failed t s true) byte.Failure)
+  goes_failed : byte_reply t (open_after t h) (due_after t h) (got_after h) b ≡ (Ok byte.Failure) → Goes (leaving (failed t s true) (Ok byte.Failure))
   unfolding schedule slot_begun
   goes_failed r f = record {
-    agrees = agrees_failed (event (plain byte.Failure)) refl f;
+    agrees = agrees_failed (event (Ok byte.Failure)) refl f;
     replies = sym r;
     lawful = λ e q p k. never q;
   }
 
-  goes_succeeded : (s' : State) → Ends s' → (c : ByteAnswer) (r : List ℕ) (after : List ℕ) → byte_reply t (open_after t h) (due_after t h) (got_after h) b ≡ record { answer = c; response = r }
-      → act (event (record { answer = c; response = r })) ≡ took b c → is_end c ≡ true → is_success c ≡ true
+  goes_succeeded : (s' : State) → Ends s' → (c : ByteResult) (after : List ℕ) → byte_reply t (open_after t h) (due_after t h) (got_after h) b ≡ c
+      → act (event c) ≡ took b c → is_end c ≡ true → is_success c ≡ true
       → length after ≡ length x.bytes → after ≡ stored_by t o (got_after h) x.bytes
       → ((f : ℕ) → published t f ≡ true → (k : ℕ) → k < 8 → get_or after (8 * f + k) 0 ≡ get_or x.bytes (8 * f + k) 0)
-      → Goes (record { given = record { state = s'; answer = c; response = r }; left = after })
+      → Goes (record { given = handed s' c; left = after })
   unfolding schedule slot_begun
-  goes_succeeded s' ends c r after p a e g l st same f = record {
-    agrees = ends (event (record { answer = c; response = r })) c a e g f after
-        (frames_sent t h s.pending x.bytes is.frames (event (record { answer = c; response = r })) b c a g o is.transfer.opened_is
+  goes_succeeded s' ends c after p a e g l st same f = record {
+    agrees = ends (event c) c a e g f after
+        (frames_sent t h s.pending x.bytes is.frames (event c) b c a g o is.transfer.opened_is
         s.transfer.written is.transfer.rewritten_is after l st same);
     replies = sym p;
     lawful = λ i q u k. never (rw a at q);
@@ -284,16 +286,16 @@ module _ (t : List ℕ) (ok : RightTable t) (h : Seq Scheduled) (x : Held) (is :
       whether (eqb (get_or s.transfer.bytes s.transfer.count 0) b)
       (λ e. whether (early t s.transfer)
       (λ z. rw (e, z) (goes_more s.transfer.bytes (rw (e, z) at r)
-      (transfer_more_sent t h s.transfer is.transfer (event (plain byte.More)) b more_act n not_above e)))
-      (λ z. rw (e, z) (goes_succeeded (sent t s) (agrees_sent ours) byte.Success (replicate 8 255) x.bytes (rw (e, z) at r) success_act refl refl refl
+      (transfer_more_sent t h s.transfer is.transfer (event (Ok byte.More)) b more_act n not_above e)))
+      (λ z. rw (e, z) (goes_succeeded (sent t s) (agrees_sent ours) (Ok byte.Success) x.bytes (rw (e, z) at r) success_act refl refl refl
       (sym (stored_sent t o (got_after h) x.bytes ours)) (λ f p k l. refl))))
       (λ e. rw e (goes_failed (rw e at r)))
     where
-      more_act : act (event (plain byte.More)) ≡ took b byte.More
-      more_act = event_act (plain byte.More)
+      more_act : act (event (Ok byte.More)) ≡ took b (Ok byte.More)
+      more_act = event_act (Ok byte.More)
 
-      success_act : act (event (plain byte.Success)) ≡ took b byte.Success
-      success_act = event_act (plain byte.Success)
+      success_act : act (event (Ok byte.Success)) ≡ took b (Ok byte.Success)
+      success_act = event_act (Ok byte.Success)
 
   -- of one that it receives, at its end
   goes_accepted : (o' : Opened) → o ≡ o' → sends t o ≡ false → early t s.transfer ≡ false
@@ -305,8 +307,8 @@ module _ (t : List ℕ) (ok : RightTable t) (h : Seq Scheduled) (x : Held) (is :
       let there : frame_there t (Frame g) ≡ true = rw p at (fits_clauses t s is.fits).frame_there_lem in
       let ds : take (open_length t (Frame g)) (with_byte s.transfer b) ≡ got_after h = rw p at (data_are n z) in
       let unpublished : published t g ≡ false = rw p at n in
-      goes_succeeded (received t s) (agrees_received n) byte.Success (replicate 8 255) (lent.written x.bytes (8 * g) (take (open_length t (Frame g)) (with_byte s.transfer b)))
-      (rw p at r) (event_act (plain byte.Success)) refl refl
+      goes_succeeded (received t s) (agrees_received n) (Ok byte.Success) (lent.written x.bytes (8 * g) (take (open_length t (Frame g)) (with_byte s.transfer b)))
+      (rw p at r) (event_act (Ok byte.Success)) refl refl
       (written_length x.bytes (8 * g) (take (open_length t (Frame g)) (with_byte s.transfer b))
       (data_inside t ok s x.bytes is.frames.size g (with_byte s.transfer b) there))
       (rw (p, unpublished, ds))
@@ -316,7 +318,7 @@ module _ (t : List ℕ) (ok : RightTable t) (h : Seq Scheduled) (x : Held) (is :
   goes_accepted Response p n z r =
       let ds : take 8 (with_byte s.transfer b) ≡ got_after h = rw p at (data_are n z) in
       rw ds
-      (goes_succeeded (received t s) (agrees_received n) byte.Response (got_after h) x.bytes (rw p at r) (event_act (record { answer = byte.Response; response = got_after h })) refl refl refl
+      (goes_succeeded (received t s) (agrees_received n) (Ok (byte.Response (got_after h))) x.bytes (rw p at r) (event_act (Ok (byte.Response (got_after h)))) refl refl refl
       (rw p) (λ f q k l. refl))
 
   goes_received : sends t o ≡ false → Goes (received_byte t s x.bytes b)
@@ -324,7 +326,7 @@ module _ (t : List ℕ) (ok : RightTable t) (h : Seq Scheduled) (x : Held) (is :
   goes_received n =
       whether (early t s.transfer)
       (λ z. rw z (goes_more (with_byte s.transfer b) (more_replies n z)
-      (transfer_more_received t h s.transfer is.transfer (event (plain byte.More)) b (event_act (plain byte.More)) (received_now n) is_open_lem at_most_eight)))
+      (transfer_more_received t h s.transfer is.transfer (event (Ok byte.More)) b (event_act (Ok byte.More)) (received_now n) is_open_lem at_most_eight)))
       (λ z. whether (checksum_right t o (with_byte s.transfer b))
       (λ c. rw (z, c) (goes_accepted o refl n z (rw c at (last_replies n z))))
       (λ c. rw (z, c) (goes_failed (rw c at (last_replies n z)))))

@@ -9,14 +9,12 @@ use Rattle.cluster.specs.Check.{RightTable}
 use Rattle.cluster.specs.Table.{entry_kind, entry_target}
 use Rattle.cluster.specs.Lists.{members}
 use Rattle.transport.proofs.Tests.{whether, and_right}
-use Rattle.master.specs.declared.state.Current.TheVariants as current
 use Rattle.master.specs.declared.state.Opened.{Opened}
 use Rattle.master.specs.declared.state.Opened.TheVariants.{Nothing, Frame, Request, Response}
 use Rattle.master.specs.declared.state.Message.{Message}
 use Rattle.master.specs.declared.state.State.{State}
-use Rattle.master.specs.declared.tick.TickAnswer.{TickAnswer}
 use Rattle.master.specs.declared.tick.TickAnswer.TheVariants as tick
-use Rattle.master.specs.declared.tick.Ticked.{Ticked}
+use Rattle.master.specs.Answers.{Ticked}
 use Rattle.master.specs.Fits.{state_fits, is_sending, lent_fits, frame_there, entry_opens}
 use Rattle.master.specs.Transfers.{format_of, is_open, open_protected, opening}
 use Rattle.master.specs.Plan.{waits, waited, entry_due, begun}
@@ -52,12 +50,15 @@ use Rattle.master.proofs.History.Closing.{abandoned_message, abandoned_transfer,
 use Rattle.master.proofs.History.Agrees.{Agrees, agrees_waited}
 use Rattle.master.proofs.History.Stepped.{Stepped}
 use Rattle.master.specs.State.{with_plan}
+use Rattle.std.specs.Prelude.{Ok}
+use Rattle.master.specs.Answers.{TickResult}
+use Rattle.std.specs.Prelude.{Some, None}
 
 -- what an accepted tick answers where its slot opens something or nothing
-answer_silent : (t : List ℕ) (o : Opened) → is_open o ≡ false → tick.Silent ≡ answer_for t o
+answer_silent : (t : List ℕ) (o : Opened) → is_open o ≡ false → Ok tick.Silent ≡ answer_for t o
 answer_silent t o n = rw (not_open o n)
 
-answer_opened : (t : List ℕ) (o : Opened) → is_open o ≡ true → tick.Opened (open_protected t o) ≡ answer_for t o
+answer_opened : (t : List ℕ) (o : Opened) → is_open o ≡ true → Ok (tick.Opened (open_protected t o)) ≡ answer_for t o
 unfolding open_protected format_of
 answer_opened t Nothing p = never p
 answer_opened t (Frame f) p = refl
@@ -89,10 +90,10 @@ module _ (t : List ℕ) (ok : RightTable t) (h : Seq Scheduled) (x : Held) (is :
   due_waits : waits s.plan ≡ true → due ≡ none
   due_waits w = rw (← is.plan_is, slot_due_lem t s.plan, w)
 
-  due_none : waits s.plan ≡ false → entry_due t s.plan.requested s.plan.current ≡ current.None → due ≡ unscheduled
+  due_none : waits s.plan ≡ false → entry_due t s.plan.requested s.plan.current ≡ None → due ≡ unscheduled
   due_none w c = rw (← is.plan_is, slot_due_lem t s.plan, w, c)
 
-  due_entry : (e : ℕ) → waits s.plan ≡ false → entry_due t s.plan.requested s.plan.current ≡ current.Entry e → due ≡ entry e
+  due_entry : (e : ℕ) → waits s.plan ≡ false → entry_due t s.plan.requested s.plan.current ≡ Some e → due ≡ entry e
   due_entry e w c = rw (← is.plan_is, slot_due_lem t s.plan, w, c)
 
   -- ---- the answer of a slot
@@ -108,7 +109,7 @@ module _ (t : List ℕ) (ok : RightTable t) (h : Seq Scheduled) (x : Held) (is :
       kind_list t (abandoned t s).pending e (abandoned t s).message k
       ∙ first_pending_lem (abandoned t s).pending (pending_after t h) (λ f. rw (abandoned_pending t s) (is.frames.bits_are f)) (members t (entry_target t e))
 
-  entry_replies : (e : ℕ) (a : TickAnswer) → a ≡ answer_for t (slot_by e) → EntryReply t h e a
+  entry_replies : (e : ℕ) (a : TickResult) → a ≡ answer_for t (slot_by e) → EntryReply t h e a
   unfolding slot_opens
   entry_replies e a p = record {
     frame = λ k. p ∙ rw k;
@@ -121,7 +122,7 @@ module _ (t : List ℕ) (ok : RightTable t) (h : Seq Scheduled) (x : Held) (is :
 
   -- ---- the state after a slot start
 
-  module _ (y : Scheduled) (a : TickAnswer) (acts-as : act y ≡ acts.ticked m a) (slot_is : y.slot ≡ due) (start : is_start due ≡ true) where
+  module _ (y : Scheduled) (a : TickResult) (acts-as : act y ≡ acts.ticked m a) (slot_is : y.slot ≡ due) (start : is_start due ≡ true) where
     starting : is_start y.slot ≡ true
     starting = rw slot_is start
 
@@ -159,7 +160,7 @@ module _ (t : List ℕ) (ok : RightTable t) (h : Seq Scheduled) (x : Held) (is :
   -- ---- every accepted tick
 
   module _ (lent : lent_fits s.message (length m) ≡ true) where
-    tick_replies : (a : TickAnswer) → SlotReply t h due a → TickReply t h m a
+    tick_replies : (a : TickResult) → SlotReply t h due a → TickReply t h m a
     tick_replies a r = record { refuses = λ n. never (sym n ∙ rw (is.message_is, lent_right_lem (message_after t h) (length m)) at lent); goes_on = λ l. r }
 
     -- what is opened can be sent
@@ -177,51 +178,51 @@ module _ (t : List ℕ) (ok : RightTable t) (h : Seq Scheduled) (x : Held) (is :
     abbrev Goes : Ticked → Type 0
     Goes w = state_fits t w.state ≡ true → Stepped t h (call.tick m) w.answer (held w.state x.bytes)
 
-    goes_waiting : waits s.plan ≡ true → Goes (record { state = with_plan s (waited s.plan); answer = tick.Waiting })
+    goes_waiting : waits s.plan ≡ true → Goes (record { state = with_plan s (waited s.plan); answer = Ok tick.Waiting })
     unfolding schedule slot_begun
     goes_waiting w f = record {
-      agrees = agrees_waited t h x is (schedule t h (call.tick m ⇒ tick.Waiting)) m tick.Waiting refl (due_waits w) (due_waits w) f;
-      replies = tick_replies tick.Waiting (rw (due_waits w));
+      agrees = agrees_waited t h x is (schedule t h (call.tick m ⇒ Ok tick.Waiting)) m (Ok tick.Waiting) refl (due_waits w) (due_waits w) f;
+      replies = tick_replies (Ok tick.Waiting) (rw (due_waits w));
       lawful = λ e b p k. never (rw (due_waits w) at b);
     }
 
-    goes_idle : waits s.plan ≡ false → entry_due t s.plan.requested s.plan.current ≡ current.None
-        → Goes (record { state = abandoned t s; answer = tick.Idle })
+    goes_idle : waits s.plan ≡ false → entry_due t s.plan.requested s.plan.current ≡ None
+        → Goes (record { state = abandoned t s; answer = Ok tick.Idle })
     unfolding schedule plan_with slot_begun
     goes_idle w c f =
-        let y = schedule t h (call.tick m ⇒ tick.Idle) in
+        let y = schedule t h (call.tick m ⇒ Ok tick.Idle) in
         let d = due_none w c in
         let b : is_start due ≡ true = rw d in
         record {
-          agrees = agrees_start y tick.Idle refl refl b (abandoned t s) f (abandoned_pending t s) (closed_transfer y tick.Idle refl refl b refl)
+          agrees = agrees_start y (Ok tick.Idle) refl refl b (abandoned t s) f (abandoned_pending t s) (closed_transfer y (Ok tick.Idle) refl refl b refl)
               (rw d (abandoned_plan t s)) refl refl (abandoned_received t s);
-          replies = tick_replies tick.Idle (rw d);
+          replies = tick_replies (Ok tick.Idle) (rw d);
           lawful = λ e q p k. let z : unscheduled ≡ entry e = sym d ∙ p in cc;
         }
 
-    goes_silent : (e : ℕ) → waits s.plan ≡ false → entry_due t s.plan.requested s.plan.current ≡ current.Entry e
-        → is_open (slot_by e) ≡ false → Goes (record { state = with_plan (abandoned t s) (begun t e); answer = tick.Silent })
+    goes_silent : (e : ℕ) → waits s.plan ≡ false → entry_due t s.plan.requested s.plan.current ≡ Some e
+        → is_open (slot_by e) ≡ false → Goes (record { state = with_plan (abandoned t s) (begun t e); answer = Ok tick.Silent })
     unfolding schedule plan_with opens slot_begun
     goes_silent e w c n f =
-        let y = schedule t h (call.tick m ⇒ tick.Silent) in
+        let y = schedule t h (call.tick m ⇒ Ok tick.Silent) in
         let d = due_entry e w c in
         let b : is_start due ≡ true = rw d in
         record {
-          agrees = agrees_start y tick.Silent refl refl b (with_plan (abandoned t s) (begun t e)) f (abandoned_pending t s)
-              (closed_transfer y tick.Silent refl refl b refl) (rw d) refl refl (abandoned_received t s);
-          replies = tick_replies tick.Silent (rw d (entry_replies e tick.Silent (answer_silent t (slot_by e) n)));
+          agrees = agrees_start y (Ok tick.Silent) refl refl b (with_plan (abandoned t s) (begun t e)) f (abandoned_pending t s)
+              (closed_transfer y (Ok tick.Silent) refl refl b refl) (rw d) refl refl (abandoned_received t s);
+          replies = tick_replies (Ok tick.Silent) (rw d (entry_replies e (Ok tick.Silent) (answer_silent t (slot_by e) n)));
           lawful = λ e' q p k.
               let z : entry e ≡ entry e' = sym d ∙ p in
               let i : e ≡ e' = cc in
               rw b (sym (not_open (slot_by e) n) ∙ rw i (list_first e' k));
         }
 
-    goes_opened : (e : ℕ) (o : Opened) → waits s.plan ≡ false → entry_due t s.plan.requested s.plan.current ≡ current.Entry e
+    goes_opened : (e : ℕ) (o : Opened) → waits s.plan ≡ false → entry_due t s.plan.requested s.plan.current ≡ Some e
         → o ≡ slot_by e → is_open o ≡ true
-        → Goes (record { state = opened t x.bytes m (with_plan (abandoned t s) (begun t e)) o; answer = tick.Opened (open_protected t o) })
+        → Goes (record { state = opened t x.bytes m (with_plan (abandoned t s) (begun t e)) o; answer = Ok (tick.Opened (open_protected t o)) })
     unfolding schedule plan_with opens slot_begun
     goes_opened e o w c q p f =
-        let a = tick.Opened (open_protected t o) in
+        let a = Ok (tick.Opened (open_protected t o)) in
         let y = schedule t h (call.tick m ⇒ a) in
         let d = due_entry e w c in
         let b : is_start due ≡ true = rw d in

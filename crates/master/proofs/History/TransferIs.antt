@@ -11,7 +11,6 @@ use borrow.Author.Tests.{eqb-true}
 use Rattle.master.specs.declared.state.Opened.{Opened}
 use Rattle.master.specs.declared.state.Opened.TheVariants.{Nothing, Frame, Request, Response}
 use Rattle.master.specs.declared.state.Transfer.{Transfer}
-use Rattle.master.specs.declared.byte.ByteAnswer.{ByteAnswer}
 use Rattle.master.specs.declared.byte.ByteAnswer.TheVariants.{More}
 use Rattle.master.specs.Fresh.{no_transfer}
 use Rattle.master.specs.Transfers.{format_of, is_open, open_length, sends}
@@ -28,6 +27,8 @@ use Rattle.master.proofs.History.Computed.{hits, rewritten_after, rewritten_new,
 use Rattle.master.proofs.History.Quiet.{is_quiet, got_quiet, due_quiet, rewritten_quiet}
 use Rattle.master.proofs.History.NineBytes.{nine_of, nine_snoc, nine_set, nine_at}
 use Rattle.master.specs.Put.{Value}
+use Rattle.std.specs.Prelude.{Ok}
+use Rattle.master.specs.Answers.{ByteResult}
 
 -- the bytes of the open transfer: those due where the master sends, and else those that came
 abbrev pub held_bytes : List ℕ → Seq Scheduled → List ℕ
@@ -74,7 +75,7 @@ module _ (t : List ℕ) where
       }
 
 -- a byte hits no frame
-missed : (t : List ℕ) (y : Scheduled) (b : ℕ) (c : ByteAnswer) → act y ≡ took b c → (o : Opened) → hits t o y ≡ false
+missed : (t : List ℕ) (y : Scheduled) (b : ℕ) (c : ByteResult) → act y ≡ took b c → (o : Opened) → hits t o y ≡ false
 unfolding writes
 missed t y b c a Nothing = refl
 missed t y b c a (Frame f) = rw a
@@ -161,7 +162,7 @@ module _ (t : List ℕ) (h : Seq Scheduled) (x : Transfer) (is : TransferIs t h 
         }
 
   -- one more byte, which does not end the transfer
-  module _ (y : Scheduled) (b : ℕ) (a : act y ≡ took b More) where
+  module _ (y : Scheduled) (b : ℕ) (a : act y ≡ took b (Ok More)) where
     more_closes : closes y ≡ false
     unfolding closes
     more_closes = rw a
@@ -178,7 +179,7 @@ module _ (t : List ℕ) (h : Seq Scheduled) (x : Transfer) (is : TransferIs t h 
     more_rewritten = rewritten_on t h y more_closes ∙ rw (misses (open_after t h)) (or_false (rewritten_after t h))
       where
         misses : (o : Opened) → hits t o y ≡ false
-        misses = missed t y b More a
+        misses = missed t y b (Ok More) a
 
     more_count : x.count + 1 ≡ length (got_after (h ▹ y))
     more_count = rw more_got (omega (arith, is.count_is, length-append (got_after h) (b ∷ [])))

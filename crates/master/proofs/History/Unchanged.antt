@@ -3,17 +3,15 @@ use Prim.Native.Nat.{ℕ}
 use mathlib.Core.Path.{◌≡◌, refl, sym, ◌∙◌, ap}
 use mathlib.Core.List.{List}
 use native.Mathlib.Omega.{arith}
-use Rattle.cluster.specs.declared.Verdict.{Verdict}
-use Rattle.cluster.specs.declared.Verdict.TheVariants.{Accepted, Refused}
 use Rattle.master.specs.declared.state.Opened.{Opened}
 use Rattle.master.specs.declared.state.Opened.TheVariants.{Nothing, Frame, Request, Response}
 use Rattle.master.specs.declared.state.State.{State}
-use Rattle.master.specs.declared.write.Wrote.{Wrote}
-use Rattle.master.specs.declared.read.StatusRead.{StatusRead}
-use Rattle.master.specs.declared.select.Chosen.{Chosen}
-use Rattle.master.specs.declared.tick.Ticked.{Ticked}
-use Rattle.master.specs.declared.byte.Took.{Took}
-use Rattle.master.specs.declared.send.Sent.{Sent}
+use Rattle.master.specs.Answers.{Wrote}
+use Rattle.master.specs.Answers.{StatusRead}
+use Rattle.master.specs.Answers.{Chosen}
+use Rattle.master.specs.Answers.{Ticked}
+use Rattle.master.specs.Answers.{Took}
+use Rattle.master.specs.Answers.{Sent}
 use Rattle.master.specs.Admit.{Step, answered}
 use Rattle.master.specs.Write.{write_of}
 use Rattle.master.specs.Select.{select_of}
@@ -28,6 +26,8 @@ use Rattle.master.specs.Step.{verdict_of, effect_of}
 use Rattle.master.specs.Acts.{nothing, write_act, select_act, tick_act, byte_act, status_act, send_act, act_of}
 use Rattle.master.proofs.Cases.{ticked_by, taken_by}
 use Rattle.master.proofs.StepLaws.{goes, left_by_verdict}
+use Rattle.std.specs.Prelude.{Ok, Err}
+use Rattle.cluster.specs.Check.{Verdict}
 
 accepted_counts : (t : List ℕ) (s : State) (o : Opened) (nine bs : List ℕ) (b : ℕ) → byte_act b (accepted t s o nine bs).given.answer ≡ nothing → ⊥
 unfolding accepted
@@ -37,7 +37,7 @@ accepted_counts t s Request nine bs b e = let z : ◌≡◌ {A = ℕ} 0 1 = cc i
 accepted_counts t s Response nine bs b e = let z : ◌≡◌ {A = ℕ} 0 1 = cc in omega arith
 
 -- an accepted call that counts for nothing only asks
-only_asks : (t : List ℕ) (x : Held) (c : Call) → verdict_of t x c ≡ Accepted → act_of (c ⇒ answer_of t x c) ≡ nothing → effect_of t x c ≡ x
+only_asks : (t : List ℕ) (x : Held) (c : Call) → verdict_of t x c ≡ Ok tt → act_of (c ⇒ answer_of t x c) ≡ nothing → effect_of t x c ≡ x
 unfolding answer_of verdict_of effect_of write_of select_of tick_of byte_of status_of send_of
 only_asks t x (call.write w) a e = absurd (let q = sym (ap (λ (z : Step Wrote). write_act w.signal w.value z.given.answer) (goes _ _ _ a)) ∙ e in let z : ◌≡◌ {A = ℕ} 0 1 = cc in omega arith)
 only_asks t x (call.read s) a e = refl
@@ -66,5 +66,5 @@ pub unchanged : (t : List ℕ) (x : Held) (c : Call) → act_of (c ⇒ answer_of
 unchanged t x c e = left_by_verdict t x c ∙ by (verdict_of t x c) refl
   where
     by : (v : Verdict) → verdict_of t x c ≡ v → answered (verdict_of t x c) (λ r. x) (effect_of t x c) ≡ x
-    by Accepted a = rw a (only_asks t x c a e)
-    by (Refused r) a = rw a
+    by (Ok tt) a = rw a (only_asks t x c a e)
+    by (Err r) a = rw a

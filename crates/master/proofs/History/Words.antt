@@ -7,10 +7,6 @@ use lib.ListN.{drop}
 use lib.Seq.{take-take}
 use Rattle.cluster.specs.Table.{frame_length}
 use Rattle.master.specs.declared.state.Plan.{Plan}
-use Rattle.master.specs.declared.state.Current.{Current}
-use Rattle.master.specs.declared.state.Current.TheVariants as current
-use Rattle.master.specs.declared.state.Requested.{Requested}
-use Rattle.master.specs.declared.state.Requested.TheVariants as requested
 use Rattle.master.specs.declared.state.Opened.{Opened}
 use Rattle.master.specs.declared.state.Opened.TheVariants.{Nothing, Frame, Request, Response}
 use Rattle.master.specs.declared.state.Message.{Message}
@@ -24,6 +20,7 @@ use Rattle.master.specs.History.{is_transfer, data_of, checksum_over}
 use Rattle.master.specs.Answering.{sent_on, message_closed, protected_of}
 use Rattle.master.specs.Replies.{is_being_sent, message_reply, lent_right}
 use Rattle.master.proofs.Tests.{never}
+use Rattle.std.specs.Prelude.{Some, None, Option, Ok}
 
 -- ---- transfers
 
@@ -51,15 +48,15 @@ checksum_over_lem t f ds = refl
 
 -- ---- the plan
 
-abbrev pub slot_with : Current → Slot
-slot_with current.None = unscheduled
-slot_with (current.Entry e) = entry e
+abbrev pub slot_with : Option ℕ → Slot
+slot_with None = unscheduled
+slot_with (Some e) = entry e
 
-slot_of_lem : (t : List ℕ) (r : Requested) (c : Current) → slot_of t r c ≡ slot_with (entry_due t r c)
+slot_of_lem : (t : List ℕ) (r : Option ℕ) (c : Option ℕ) → slot_of t r c ≡ slot_with (entry_due t r c)
 unfolding slot_of
-slot_of_lem t (requested.Schedule n) c = refl
-slot_of_lem t requested.None current.None = refl
-slot_of_lem t requested.None (current.Entry e) = refl
+slot_of_lem t (Some n) c = refl
+slot_of_lem t None None = refl
+slot_of_lem t None (Some e) = refl
 
 pub slot_due_lem : (t : List ℕ) (p : Plan) → slot_due t p ≡ cond (waits p) none (slot_with (entry_due t p.requested p.current))
 unfolding slot_due
@@ -99,7 +96,7 @@ lent_right_lem (message.Sending x) n = refl
 lent_right_lem message.Completed n = refl
 lent_right_lem message.Failed n = refl
 
-pub message_told_lem : (x : Message) → told x ≡ message_reply x
+pub message_told_lem : (x : Message) → Ok (told x) ≡ message_reply x
 message_told_lem message.None = refl
 message_told_lem (message.Sending x) = refl
 message_told_lem message.Completed = refl

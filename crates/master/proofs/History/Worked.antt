@@ -24,16 +24,9 @@ use Rattle.cluster.specs.Fresh.{array_length, start_at, put_start, filled, fresh
 use Rattle.cluster.specs.Values.{touches, first_placement, signal_published, value_fits, array_fits, scalar_at, array_at, with_scalar, with_array, handed_out, array_read, start_read}
 use Rattle.transport.specs.Cutting as cutting
 use Rattle.transport.specs.Reassembly as lent
-use Rattle.master.specs.declared.write.WriteAnswer.TheVariants as write
-use Rattle.master.specs.declared.read.ReadAnswer.TheVariants as read
-use Rattle.master.specs.declared.read.ArrayAnswer.TheVariants as array
-use Rattle.master.specs.declared.read.StatusAnswer.TheVariants as status
-use Rattle.master.specs.declared.select.SelectAnswer.TheVariants as select
 use Rattle.master.specs.declared.tick.TickAnswer.TheVariants as tick
 use Rattle.master.specs.declared.byte.ByteAnswer.TheVariants as byte
-use Rattle.master.specs.declared.send.SendAnswer.TheVariants as send
 use Rattle.master.specs.declared.send.MessageAnswer.TheVariants as message
-use Rattle.master.specs.declared.ahead.AheadAnswer.TheVariants as ahead
 use Rattle.master.specs.Admit.{buffer_size, admitted}
 use Rattle.master.specs.Start.{fresh_verdict, fresh_of}
 use Rattle.master.specs.Fresh.{fresh}
@@ -52,9 +45,10 @@ use Rattle.master.specs.Seq.{Seq, ∅, ◌▹◌, ◌⋈◌}
 use Rattle.master.specs.Calls as call
 use Rattle.master.specs.Calls.{Call, Event, ◌⇒◌}
 use Rattle.master.specs.Run.{answer_of, left_by, held_after, history_of}
-use Rattle.master.specs.Replies.{plain}
+use Rattle.master.specs.Replies.{}
 use Rattle.master.specs.Claim.{calls_of}
 use Rattle.master.specs.Put.{put, scalar, array}
+use Rattle.std.specs.Prelude.{Ok, Err}
 
 -- frames: 8, three bytes, published; 24, four bytes, published and classic; 1, two bytes, received; 35, one byte, published. Signals: 7 bits at 5 of
 -- frame 0, three bytes at 8 of frame 1, 10 bits at 3 of frame 2, 8 bits at 16 of frame 0, 8 bits at 0 of frame 3. List 0 has frames 1 and 0, list 1 has
@@ -93,19 +87,19 @@ lent_message = 1 ∷ 2 ∷ 3 ∷ 4 ∷ 5 ∷ 6 ∷ 7 ∷ []
 -- ---- a call with its answer
 
 abbrev writes : ℕ → ℕ → Event
-writes s v = call.write (put s (scalar v)) ⇒ write.Written
+writes s v = call.write (put s (scalar v)) ⇒ Ok tt
 
 abbrev writes_bytes : ℕ → List ℕ → Event
-writes_bytes s vs = call.write (put s (array vs)) ⇒ write.Written
+writes_bytes s vs = call.write (put s (array vs)) ⇒ Ok tt
 
 abbrev more : ℕ → Event
-more b = call.byte_in b ⇒ plain byte.More
+more b = call.byte_in b ⇒ Ok byte.More
 
 abbrev succeeds : ℕ → Event
-succeeds b = call.byte_in b ⇒ plain byte.Success
+succeeds b = call.byte_in b ⇒ Ok byte.Success
 
 abbrev opens : List ℕ → ℕ → Event
-opens m p = call.tick m ⇒ tick.Opened p
+opens m p = call.tick m ⇒ Ok (tick.Opened p)
 
 -- ---- the history
 
@@ -113,13 +107,13 @@ opens m p = call.tick m ⇒ tick.Opened p
 abbrev starting : Seq Event
 starting =
     ∅
-    ▹ (call.select 2 ⇒ select.Refused (refused 4))
-    ▹ (call.tick [] ⇒ tick.Idle)
-    ▹ (call.select 0 ⇒ select.Selected)
+    ▹ (call.select 2 ⇒ Err (refused 4))
+    ▹ (call.tick [] ⇒ Ok tick.Idle)
+    ▹ (call.select 0 ⇒ Ok tt)
     ▹ writes 0 100
     ▹ writes_bytes 1 (1 ∷ 2 ∷ 3 ∷ [])
-    ▹ (call.write (put 0 (scalar 128)) ⇒ write.Refused (refused 7))
-    ▹ (call.number_ahead 0 ⇒ ahead.Count 1)
+    ▹ (call.write (put 0 (scalar 128)) ⇒ Err (refused 7))
+    ▹ (call.number_ahead 0 ⇒ Ok 1)
 
 -- the list's slot opens frame 1, D8 in hexadecimal, classic; a write in flight does not touch its bytes, and it stays pending
 abbrev in_flight : Seq Event
@@ -132,7 +126,7 @@ in_flight =
     ▹ more 2
     ▹ more 3
     ▹ succeeds 249
-    ▹ (call.tick [] ⇒ tick.Waiting)
+    ▹ (call.tick [] ⇒ Ok tick.Waiting)
 
 -- frame 2, C1, is received, enhanced: C1 + 34 + 12 is 107, less 255 is 8, and F7 inverted; bits 3 to 12 of 1234 are 582
 abbrev receiving : Seq Event
@@ -142,16 +136,16 @@ receiving =
     ▹ more 52
     ▹ more 18
     ▹ succeeds 247
-    ▹ (call.read 2 ⇒ read.Value 582)
+    ▹ (call.read 2 ⇒ Ok 582)
 
 -- a message of seven bytes for NAD 5; only a message of that length may be lent now; its first frame
 abbrev requesting : Seq Event
 requesting =
     ∅
-    ▹ (call.send 5 7 ⇒ send.Sending)
-    ▹ (call.send 5 7 ⇒ send.Refused (refused 10))
-    ▹ (call.message_state ⇒ message.Sending)
-    ▹ (call.tick [] ⇒ tick.Refused (refused 3))
+    ▹ (call.send 5 7 ⇒ Ok tt)
+    ▹ (call.send 5 7 ⇒ Err (refused 10))
+    ▹ (call.message_state ⇒ Ok message.Sending)
+    ▹ (call.tick [] ⇒ Err (refused 3))
     ▹ opens lent_message 60
     ▹ more 5
     ▹ more 16
@@ -169,16 +163,16 @@ failing =
     ∅
     ▹ opens lent_message 216
     ▹ more 255
-    ▹ (call.byte_in 1 ⇒ plain byte.Failure)
-    ▹ (call.read_status ⇒ status.Word 55303)
+    ▹ (call.byte_in 1 ⇒ Ok byte.Failure)
+    ▹ (call.read_status ⇒ Ok 55303)
 
 -- the other schedule begins at the next slot: its list has nothing pending, and then the response, 7D, which a write does not touch
 abbrev responding : Seq Event
 responding =
     ∅
-    ▹ (call.select 1 ⇒ select.Selected)
-    ▹ (call.tick lent_message ⇒ tick.Waiting)
-    ▹ (call.tick lent_message ⇒ tick.Silent)
+    ▹ (call.select 1 ⇒ Ok tt)
+    ▹ (call.tick lent_message ⇒ Ok tick.Waiting)
+    ▹ (call.tick lent_message ⇒ Ok tick.Silent)
     ▹ writes 4 77
     ▹ opens lent_message 125
     ▹ more 5
@@ -189,22 +183,22 @@ responding =
     ▹ more 3
     ▹ more 255
     ▹ more 255
-    ▹ (call.byte_in 176 ⇒ record { answer = byte.Response; response = 5 ∷ 3 ∷ 65 ∷ 1 ∷ 2 ∷ 3 ∷ 255 ∷ 255 ∷ [] })
-    ▹ (call.read_status ⇒ status.Word 32002)
+    ▹ (call.byte_in 176 ⇒ Ok (byte.Response (5 ∷ 3 ∷ 65 ∷ 1 ∷ 2 ∷ 3 ∷ 255 ∷ 255 ∷ [])))
+    ▹ (call.read_status ⇒ Ok 32002)
 
 -- frame 1 with the bytes of the last write; then none is pending ahead of frame 0; frame 2 gets no response, which counts for nothing
 abbrev again : Seq Event
 again =
     ∅
-    ▹ (call.select 0 ⇒ select.Selected)
+    ▹ (call.select 0 ⇒ Ok tt)
     ▹ opens lent_message 216
     ▹ more 255
     ▹ more 4
     ▹ more 5
     ▹ more 6
     ▹ succeeds 240
-    ▹ (call.number_ahead 0 ⇒ ahead.Count 0)
-    ▹ (call.tick lent_message ⇒ tick.Waiting)
+    ▹ (call.number_ahead 0 ⇒ Ok 0)
+    ▹ (call.tick lent_message ⇒ Ok tick.Waiting)
     ▹ opens lent_message 193
 
 -- the second frame of the message, and it is completed
@@ -221,7 +215,7 @@ completing =
     ▹ more 255
     ▹ more 255
     ▹ succeeds 204
-    ▹ (call.message_state ⇒ message.Completed)
+    ▹ (call.message_state ⇒ Ok message.Completed)
 
 -- frame 0, 08, enhanced, with the 7 bits of 100 over its byte border: 9F FC C8; then what is refused, and the status
 abbrev ending : Seq Event
@@ -232,14 +226,14 @@ ending =
     ▹ more 252
     ▹ more 200
     ▹ succeeds 146
-    ▹ (call.read_array 1 ⇒ record { answer = array.Bytes 3; bytes = 4 ∷ 5 ∷ 6 ∷ 255 ∷ 255 ∷ 255 ∷ 255 ∷ 255 ∷ [] })
-    ▹ (call.read 0 ⇒ read.Value 100)
-    ▹ (call.read 1 ⇒ read.Refused (refused 6))
-    ▹ (call.write (put 2 (scalar 1)) ⇒ write.Refused (refused 5))
-    ▹ (call.number_ahead 2 ⇒ ahead.Refused (refused 4))
-    ▹ (call.byte_in 0 ⇒ plain (byte.Refused (refused 8)))
-    ▹ (call.send 5 0 ⇒ send.Refused (refused 9))
-    ▹ (call.read_status ⇒ status.Word 2054)
+    ▹ (call.read_array 1 ⇒ Ok (record { count = 3; bytes = 4 ∷ 5 ∷ 6 ∷ 255 ∷ 255 ∷ 255 ∷ 255 ∷ 255 ∷ [] }))
+    ▹ (call.read 0 ⇒ Ok 100)
+    ▹ (call.read 1 ⇒ Err (refused 6))
+    ▹ (call.write (put 2 (scalar 1)) ⇒ Err (refused 5))
+    ▹ (call.number_ahead 2 ⇒ Err (refused 4))
+    ▹ (call.byte_in 0 ⇒ (Err (refused 8)))
+    ▹ (call.send 5 0 ⇒ Err (refused 9))
+    ▹ (call.read_status ⇒ Ok 2054)
 
 abbrev history : Seq Event
 history = starting ⋈ in_flight ⋈ receiving ⋈ requesting ⋈ failing ⋈ responding ⋈ again ⋈ completing ⋈ ending

@@ -1,30 +1,28 @@
 -- The byte is found where the search comes to it, and at the end there is none.
-use Rattle.std.proofs.Common.{◌<◌, ◌≤◌, length, min, arith}
-use Rattle.scan.proofs.Searching.{none_left, found, passed}
+use Rattle.std.proofs.Common.{◌≡◌, ◌+◌, List, length-drop, ℕ, ◌-◌, take, drop, length-take-le, ◌≤◌, ◌<◌, length, arith}
+use Rattle.scan.proofs.Searching.{none_left, index_within, search_within}
+use Rattle.scan.specs.Bytes.{index_of}
 use Rattle.scan.proofs.find.Goals as goal
 
-pub returns-then-bytes-i-clause-index : goal.returns-then-bytes-i-clause-index
-returns-then-bytes-i-clause-index c =
+pub returns-then-end-from-clause-index : goal.returns-then-end-from-clause-index
+returns-then-end-from-clause-index c =
     let a = c.args in
-    let more : c.loop-i.i < min a.to (length a.bytes.now) = omega (arith, c.least-end.ensures, c.loop-i-test.true) in
-    omega (arith, c.loop-i.invariant.1, found a.byte a.bytes.now c.loop-i.i a.to more c.if-bytes-i.true)
+    omega (arith, none_left a.byte a.bytes.now a.from a.to (omega arith))
 
-pub loop-i-preserved : goal.loop-i-preserved
-loop-i-preserved c =
-    let a = c.args in
-    let more : c.loop-i.i < min a.to (length a.bytes.now) = omega (arith, c.least-end.ensures, c.loop-i-test.true) in (
-      omega (arith, c.loop-i.invariant.0),
-      omega (arith, c.loop-i.invariant.1, passed a.byte a.bytes.now c.loop-i.i a.to more c.if-bytes-i.false),
-    )
+-- the place that the search tells is at most the end
+within : (byte from end : ℕ) (bytes : List ℕ) {r : ℕ} → from < end → end ≤ length bytes → r ≡ index_of byte (take (end - from) (drop from bytes)) → from + r ≤ end
+within byte from end bytes h k e =
+    omega (arith, e, index_within byte (take (end - from) (drop from bytes)), length-take-le (end - from) (drop from bytes) (simp length-drop (omega arith)))
 
-pub returns-then-from-end-clause-index : goal.returns-then-from-end-clause-index
-returns-then-from-end-clause-index c =
+pub overflow_add-result : goal.overflow_add-result
+overflow_add-result c =
     let a = c.args in
-    let over : min a.to (length a.bytes.now) ≤ c.loop-i.i = omega (arith, c.least-end.ensures, c.loop-i-test.false) in
-    omega (arith, c.loop-i.invariant.1, c.if-from-end.true, c.loop-i.auto.i-end, none_left a.byte a.bytes.now c.loop-i.i a.to over)
+    omega (arith, within a.byte a.from c.min-end.result a.bytes.now c.if-end-from.false (omega arith) c.index_of.ensures)
 
-pub returns-else-from-end-clause-index : goal.returns-else-from-end-clause-index
-returns-else-from-end-clause-index c =
+pub returns-clause-index : goal.returns-clause-index
+returns-clause-index c = let a = c.args in rw (c.index_of.ensures, c.min-end.ensures, search_within a.byte a.bytes.now a.from a.to (omega (arith, c.min-end.ensures, c.if-end-from.false)))
+
+pub returns-clause-at_most : goal.returns-clause-at_most
+returns-clause-at_most c =
     let a = c.args in
-    let over : min a.to (length a.bytes.now) ≤ a.from = omega (arith, c.least-end.ensures, c.if-from-end.false) in
-    omega (arith, none_left a.byte a.bytes.now a.from a.to over)
+    λ h. omega (arith, within a.byte a.from c.min-end.result a.bytes.now c.if-end-from.false (omega arith) c.index_of.ensures)

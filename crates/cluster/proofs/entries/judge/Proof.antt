@@ -1,6 +1,6 @@
 -- `cluster::entries::judge` meets its contract. The invariant: the entries before are passed, and their schedules counted.
 use borrow.Author.Rules.{rules}
-use Prim.Native.Nat.{ℕ, ◌+◌, ◌-◌, ◌*◌, ◌<◌}
+use Prim.Native.Nat.{◌≤◌, ℕ, ◌+◌, ◌-◌, ◌*◌, ◌<◌}
 use mathlib.Core.Path.{◌≡◌, ◌∙◌, ap}
 use mathlib.Core.List.{List}
 use native.Mathlib.Omega.{arith}
@@ -12,7 +12,7 @@ use Rattle.cluster.proofs.entries.judge.Statement.{statement}
 use Rattle.cluster.proofs.entries.judge.Tie as tie
 
 abbrev invariant_loop : tie.invariant-loop-e
-invariant_loop t lists first n whole schedules₀ e₀ schedules e = Passed t e schedules
+invariant_loop t lists first n whole schedules₀ e₀ schedules e = (e ≤ whole) × Passed t e schedules
 
 abbrev decreases_loop : tie.decreases-loop-e
 decreases_loop t lists first n whole schedules₀ e₀ schedules e = whole - e
@@ -34,7 +34,7 @@ schedules c = c.loop-e.schedules
 turn : (c : Loop) → entry c < c.count-n.result → Turn (table c) (entry c) (schedules c)
 turn c below =
     let known = c.requires in
-    (c.loop-e.invariant, omega (arith, c.count-n.ensures), known.0.0, known.1.0, omega (arith, c.lists-lists.ensures))
+    (c.loop-e.invariant.1, omega (arith, c.count-n.ensures), known.0.0, known.1.0, omega (arith, c.lists-lists.ensures))
 
 here : (c : Loop) → c.entry_at-first.result + entry_words * entry c ≡ entry_at (table c) (entry c)
 here c = omega (arith, c.entry_at-first.ensures)
@@ -60,30 +60,33 @@ seen c =
     c.right_words-right.ensures ∙ ap leading (seen_read (table l) (entry l) (schedules l) _ (read_at c) _ _ c.count.ensures lists)
 
 abbrev Cut : Type 0
-Cut = tie.After-right_words-right-then-e-n invariant_loop decreases_loop
+Cut = tie.After-right_words-right-then-whole-n invariant_loop decreases_loop
 
 abbrev end : Cut → Loop
 end c = c.before.before.before.before.before
 
-seen_cut : (c : Cut) → c.right_words-right-then-e-n.result ≡ leading (entry_read (table (end c)) (entry (end c)) (schedules (end c)))
+reached : (c : Cut) → c.loop-e.e ≡ c.whole_records-whole.result
+reached c = omega (arith, c.loop-e-test.false, c.loop-e.invariant.0)
+
+seen_cut : (c : Cut) → c.right_words-right-then-whole-n.result ≡ leading (entry_read (table (end c)) (entry (end c)) (schedules (end c)))
 seen_cut c =
     let l = end c in
     let lists = l.lists-lists.ensures.0 in
-    let read = rw (here l) at c.read_due.ensures in
-    c.right_words-right-then-e-n.ensures ∙ ap leading (seen_read (table l) (entry l) (schedules l) _ read _ _ c.count-then-e-n.ensures lists)
+    let read = rw (← reached c, here l) at c.read_due.ensures in
+    c.right_words-right-then-whole-n.ensures ∙ ap leading (seen_read (table l) (entry l) (schedules l) _ read _ _ c.count-then-whole-n.ensures lists)
 
 turn_cut : (c : Cut) → Turn (table (end c)) (entry (end c)) (schedules (end c))
-turn_cut c = turn (end c) c.if-e-n.true
+turn_cut c = turn (end c) (omega (arith, reached c, c.if-whole-n.true))
 
 cut_right : (c : Cut) → leading (entry_read (table (end c)) (entry (end c)) (schedules (end c))) < entry_words
 cut_right c =
     let l = end c in
-    let more = c.if-e-n.true in
-    let reached = c.loop-e-test.false in
+    let more = c.if-whole-n.true in
+    let at = reached c in
     cut_off (table l) (entry l) (schedules l) (turn_cut c) (omega (arith, here l, l.whole_records-whole.ensures.cut (omega arith)))
 
 loop_holds : tie.Need-loop-e-init invariant_loop decreases_loop
-loop_holds c = none_passed c.args.t.now
+loop_holds c = (omega arith, none_passed c.args.t.now)
 
 read_requires : tie.Need-read-words-requires invariant_loop decreases_loop
 read_requires c κs = omega (arith, c.whole_records-whole.ensures.there (entry c.before) c.loop-e-test.true)
@@ -105,23 +108,23 @@ loop_again c =
     let d : Judged = c.before.before in
     let l = loop d in
     let right = seen d in
-    rw (read_at d).schedule_is (passes (table l) (entry l) (schedules l) (turn_whole d) (omega arith))
+    (omega (arith, c.loop-e-test.true), rw (read_at d).schedule_is (passes (table l) (entry l) (schedules l) (turn_whole d) (omega arith)))
 
-right_words_requires_2 : tie.Need-right_words-right-requires-then-e-n invariant_loop decreases_loop
+right_words_requires_2 : tie.Need-right_words-right-requires-then-whole-n invariant_loop decreases_loop
 right_words_requires_2 c κs = c.read_due.ensures.schedule_high
 
-add_fault_2 : tie.Need-overflow_add-at-then-e-n-2 invariant_loop decreases_loop
-add_fault_2 c = omega (arith, seen_cut c, cut_right c)
+add_fault_2 : tie.Need-overflow_add-at-then-whole-n-2 invariant_loop decreases_loop
+add_fault_2 c = omega (arith, reached c, seen_cut c, cut_right c)
 
-returns_2 : tie.Need-returns-then-e-n invariant_loop decreases_loop
+returns_2 : tie.Need-returns-then-whole-n invariant_loop decreases_loop
 returns_2 c =
     let d : Cut = c.before in
     let l = end d in
-    c.fault-then-e-n.ensures ∙ stops (table l) (entry l) (schedules l) (turn_cut d) (cut_right d) _ (omega (arith, here l, seen_cut d))
+    c.fault-then-whole-n.ensures ∙ stops (table l) (entry l) (schedules l) (turn_cut d) (cut_right d) _ (omega (arith, here l, reached d, seen_cut d))
 
 returns_3 : tie.Need-returns invariant_loop decreases_loop
 returns_3 c =
-    all_passed _ _ _ c.loop-e.invariant (omega (arith, c.count-n.ensures))
+    all_passed _ _ _ c.loop-e.invariant.1 (omega (arith, c.count-n.ensures))
 
 pub judge_spec : {M : Type 1} → statement M
 judge_spec =

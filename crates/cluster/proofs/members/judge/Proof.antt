@@ -1,7 +1,7 @@
 -- `cluster::members::judge` meets its contract. The invariant: the members before are passed, their frames marked and their lists
 -- counted.
 use borrow.Author.Rules.{rules}
-use Prim.Native.Nat.{ℕ, ◌+◌, ◌-◌, ◌*◌, ◌<◌}
+use Prim.Native.Nat.{◌≤◌, ℕ, ◌+◌, ◌-◌, ◌*◌, ◌<◌}
 use mathlib.Core.Path.{◌≡◌, ◌∙◌, ap}
 use mathlib.Core.Bool.{Bool}
 use mathlib.Core.List.{List}
@@ -14,7 +14,7 @@ use Rattle.cluster.proofs.members.judge.Statement.{statement}
 use Rattle.cluster.proofs.members.judge.Tie as tie
 
 abbrev invariant_loop : tie.invariant-loop-m
-invariant_loop t listed₀ first n whole lists₀ m₀ listed lists m = Passed t m lists listed
+invariant_loop t listed₀ first n whole lists₀ m₀ listed lists m = (m ≤ whole) × Passed t m lists listed
 
 abbrev decreases_loop : tie.decreases-loop-m
 decreases_loop t listed₀ first n whole lists₀ m₀ listed lists m = whole - m
@@ -39,7 +39,7 @@ marks c = c.loop-m.listed
 turn : (c : Loop) → member c < c.count-n.result → Turn (table c) (member c) (lists c) (marks c)
 turn c below =
     let known = c.requires in
-    (c.loop-m.invariant, omega (arith, c.count-n.ensures), known.0.frames, known.1)
+    (c.loop-m.invariant.1, omega (arith, c.count-n.ensures), known.0.frames, known.1)
 
 here : (c : Loop) → c.member_at-first.result + member_words * member c ≡ member_at (table c) (member c)
 here c = omega (arith, c.member_at-first.ensures)
@@ -67,30 +67,33 @@ Cut = tie.After-right_words invariant_loop decreases_loop
 abbrev end : Cut → Loop
 end c = c.before.before.before.before.before
 
+reached : (c : Cut) → c.loop-m.m ≡ c.whole_records-whole.result
+reached c = omega (arith, c.loop-m-test.false, c.loop-m.invariant.0)
+
 turn_cut : (c : Cut) → Turn (table (end c)) (member (end c)) (lists (end c)) (marks (end c))
-turn_cut c = turn (end c) c.if-m-n.true
+turn_cut c = turn (end c) (omega (arith, reached c, c.if-whole-n.true))
 
 seen_cut : (c : Cut) → c.right_words.result ≡ leading (member_read (table (end c)) (member (end c)) (lists (end c)) (marks (end c)))
 seen_cut c =
     let l = end c in
-    c.right_words.ensures ∙ ap leading (seen_read (table l) (member l) (lists l) (marks l) _ (rw (here l) at c.read_due.ensures))
+    c.right_words.ensures ∙ ap leading (seen_read (table l) (member l) (lists l) (marks l) _ (rw (← reached c, here l) at c.read_due.ensures))
 
 cut_right : (c : Cut) → leading (member_read (table (end c)) (member (end c)) (lists (end c)) (marks (end c))) < member_words
 cut_right c =
     let l = end c in
-    let more = c.if-m-n.true in
-    let reached = c.loop-m-test.false in
+    let more = c.if-whole-n.true in
+    let at = reached c in
     cut_off (table l) (member l) (lists l) (marks l) (turn_cut c) (omega (arith, here l, l.whole_records-whole.ensures.cut (omega arith)))
 
 loop_holds : tie.Need-loop-m-init invariant_loop decreases_loop
-loop_holds c = none_passed c.args.t.now
+loop_holds c = (omega arith, none_passed c.args.t.now)
 
 read_requires : tie.Need-read-words-requires invariant_loop decreases_loop
 read_requires c κs = omega (arith, c.whole_records-whole.ensures.there (member c.before) c.loop-m-test.true)
 
 right_words_requires : tie.Need-right_words-right-requires invariant_loop decreases_loop
 right_words_requires c κs =
-    (c.requires.0, c.loop-m.invariant.1.0, c.read-words.ensures.list_high)
+    (c.requires.0, c.loop-m.invariant.1.1.0, c.read-words.ensures.list_high)
 
 returns : tie.Need-returns-then-right-lt-MEMBER invariant_loop decreases_loop
 unfolding member_columns
@@ -106,7 +109,7 @@ array_write_listed c =
     let l = loop d in
     let right = seen d in
     let below = frame_below (table l) (member l) (lists l) (marks l) (turn_whole d) (omega arith) in
-    omega (arith, (read_at d).frame_is, l.loop-m.invariant.1.0)
+    omega (arith, (read_at d).frame_is, l.loop-m.invariant.1.1.0)
 
 loop_again : tie.Need-loop-m-preserved invariant_loop decreases_loop
 unfolding member_columns
@@ -114,24 +117,24 @@ loop_again c =
     let d : Judged = c.before.before in
     let l = loop d in
     let right = seen d in
-    passes (table l) (member l) (lists l) (marks l) (turn_whole d) (omega arith) _ (read_at d)
+    (omega (arith, c.loop-m-test.true), passes (table l) (member l) (lists l) (marks l) (turn_whole d) (omega arith) _ (read_at d))
 
 right_words_requires_2 : tie.Need-right_words-requires invariant_loop decreases_loop
 right_words_requires_2 c κs =
-    (c.requires.0, c.loop-m.invariant.1.0, c.read_due.ensures.list_high)
+    (c.requires.0, c.loop-m.invariant.1.1.0, c.read_due.ensures.list_high)
 
-add_fault_2 : tie.Need-overflow_add-at-then-m-n-2 invariant_loop decreases_loop
-add_fault_2 c = omega (arith, seen_cut c, cut_right c)
+add_fault_2 : tie.Need-overflow_add-at-then-whole-n-2 invariant_loop decreases_loop
+add_fault_2 c = omega (arith, reached c, seen_cut c, cut_right c)
 
-returns_2 : tie.Need-returns-then-m-n invariant_loop decreases_loop
+returns_2 : tie.Need-returns-then-whole-n invariant_loop decreases_loop
 returns_2 c =
     let d : Cut = c.before in
     let l = end d in
-    c.fault-then-m-n.ensures ∙ stops (table l) (member l) (lists l) (marks l) (turn_cut d) (cut_right d) _ (omega (arith, here l, seen_cut d))
+    c.fault-then-whole-n.ensures ∙ stops (table l) (member l) (lists l) (marks l) (turn_cut d) (cut_right d) _ (omega (arith, here l, reached d, seen_cut d))
 
 returns_3 : tie.Need-returns invariant_loop decreases_loop
 returns_3 c =
-    all_passed _ _ _ c.loop-m.listed c.loop-m.invariant (omega (arith, c.count-n.ensures))
+    all_passed _ _ _ c.loop-m.listed c.loop-m.invariant.1 (omega (arith, c.count-n.ensures))
 
 pub judge_spec : {M : Type 1} → statement M
 judge_spec =

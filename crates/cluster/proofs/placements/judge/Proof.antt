@@ -1,6 +1,6 @@
 -- `cluster::placements::judge` meets its contract. The invariant: the position is that of some placement, and those before it are passed, with their marks.
 use borrow.Author.Rules.{rules}
-use Prim.Native.Nat.{ℕ, ◌+◌, ◌-◌, ◌≤◌}
+use Prim.Native.Nat.{ℕ, ◌*◌, ◌+◌, ◌-◌, ◌≤◌}
 use mathlib.Core.Path.{◌≡◌, refl, ◌∙◌, ap}
 use mathlib.Core.List.{List}
 use native.Mathlib.Omega.{arith}
@@ -11,12 +11,11 @@ use Rattle.cluster.proofs.PlacementTurn.{Passed, Turn, none_passed, all_passed, 
 use Rattle.cluster.proofs.placements.judge.Statement.{statement}
 use Rattle.cluster.proofs.placements.judge.Tie as tie
 
-abbrev invariant_loop : tie.invariant-loop-at
-invariant_loop t occupied₀ last₀ first end placed₀ frame₀ at₀ occupied last placed frame at =
-    (k : ℕ) × (at ≡ placement_at t k) × Passed t k placed frame last occupied
+abbrev invariant_loop : tie.invariant-loop-k
+invariant_loop t occupied₀ last₀ first n placed₀ frame₀ k₀ occupied last placed frame k = Passed t k placed frame last occupied
 
-abbrev decreases_loop : tie.decreases-loop-at
-decreases_loop t occupied₀ last₀ first end placed₀ frame₀ at₀ occupied last placed frame at = end - at
+abbrev decreases_loop : tie.decreases-loop-k
+decreases_loop t occupied₀ last₀ first n placed₀ frame₀ k₀ occupied last placed frame k = n - k
 
 -- the table, the placement and the marks where a record was read
 
@@ -27,28 +26,28 @@ abbrev table : Seen → List ℕ
 table c = c.args.t.now
 
 abbrev placement : Seen → ℕ
-placement c = c.loop-at.invariant.0
+placement c = c.loop-k.k
 
 abbrev placed : Seen → ℕ
-placed c = c.loop-at.placed
+placed c = c.loop-k.placed
 
 abbrev frame : Seen → ℕ
-frame c = c.loop-at.frame
+frame c = c.loop-k.frame
 
 abbrev lasts : Seen → List ℕ
-lasts c = c.loop-at.last
+lasts c = c.loop-k.last
 
 abbrev bits : Seen → List ℕ
-bits c = c.loop-at.occupied
+bits c = c.loop-k.occupied
 
-here : (c : Seen) → c.loop-at.at ≡ placement_at (table c) (placement c)
-here c = c.loop-at.invariant.1
+here : (c : Seen) → c.placement_at-first.result + placement_words * placement c ≡ placement_at (table c) (placement c)
+here c = omega (arith, c.placement_at-first.ensures)
 
 turn : (c : Seen) → Turn (table c) (placement c) (placed c) (frame c) (lasts c) (bits c)
 turn c =
     record {
-      passed = c.loop-at.invariant.2;
-      more = omega (arith, here c, c.loop-at-test.true, c.count.ensures, c.placement_at-first.ensures);
+      passed = c.loop-k.invariant;
+      more = omega (arith, c.loop-k-test.true, c.count-n.ensures);
       records = c.requires.1;
     }
 
@@ -75,12 +74,12 @@ place c right =
     placed_right (table (read c)) (placement (read c)) (placed (read c)) (frame (read c)) (lasts (read c)) (bits (read c)) (turn (read c))
     (omega (arith, found c))
 
-loop_holds : tie.Need-loop-at-init invariant_loop decreases_loop
-loop_holds c = (0, omega (arith, c.placement_at-first.ensures), none_passed c.args.t.now)
+loop_holds : tie.Need-loop-k-init invariant_loop decreases_loop
+loop_holds c = none_passed c.args.t.now
 
 read_requires : tie.Need-read-words-requires invariant_loop decreases_loop
 read_requires c κs =
-    omega (arith, c.loop-at-test.true, c.count.ensures, c.placement_at-first.ensures, c.requires)
+    omega (arith, c.loop-k-test.true, c.count-n.ensures, c.placement_at-first.ensures, c.requires)
 
 right_words_requires : tie.Need-right_words-right-requires invariant_loop decreases_loop
 right_words_requires c κs =
@@ -97,7 +96,7 @@ returns c =
     let right = found d in
     c.fault.ensures ∙ stops (table e) (placement e) (placed e) (frame e) (lasts e) (bits e) (turn e) (omega arith) _ (omega (arith, here e))
 
-shape_of_requires : tie.Need-shape_of-shape-requires-in-loop-at invariant_loop decreases_loop
+shape_of_requires : tie.Need-shape_of-shape-requires-in-loop-k invariant_loop decreases_loop
 shape_of_requires c κs =
     let d : Judged = c.before in
     let e = read d in
@@ -121,12 +120,12 @@ with_bits_requires c κs =
     free_read (table e) (placement e) (placed e) (frame e) (lasts e) (bits e) (turn e) (omega arith) _ (read_at e) _ _
     c.shape_of-shape.ensures.1 refl
 
-mul_occupied : tie.Need-offset_bounds-occupied-f-in-loop-at invariant_loop decreases_loop
+mul_occupied : tie.Need-offset_bounds-occupied-f-in-loop-k invariant_loop decreases_loop
 mul_occupied c =
     let d : Judged = c.before.before.before in
     omega (arith, (read_at (read d)).frame_is, (place d (omega arith)).below)
 
-array_write_occupied : tie.Need-bounds-occupied-f-in-loop-at invariant_loop decreases_loop
+array_write_occupied : tie.Need-bounds-occupied-f-in-loop-k invariant_loop decreases_loop
 array_write_occupied c =
     let d : Judged = c.before.before.before in
     omega (arith, (read_at (read d)).frame_is, (place d (omega arith)).below, (turn (read d)).passed.bits.0)
@@ -146,28 +145,23 @@ array_write_last c =
     let d : Judged = c.before.before.before.before in
     omega (arith, (read_at (read d)).frame_is, (place d (omega arith)).below, (turn (read d)).passed.lasts.0)
 
-loop_again : tie.Need-loop-at-preserved invariant_loop decreases_loop
+loop_again : tie.Need-loop-k-preserved invariant_loop decreases_loop
 unfolding placement_columns
 loop_again c =
     let d : Judged = c.before.before.before.before.before in
     let e = read d in
-    let right = found d in (
-      placement e + 1,
-      omega (arith, here e),
-      passes (table e) (placement e) (placed e) (frame e) (lasts e) (bits e) (turn e) (omega arith) _ (read_at e) _ _
-          c.shape_of-shape.ensures.1 refl _ c.with_bits.ensures,
-    )
+    let right = found d in
+    passes (table e) (placement e) (placed e) (frame e) (lasts e) (bits e) (turn e) (omega arith) _ (read_at e) _ _
+    c.shape_of-shape.ensures.1 refl _ c.with_bits.ensures
 
 returns_2 : tie.Need-returns invariant_loop decreases_loop
-returns_2 c =
-    let inv = c.loop-at.invariant in
-    all_passed _ inv.0 _ _ _ _ inv.2 (omega (arith, inv.1, c.count.ensures, c.placement_at-first.ensures))
+returns_2 c = all_passed _ c.loop-k.k _ _ _ _ c.loop-k.invariant (omega (arith, c.loop-k-test.false, c.count-n.ensures))
 
 pub judge_spec : {M : Type 1} → statement M
 judge_spec =
     tie.close
-    (tie.spec invariant_loop decreases_loop (λ c κs. search rules) (λ c κs. search rules) (λ c. search rules) (λ c. search rules) (λ c. search rules)
-    loop_holds read_requires (λ c. search rules) (λ c. search rules) right_words_requires (λ c. search rules)
+    (tie.spec invariant_loop decreases_loop (λ c κs. search rules) (λ c κs. search rules) (λ c. search rules)
+    loop_holds (λ c. search rules) (λ c. search rules) read_requires (λ c. search rules) (λ c. search rules) right_words_requires (λ c. search rules)
     (λ c κs. search rules) returns shape_of_requires mul_with_bits array_read_with_bits with_bits_requires
     mul_occupied array_write_occupied (λ c. search rules) cast_last mul_last array_write_last (λ c. search rules) (λ c. search rules)
     (λ c. search rules) loop_again returns_2)

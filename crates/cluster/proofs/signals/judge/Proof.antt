@@ -1,6 +1,6 @@
 -- `cluster::signals::judge` meets its contract. The invariant: the signals before are passed.
 use borrow.Author.Rules.{rules}
-use Prim.Native.Nat.{ℕ, ◌+◌, ◌-◌, ◌*◌, ◌<◌}
+use Prim.Native.Nat.{◌≤◌, ℕ, ◌+◌, ◌-◌, ◌*◌, ◌<◌}
 use mathlib.Core.Path.{◌≡◌, ◌∙◌, ap}
 use mathlib.Core.List.{List}
 use native.Mathlib.Omega.{arith}
@@ -12,7 +12,7 @@ use Rattle.cluster.proofs.signals.judge.Statement.{statement}
 use Rattle.cluster.proofs.signals.judge.Tie as tie
 
 abbrev invariant_loop : tie.invariant-loop-s
-invariant_loop t first n whole s₀ s = Passed t s
+invariant_loop t first n whole s₀ s = (s ≤ whole) × Passed t s
 
 abbrev decreases_loop : tie.decreases-loop-s
 decreases_loop t first n whole s₀ s = whole - s
@@ -55,20 +55,23 @@ Cut = tie.After-right_words invariant_loop decreases_loop
 abbrev end : Cut → Loop
 end c = c.before.before.before.before
 
+reached : (c : Cut) → c.loop-s.s ≡ c.whole_records-whole.result
+reached c = omega (arith, c.loop-s-test.false, c.loop-s.invariant.0)
+
 seen_cut : (c : Cut) → c.right_words.result ≡ leading (signal_read (table (end c)) (signal (end c)))
 seen_cut c =
     let l = end c in
-    c.right_words.ensures ∙ ap leading (seen_read (table l) (signal l) _ (rw (here l) at c.read_due.ensures))
+    c.right_words.ensures ∙ ap leading (seen_read (table l) (signal l) _ (rw (← reached c, here l) at c.read_due.ensures))
 
 cut_right : (c : Cut) → leading (signal_read (table (end c)) (signal (end c))) < signal_words
 cut_right c =
     let l = end c in
-    let more = c.if-s-n.true in
-    let reached = c.loop-s-test.false in
+    let more = c.if-whole-n.true in
+    let at = reached c in
     cut_off (table l) (signal l) (omega (arith, here l, l.whole_records-whole.ensures.cut (omega arith)))
 
 loop_holds : tie.Need-loop-s-init invariant_loop decreases_loop
-loop_holds c = none_passed c.args.t.now
+loop_holds c = (omega arith, none_passed c.args.t.now)
 
 read_requires : tie.Need-read-requires invariant_loop decreases_loop
 read_requires c κs = omega (arith, c.whole_records-whole.ensures.there (signal c.before) c.loop-s-test.true)
@@ -79,7 +82,7 @@ returns c =
     let d : Judged = c.before.before in
     let l = loop d in
     let right = seen d in
-    c.fault.ensures ∙ stops (table l) (signal l) l.loop-s.invariant (there d) (omega arith) _ (omega (arith, here l))
+    c.fault.ensures ∙ stops (table l) (signal l) l.loop-s.invariant.1 (there d) (omega arith) _ (omega (arith, here l))
 
 loop_again : tie.Need-loop-s-preserved invariant_loop decreases_loop
 unfolding signal_columns
@@ -87,22 +90,22 @@ loop_again c =
     let d : Judged = c.before in
     let l = loop d in
     let right = seen d in
-    passes (table l) (signal l) l.loop-s.invariant (there d) (omega arith)
+    (omega (arith, c.loop-s-test.true), passes (table l) (signal l) l.loop-s.invariant.1 (there d) (omega arith))
 
-add_fault_2 : tie.Need-overflow_add-at-then-s-n-2 invariant_loop decreases_loop
-add_fault_2 c = omega (arith, seen_cut c, cut_right c)
+add_fault_2 : tie.Need-overflow_add-at-then-whole-n-2 invariant_loop decreases_loop
+add_fault_2 c = omega (arith, reached c, seen_cut c, cut_right c)
 
-returns_2 : tie.Need-returns-then-s-n invariant_loop decreases_loop
+returns_2 : tie.Need-returns-then-whole-n invariant_loop decreases_loop
 returns_2 c =
     let d : Cut = c.before in
     let l = end d in
-    let there = d.if-s-n.true in
-    c.fault-then-s-n.ensures
-    ∙ stops (table l) (signal l) l.loop-s.invariant (omega (arith, l.count-n.ensures)) (cut_right d) _ (omega (arith, here l, seen_cut d))
+    let there = d.if-whole-n.true in
+    c.fault-then-whole-n.ensures
+    ∙ stops (table l) (signal l) l.loop-s.invariant.1 (omega (arith, reached d, l.count-n.ensures)) (cut_right d) _ (omega (arith, here l, reached d, seen_cut d))
 
 returns_3 : tie.Need-returns invariant_loop decreases_loop
 returns_3 c =
-    all_passed _ _ c.loop-s.invariant (omega (arith, c.count-n.ensures))
+    all_passed _ _ c.loop-s.invariant.1 (omega (arith, c.count-n.ensures))
 
 pub judge_spec : {M : Type 1} → statement M
 judge_spec =

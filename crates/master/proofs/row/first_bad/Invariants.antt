@@ -1,0 +1,9 @@
+-- The verdict on the whole row is that on the pairs from here on.
+use Rattle.std.proofs.Common.{◌≡◌}
+use Rattle.master.specs.WriteRow.{first_bad}
+use Rattle.master.specs.Put.{puts}
+use Rattle.master.proofs.RowTurns.{puts_from}
+use Rattle.master.proofs.row.first_bad.Given as goal
+
+abbrev pub invariant-loop-i : goal.invariant-loop-i
+invariant-loop-i l = first_bad l.t 0 (puts l.signals l.values) ≡ first_bad l.t l.i (puts_from l.i l.signals l.values)

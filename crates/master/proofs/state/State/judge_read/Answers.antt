@@ -1,0 +1,26 @@
+-- Each way out has the tests that led to it, and what the calls answer is put in.
+use Rattle.std.proofs.Common.{◌∙◌}
+use borrow.Author.Tests.{le-ltb, lt-ltb, not-true, not-false}
+use Rattle.std.specs.Bool.{beq}
+use Rattle.refusal.proofs.PassedOn.{passed_on}
+use Rattle.master.specs.Read.{read_verdict}
+use Rattle.master.proofs.state.State.judge_read.Goals as goal
+
+pub returns-in_err-admit : goal.returns-in_err-admit
+unfolding read_verdict
+returns-in_err-admit c = passed_on _ _ c.from_residual.ensures.1 ∙ rw (← c.in_err-admit.ensures.value)
+
+pub returns-then-count-s : goal.returns-then-count-s
+unfolding read_verdict
+returns-then-count-s c =
+    rw (← c.in_ok-admit.ensures.value, ← c.count.ensures, le-ltb _ _ c.if-count-s.true) c.refused.ensures
+
+pub returns-then-is_array-array : goal.returns-then-is_array-array
+unfolding read_verdict
+returns-then-is_array-array c =
+    rw (← c.in_ok-admit.ensures.value, ← c.count.ensures, lt-ltb _ _ c.if-count-s.false, ← c.is_array.ensures, not-true (beq c.is_array.result c.args.array) c.if-is_array-array.true) c.refused-then-is_array-array.ensures
+
+pub returns : goal.returns
+unfolding read_verdict
+returns c =
+    rw (← c.in_ok-admit.ensures.value, ← c.count.ensures, lt-ltb _ _ c.if-count-s.false, ← c.is_array.ensures, not-false (beq c.is_array.result c.args.array) c.if-is_array-array.false)

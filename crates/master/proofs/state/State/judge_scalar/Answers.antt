@@ -1,0 +1,7 @@
+-- Each way out has the tests that led to it, and what the calls answer is put in.
+use Rattle.std.proofs.Common.{sym}
+use Rattle.master.proofs.Admitted.{admitted_table}
+use Rattle.master.proofs.state.State.judge_scalar.Goals as goal
+
+pub writable-requires : goal.writable-requires
+writable-requires c = admitted_table _ _ _ (sym c.in_ok-admit.ensures.value)

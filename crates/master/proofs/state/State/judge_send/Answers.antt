@@ -1,0 +1,31 @@
+-- Each way out has the tests that led to it, and what the calls answer is put in.
+use Rattle.std.proofs.Common.{◌∙◌}
+use borrow.Author.Tests.{le-leb, lt-leb}
+use Rattle.refusal.proofs.PassedOn.{passed_on}
+use Rattle.master.specs.Message.{send_verdict}
+use Rattle.master.proofs.state.State.judge_send.Goals as goal
+
+pub returns-in_err-admit : goal.returns-in_err-admit
+unfolding send_verdict
+returns-in_err-admit c =
+    passed_on _ _ c.from_residual.ensures.1 ∙ rw (← c.buffer_size.ensures, ← c.in_err-admit.ensures.value)
+
+pub returns-then-size-lt1 : goal.returns-then-size-lt1
+unfolding send_verdict
+returns-then-size-lt1 c =
+    rw (← c.buffer_size.ensures, ← c.in_ok-admit.ensures.value, lt-leb _ _ c.if-size-lt1.true) c.refused.ensures
+
+pub returns-then-size : goal.returns-then-size
+unfolding send_verdict
+returns-then-size c =
+    rw (← c.buffer_size.ensures, ← c.in_ok-admit.ensures.value, le-leb _ _ c.if-size-lt1.false, lt-leb _ _ c.if-size.true) c.refused-then-size.ensures
+
+pub returns-then-is_sending : goal.returns-then-is_sending
+unfolding send_verdict
+returns-then-is_sending c =
+    rw (← c.buffer_size.ensures, ← c.in_ok-admit.ensures.value, le-leb _ _ c.if-size-lt1.false, le-leb _ _ c.if-size.false, ← c.is_sending.ensures, c.if-is_sending.true) c.refused-then-is_sending.ensures
+
+pub returns : goal.returns
+unfolding send_verdict
+returns c =
+    rw (← c.buffer_size.ensures, ← c.in_ok-admit.ensures.value, le-leb _ _ c.if-size-lt1.false, le-leb _ _ c.if-size.false, ← c.is_sending.ensures, c.if-is_sending.false)
