@@ -1,10 +1,10 @@
 // The answer to a line.
-use crate::buffers::{Bench, used, used_mut};
-use crate::forms::{Call, Form, Shown};
+use crate::buffers::{Bench, used};
+use crate::forms::{Form, Shown};
 use crate::replies::Reply;
 use crate::texts::Text;
-use crate::{bus, calls, forms, sets, setup, shows};
-use desk::{ANSWER, FRAMES_USED, MESSAGE_USED, NUMBERS, ROOM_USED, WORDS_USED};
+use crate::{bus, forms, sets, setup, shows};
+use desk::{ANSWER, FRAMES_USED, NUMBERS, ROOM_USED, WORDS_USED};
 
 impl Bench {
     // Answers a line, and passes over an empty one and a comment.
@@ -23,7 +23,10 @@ impl Bench {
     fn answer(&mut self, form: Form, line: &[u8]) {
         let reply = match form {
             Form::Show(shown) => return self.show(shown),
-            Form::Call(call) => self.call(call, line),
+            Form::Call(call) => self.call(call),
+            Form::Writes => self.write_array(line),
+            Form::Row => self.write_row(line),
+            Form::Fresh => self.fresh(),
             Form::Table => setup::table(line, &mut self.desk, &mut self.table, &mut self.frames),
             Form::Buffer => setup::buffer(&mut self.desk, &mut self.frames),
             Form::Lend => setup::lend(line, &mut self.desk, &mut self.message),
@@ -46,14 +49,6 @@ impl Bench {
             Some(numbers) => out.put(reply.text, &numbers),
             None => out.put(reply.text, &desk[ANSWER..]),
         }
-    }
-
-    // Makes a call of the master on what is in use of each buffer.
-    fn call(&mut self, call: Call, line: &[u8]) -> Reply {
-        let t = used(self.desk[WORDS_USED], &self.table);
-        let frames = used_mut(self.desk[FRAMES_USED], &mut self.frames);
-        let lent = used(self.desk[MESSAGE_USED], &self.message);
-        calls::make(call, line, &mut self.desk, t, frames, lent)
     }
 
     // Judges the schedules of the table in use.

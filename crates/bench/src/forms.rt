@@ -10,6 +10,9 @@ use wire::checksum::Model;
 #[derive(Clone, Copy)]
 pub(crate) enum Form {
     Call(Call),
+    Writes,
+    Row,
+    Fresh,
     Show(Shown),
     Table,
     Buffer,
@@ -23,19 +26,16 @@ pub(crate) enum Form {
     Set(Part),
 }
 
-// A call of the master.
+// A call of the master that is given numbers at most.
 #[derive(Clone, Copy)]
 pub(crate) enum Call {
     Tick,
     Byte,
     Write,
-    Writes,
-    Row,
     Read,
     Reads,
     Ahead,
     Select,
-    Fresh,
     Status,
     Send,
     Message,
@@ -58,13 +58,13 @@ const FORMS: [(&[u8], Form); 52] = [
     (b"tick", Form::Call(Call::Tick)),
     (b"byte HH", Form::Call(Call::Byte)),
     (b"write 65535 4294967295", Form::Call(Call::Write)),
-    (b"writes 65535 ..", Form::Call(Call::Writes)),
-    (b"row ..", Form::Call(Call::Row)),
+    (b"writes 65535 ..", Form::Writes),
+    (b"row ..", Form::Row),
     (b"read 65535", Form::Call(Call::Read)),
     (b"reads 65535", Form::Call(Call::Reads)),
     (b"ahead 65535", Form::Call(Call::Ahead)),
     (b"select 65535", Form::Call(Call::Select)),
-    (b"fresh", Form::Call(Call::Fresh)),
+    (b"fresh", Form::Fresh),
     (b"status", Form::Call(Call::Status)),
     (b"send 255 4294967295", Form::Call(Call::Send)),
     (b"message", Form::Call(Call::Message)),
