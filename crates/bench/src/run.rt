@@ -27,21 +27,30 @@ impl Bench {
         }
     }
 
-    // Answers the whole lines of a text until a writing fails, moves what is kept of the line that is left to the front, and tells how much
-    // that is.
+    // Answers the whole lines of a text, moves what is kept of the line that is left to the front, and tells how much that is.
     fn whole_lines(&mut self, rt: HostRuntime, text: &mut [u8]) -> usize
         ensures { result ≤ MOST_KEPT }
     {
-        let mut used: usize = 0;
-        let mut end = scan::find(text, 0, text.len(), b'\n');
-        while end < text.len() && !self.printer.failed() {
-            self.printer.make_room(rt);
-            self.line(&text[used..end]);
-            used = end + 1;
-            end = scan::find(text, used, text.len(), b'\n');
-        }
-        let n = (text.len() - used).min(MOST_KEPT);
-        text.copy_within(used..used + n, 0);
+        let left = match text.iter().rposition(|b| *b == b'\n') {
+            Some(last) => {
+                self.lines(rt, &text[..last]);
+                last + 1
+            }
+            None => 0,
+        };
+        let n = (text.len() - left).min(MOST_KEPT);
+        text.copy_within(left..left + n, 0);
         n
+    }
+
+    // Answers lines until a writing fails.
+    fn lines(&mut self, rt: HostRuntime, text: &[u8]) {
+        for line in text.split(|b| *b == b'\n') {
+            self.printer.make_room(rt);
+            self.line(line);
+            if self.printer.failed() {
+                return;
+            }
+        }
     }
 }

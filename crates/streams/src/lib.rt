@@ -42,6 +42,7 @@ pub fn read_full(rt: HostRuntime, bytes: &mut [u8]) -> usize
     ensures { IsPrefixLen result bytes.new }
 {
     let mut done: usize = 0;
+    // Kept: where the next part begins is told by the reading before it, so that no iterator goes over the parts.
     while done < bytes.len() {
         match rt.stdin().read(&mut bytes[done..]) {
             Ok(0) | Err(_) => break,

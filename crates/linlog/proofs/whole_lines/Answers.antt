@@ -1,5 +1,5 @@
 -- One step of a log in parts; the report of a part is no refusal.
-use Rattle.std.proofs.Common.{ℕ, List, ◌*◌, ◌≤◌, length, take, refl, arith, length-take-le}
+use Rattle.std.proofs.Common.{◌*◌, ◌≤◌, length, take, refl, arith, length-take-le}
 use Rattle.buslog.specs.Row.{longest_row}
 use Rattle.buslog.proofs.ReportLaws.{put_within}
 use Rattle.linlog.proofs.PartLaws.{is_reported, step}
