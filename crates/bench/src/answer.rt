@@ -1,102 +1,74 @@
 // The answer to a line.
-use crate::buffers::{Frames, Message, Output, Room, Table, within, words_within};
-use crate::forms::Form;
+use crate::buffers::{Bench, used};
+use crate::forms::{Form, Shown};
 use crate::replies::Reply;
 use crate::texts::Text;
-use crate::{bus, calls, forms, print, sets, setup, shows, texts};
-use desk::{ANSWER, Desk, FORM, FRAMES_USED, MESSAGE_USED, NUMBERS, ROOM_USED, WORDS_USED, size};
+use crate::{bus, forms, sets, setup, shows};
+use desk::{ANSWER, FRAMES_USED, NUMBERS, ROOM_USED, WORDS_USED};
 
-// Answers a line, and passes over an empty one and a comment.
-pub(crate) fn line(
-    line: &[u8],
-    desk: &mut Desk,
-    table: &mut Table,
-    frames: &mut Frames,
-    message: &mut Message,
-    room: &mut Room,
-    out: &mut Output,
-) {
-    if line.len() == 0 {
-        return;
+impl Bench {
+    // Answers a line, and passes over an empty one and a comment.
+    pub(crate) fn line(&mut self, line: &[u8]) {
+        if matches!(line.first(), None | Some(b'#')) {
+            return;
+        }
+        match forms::take(line, &mut self.desk) {
+            Some(form) => self.answer(form, line),
+            None => self.print(Reply::malformed()),
+        }
+        self.printer.put(Text::END, &[]);
     }
-    if line[0] == b'#' {
-        return;
+
+    // Does what a line of a form says, and prints what is to be shown or the answer.
+    fn answer(&mut self, form: Form, line: &[u8]) {
+        let reply = match form {
+            Form::Show(shown) => return self.show(shown),
+            Form::Call(call) => self.call(call),
+            Form::Writes => self.write_array(line),
+            Form::Row => self.write_row(line),
+            Form::Fresh => self.fresh(),
+            Form::Table => setup::table(line, &mut self.desk, &mut self.table, &mut self.frames),
+            Form::Buffer => setup::buffer(&mut self.desk, &mut self.frames),
+            Form::Lend => setup::lend(line, &mut self.desk, &mut self.message),
+            Form::Room => setup::room(&mut self.desk, &mut self.room),
+            Form::Take => bus::take(line, &mut self.desk, &mut self.room),
+            Form::Judge => self.judge(),
+            Form::Pid => bus::pid(&self.desk),
+            Form::Id => bus::id(&self.desk),
+            Form::Checksum(model) => bus::sum(model, line, &self.desk),
+            Form::Set(part) => sets::set(part, &mut self.desk),
+        };
+        self.print(reply);
     }
-    forms::take(line, desk);
-    if is_shown(desk[FORM]) {
-        show(desk, table, frames, room, out);
-    } else {
-        let reply = reply(line, desk, table, frames, message, room);
-        print::reply(out, desk, reply);
+
+    // Prints an answer; where it has bytes, they are on the desk.
+    fn print(&mut self, reply: Reply) {
+        let desk = &self.desk;
+        let out = &mut self.printer;
+        match reply.numbers {
+            Some(numbers) => out.put(reply.text, &numbers),
+            None => out.put(reply.text, &desk[ANSWER..]),
+        }
     }
-    texts::put(out, desk, Text::END, ANSWER);
-}
 
-// Whether a line shows something.
-fn is_shown(form: u32) -> bool {
-    match form {
-        Form::PENDING..=Form::RECEIVED => true,
-        _ => false,
+    // Judges the schedules of the table in use.
+    fn judge(&self) -> Reply {
+        let t = used(self.desk[WORDS_USED], &self.table);
+        Reply::judge(timing::judge(t, self.desk[NUMBERS], self.desk[NUMBERS + 1]))
     }
-}
 
-// Does what the line at hand says.
-fn reply(
-    line: &[u8],
-    desk: &mut Desk,
-    table: &mut Table,
-    frames: &mut Frames,
-    message: &mut Message,
-    room: &mut Room,
-) -> Reply {
-    match desk[FORM] {
-        0..=Form::MESSAGE => call(line, desk, table, frames, message),
-        Form::TABLE => setup::table(line, desk, table, frames),
-        Form::BUFFER => setup::buffer(desk, frames),
-        Form::LEND => setup::lend(line, desk, message),
-        Form::ROOM => setup::room(desk, room),
-        Form::TAKE => bus::take(line, desk, room),
-        Form::JUDGE => judge(desk, table),
-        Form::PID..=Form::ENHANCED => bus::answer(line, desk),
-        _ => sets::set(desk),
+    // Shows what the line at hand asks for.
+    fn show(&mut self, shown: Shown) {
+        let desk = &self.desk;
+        let out = &mut self.printer;
+        match shown {
+            Shown::Pending => shows::pending(desk, out),
+            Shown::Frames => shows::bytes(Text::FRAMES, used(desk[FRAMES_USED], &self.frames), out),
+            Shown::Out => shows::sent(desk, used(desk[WORDS_USED], &self.table), out),
+            Shown::State => shows::state(desk, out),
+            Shown::Taken => shows::bytes(Text::TAKEN, used(desk[ROOM_USED], &self.room), out),
+            Shown::Assembly => shows::assembly(desk, out),
+            Shown::Received => shows::received(desk, out),
+        }
     }
-}
-
-// Makes a call of the master on what is in use of each buffer.
-fn call(line: &[u8], desk: &mut Desk, table: &[u16], frames: &mut [u8], message: &[u8]) -> Reply {
-    let words = words_within(size(desk[WORDS_USED]), table);
-    let bytes = within(size(desk[FRAMES_USED]), frames);
-    let lent = within(size(desk[MESSAGE_USED]), message);
-    calls::make(
-        line,
-        desk,
-        &table[..words],
-        &mut frames[..bytes],
-        &message[..lent],
-    )
-}
-
-// Judges the schedules of the table in use.
-fn judge(desk: &Desk, table: &[u16]) -> Reply {
-    let words = words_within(size(desk[WORDS_USED]), table);
-    Reply::judge(timing::judge(&table[..words], desk[NUMBERS], desk[NUMBERS + 1]))
-}
-
-// Shows what the line at hand asks for.
-fn show(desk: &mut Desk, table: &[u16], frames: &[u8], room: &[u8], out: &mut Output) {
-    match desk[FORM] {
-        Form::PENDING => shows::pending(desk, out),
-        Form::FRAMES => shows::bytes(Text::FRAMES, desk[FRAMES_USED], frames, desk, out),
-        Form::OUT => sent(desk, table, out),
-        Form::STATE => shows::state(desk, out),
-        Form::TAKEN => shows::bytes(Text::TAKEN, desk[ROOM_USED], room, desk, out),
-        Form::ASSEMBLY => shows::assembly(desk, out),
-        _ => shows::received(desk, out),
-    }
-}
-
-// Shows what the master sends.
-fn sent(desk: &mut Desk, table: &[u16], out: &mut Output) {
-    let words = words_within(size(desk[WORDS_USED]), table);
-    shows::sent(desk, &table[..words], out);
 }

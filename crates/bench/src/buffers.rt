@@ -1,5 +1,10 @@
-// The sizes of the buffers, and how much of one is in use.
-ghost use Rattle.streams.specs.Counts.{IsPrefixLen};
+// The buffers, their sizes, and how much of one is in use.
+ghost use Rattle.std.specs.Prelude.{◌≡◌, take};
+
+use crate::print::Printer;
+use desk::{Desk, size, state};
+use master::state::State;
+use streams::within;
 
 // The longest line that can be right.
 pub(crate) const LONGEST_LINE: usize = 20000;
@@ -33,25 +38,43 @@ pub(crate) type Message = [u8; MESSAGE_BYTES];
 
 pub(crate) type Room = [u8; ROOM_BYTES];
 
-pub(crate) type Output = [u8; OUTPUT_BYTES];
-
-// The lesser of a number and how many bytes there are.
-pub(crate) fn within(n: usize, bytes: &[u8]) -> usize
-    ensures { IsPrefixLen result bytes.now }
-{
-    if n < bytes.len() { n } else { bytes.len() }
+// What a run works on: the desk, the buffers, and the answers.
+// Kept: how much of each buffer is in use stands on the desk (`desk::WORDS_USED` and the names behind it), since memory is fixed.
+#[derive(Drop)]
+pub(crate) struct Bench {
+    pub(crate) desk: Desk,
+    pub(crate) table: Table,
+    pub(crate) frames: Frames,
+    pub(crate) message: Message,
+    pub(crate) room: Room,
+    pub(crate) printer: Printer,
 }
 
-// The lesser of a number and how many words there are.
-pub(crate) fn words_within(n: usize, words: &[u16]) -> usize
-    ensures { IsPrefixLen result words.now }
-{
-    if n < words.len() { n } else { words.len() }
+impl Bench {
+    // The fresh state, and buffers of which nothing is in use.
+    pub(crate) fn new() -> Bench {
+        let mut desk = [0; desk::SIZE];
+        state::put(&mut desk, State::fresh());
+        Bench {
+            desk,
+            table: [0; LINE_WORDS],
+            frames: [0; FRAME_BYTES],
+            message: [0; MESSAGE_BYTES],
+            room: [0; ROOM_BYTES],
+            printer: Printer::new(),
+        }
+    }
 }
 
-// The lesser of a number and how many numbers there are.
-pub(crate) fn numbers_within(n: usize, numbers: &[u32]) -> usize
-    ensures { IsPrefixLen result numbers.now }
+// What is in use of a buffer: so many elements at its front, at most all.
+pub(crate) fn used<T>(count: u32, items: &[T]) -> &[T]
+    ensures { result.now ≡ take count items.now }
 {
-    if n < numbers.len() { n } else { numbers.len() }
+    &items[..within(size(count), items)]
+}
+
+// The same of a buffer that is written to.
+pub(crate) fn used_mut<T>(count: u32, items: &mut [T]) -> &mut [T] {
+    let n = within(size(count), items);
+    &mut items[..n]
 }

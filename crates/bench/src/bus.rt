@@ -1,32 +1,34 @@
 // Bytes on the bus: protected identifiers and checksums, and the frames that the reassembler takes.
-use crate::buffers::{LINE_BYTES, within};
-use crate::forms::Form;
+use crate::buffers::LINE_BYTES;
 use crate::replies::Reply;
 use crate::texts::Text;
-use desk::{Desk, FORM, LIST, NUMBERS, ROOM_USED, assembly, byte, size};
+use desk::{Desk, LIST, NUMBERS, ROOM_USED, assembly, byte, size};
 use script::lists;
+use streams::within;
 use wire::checksum::Model;
 use wire::{checksum, identifier};
 
-// Answers the line at hand, a protected identifier built or read, or a checksum.
-pub(crate) fn answer(line: &[u8], desk: &Desk) -> Reply {
-    let n = byte(desk[NUMBERS]);
-    match desk[FORM] {
-        Form::PID => Reply::made(Text::PID, identifier::build(n)),
-        Form::ID => Reply::made(Text::ID, identifier::read(n)),
-        Form::CLASSIC => sum(n, Model::Classic, line, size(desk[LIST])),
-        _ => sum(n, Model::Enhanced, line, size(desk[LIST])),
-    }
+// Builds a protected identifier.
+pub(crate) fn pid(desk: &Desk) -> Reply {
+    Reply::made(Text::PID, identifier::build(byte(desk[NUMBERS])))
+}
+
+// Reads a protected identifier.
+pub(crate) fn id(desk: &Desk) -> Reply {
+    Reply::made(Text::ID, identifier::read(byte(desk[NUMBERS])))
 }
 
 // Makes the checksum of the bytes that end the line under an identifier.
-fn sum(id: u8, model: Model, line: &[u8], list: usize) -> Reply {
+pub(crate) fn sum(model: Model, line: &[u8], desk: &Desk) -> Reply {
     let mut data = [0u8; LINE_BYTES];
-    let Some(count) = lists::read(line, list, &mut data) else {
+    let Some(count) = lists::read(line, size(desk[LIST]), &mut data) else {
         return Reply::malformed();
     };
     let n = within(count, &data);
-    Reply::made(Text::CHECKSUM, checksum::of(id, model, &data[..n]))
+    Reply::made(
+        Text::CHECKSUM,
+        checksum::of(byte(desk[NUMBERS]), model, &data[..n]),
+    )
 }
 
 // The reassembler takes a frame, the bytes that end the line.

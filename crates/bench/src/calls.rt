@@ -1,194 +1,103 @@
-// The calls of the master: each takes the state from the desk, makes the call, and puts the state back that it hands on.
-use crate::buffers::{LINE_BYTES, LINE_WORDS, numbers_within, within, words_within};
-use crate::forms::Form;
+// The calls of the master: the state is taken from the desk, the call is made on what is in use of each buffer, and the state that it
+// leaves is put back.
+use crate::buffers::{Bench, LINE_BYTES, LINE_WORDS, used, used_mut};
+use crate::forms::Call;
 use crate::replies::Reply;
 use crate::texts::Text;
-use desk::{ANSWER, Desk, FORM, LIST, NUMBERS, byte as byte_of, size, state, word};
+use desk::{
+    ANSWER, Desk, FRAMES_USED, LIST, MESSAGE_USED, NUMBERS, WORDS_USED, byte, size, state, word,
+};
 use master::byte::ByteAnswer;
 use master::state::State;
 use script::{lists, rows};
+use streams::within;
 
-// Makes the call that the line at hand is, on what is in use of each buffer.
-pub(crate) fn make(
-    line: &[u8],
-    desk: &mut Desk,
-    t: &[u16],
-    frames: &mut [u8],
-    lent: &[u8],
-) -> Reply {
-    match desk[FORM] {
-        Form::TICK => tick(desk, t, frames, lent),
-        Form::BYTE => byte(desk, t, frames),
-        Form::WRITE => write(desk, t, frames),
-        Form::WRITES => writes(line, desk, t, frames),
-        Form::ROW => row(line, desk, t, frames),
-        Form::READ => read(desk, t, frames),
-        Form::READS => reads(desk, t, frames),
-        Form::FRESH => fresh(desk, t, frames),
-        _ => make_unlent(desk, t),
+impl Bench {
+    // Makes a call with the numbers of the line at hand.
+    pub(crate) fn call(&mut self, call: Call) -> Reply {
+        let t = used(self.desk[WORDS_USED], &self.table);
+        let frames = used_mut(self.desk[FRAMES_USED], &mut self.frames);
+        let lent = used(self.desk[MESSAGE_USED], &self.message);
+        let n = self.desk[NUMBERS];
+        let value = self.desk[NUMBERS + 1];
+        let mut state = state::take(&self.desk);
+        let reply = match call {
+            Call::Tick => Reply::tick(state.tick(t, frames, lent)),
+            Call::Byte => {
+                let answer = state.byte_in(t, frames, byte(n));
+                if let Ok(ByteAnswer::Response(bytes)) = answer {
+                    put_answer(&mut self.desk, &bytes);
+                }
+                Reply::byte(answer)
+            }
+            Call::Write => Reply::done(Text::WRITTEN, state.write(t, frames, word(n), value)),
+            Call::Read => Reply::number(Text::VALUE, state.read(t, frames, word(n))),
+            Call::Reads => {
+                let answer = state.read_array(t, frames, word(n));
+                if let Ok(array) = answer {
+                    put_answer(&mut self.desk, &array.bytes);
+                }
+                Reply::read_array(answer)
+            }
+            Call::Ahead => Reply::number(Text::AHEAD, state.number_ahead(t, word(n))),
+            Call::Select => Reply::done(Text::SELECTED, state.select(t, word(n))),
+            Call::Status => Reply::status(state.read_status(t)),
+            Call::Send => Reply::done(Text::SENDING, state.send(t, byte(n), value)),
+            Call::Message => Reply::message(state.message_state(t)),
+        };
+        state::put(&mut self.desk, state);
+        reply
+    }
+
+    // Fills the frame bytes, and begins with the fresh state.
+    pub(crate) fn fresh(&mut self) -> Reply {
+        let t = used(self.desk[WORDS_USED], &self.table);
+        let frames = used_mut(self.desk[FRAMES_USED], &mut self.frames);
+        let answer = State::start(t, frames);
+        if let Ok(fresh) = answer {
+            state::put(&mut self.desk, fresh);
+        }
+        Reply::done(Text::FRESH, answer.map(|_| ()))
+    }
+
+    // Writes an array, the bytes that end the line.
+    pub(crate) fn write_array(&mut self, line: &[u8]) -> Reply {
+        let mut values = [0u8; LINE_BYTES];
+        let Some(count) = lists::read(line, size(self.desk[LIST]), &mut values) else {
+            return Reply::malformed();
+        };
+        let n = within(count, &values);
+        let t = used(self.desk[WORDS_USED], &self.table);
+        let frames = used_mut(self.desk[FRAMES_USED], &mut self.frames);
+        let mut state = state::take(&self.desk);
+        let answer = state.write_array(t, frames, word(self.desk[NUMBERS]), &values[..n]);
+        state::put(&mut self.desk, state);
+        Reply::done(Text::WRITTEN, answer)
+    }
+
+    // Writes a row, the signals and the values that end the line.
+    pub(crate) fn write_row(&mut self, line: &[u8]) -> Reply {
+        let mut signals = [0u16; LINE_WORDS];
+        let mut values = [0u32; LINE_WORDS];
+        let at = size(self.desk[LIST]);
+        let Some((signals_read, values_read)) = rows::read(line, at, &mut signals, &mut values)
+        else {
+            return Reply::malformed();
+        };
+        let n = within(signals_read, &signals);
+        let m = within(values_read, &values);
+        let t = used(self.desk[WORDS_USED], &self.table);
+        let frames = used_mut(self.desk[FRAMES_USED], &mut self.frames);
+        let mut state = state::take(&self.desk);
+        let answer = state.write_row(t, frames, &signals[..n], &values[..m]);
+        state::put(&mut self.desk, state);
+        Reply::row(answer)
     }
 }
 
-// Makes a call that is lent no frame bytes.
-fn make_unlent(desk: &mut Desk, t: &[u16]) -> Reply {
-    match desk[FORM] {
-        Form::AHEAD => ahead(desk, t),
-        Form::SELECT => select(desk, t),
-        Form::STATUS => status(desk, t),
-        Form::SEND => send(desk, t),
-        _ => message(desk, t),
-    }
-}
-
-// Fills the frame bytes, and begins with the fresh state.
-fn fresh(desk: &mut Desk, t: &[u16], frames: &mut [u8]) -> Reply {
-    let answer = State::start(t, frames);
-    if let Ok(fresh) = answer {
-        state::put(desk, fresh);
-    }
-    Reply::done(Text::FRESH, answer.map(|_| ()))
-}
-
-// Writes a scalar.
-fn write(desk: &mut Desk, t: &[u16], frames: &mut [u8]) -> Reply {
-    let mut state = state::take(desk);
-    let answer = state.write(t, frames, word(desk[NUMBERS]), desk[NUMBERS + 1]);
-    state::put(desk, state);
-    Reply::done(Text::WRITTEN, answer)
-}
-
-// Writes an array, the bytes that end the line.
-fn writes(line: &[u8], desk: &mut Desk, t: &[u16], frames: &mut [u8]) -> Reply {
-    let mut values = [0u8; LINE_BYTES];
-    let Some(count) = lists::read(line, size(desk[LIST]), &mut values) else {
-        return Reply::malformed();
-    };
-    let n = within(count, &values);
-    write_array(desk, t, frames, &values[..n])
-}
-
-// Writes an array.
-fn write_array(desk: &mut Desk, t: &[u16], frames: &mut [u8], values: &[u8]) -> Reply {
-    let mut state = state::take(desk);
-    let answer = state.write_array(t, frames, word(desk[NUMBERS]), values);
-    state::put(desk, state);
-    Reply::done(Text::WRITTEN, answer)
-}
-
-// Writes a row, the signals and the values that end the line.
-fn row(line: &[u8], desk: &mut Desk, t: &[u16], frames: &mut [u8]) -> Reply {
-    let mut signals = [0u16; LINE_WORDS];
-    let mut values = [0u32; LINE_WORDS];
-    let Some((signals_read, values_read)) = rows::read(
-        line,
-        size(desk[LIST]),
-        &mut signals,
-        &mut values,
-    ) else {
-        return Reply::malformed();
-    };
-    let n = words_within(signals_read, &signals);
-    let m = numbers_within(values_read, &values);
-    write_row(desk, t, frames, &signals[..n], &values[..m])
-}
-
-// Writes a row.
-fn write_row(
-    desk: &mut Desk,
-    t: &[u16],
-    frames: &mut [u8],
-    signals: &[u16],
-    values: &[u32],
-) -> Reply {
-    let mut state = state::take(desk);
-    let answer = state.write_row(t, frames, signals, values);
-    state::put(desk, state);
-    Reply::row(answer)
-}
-
-// Reads a scalar.
-fn read(desk: &Desk, t: &[u16], frames: &[u8]) -> Reply {
-    Reply::number(
-        Text::VALUE,
-        state::take(desk).read(t, frames, word(desk[NUMBERS])),
-    )
-}
-
-// Reads an array.
-fn reads(desk: &mut Desk, t: &[u16], frames: &[u8]) -> Reply {
-    let answer = state::take(desk).read_array(t, frames, word(desk[NUMBERS]));
-    if let Ok(array) = answer {
-        put_answer(desk, &array.bytes);
-    }
-    Reply::read_array(answer)
-}
-
-// Asks for a schedule.
-fn select(desk: &mut Desk, t: &[u16]) -> Reply {
-    let mut state = state::take(desk);
-    let answer = state.select(t, word(desk[NUMBERS]));
-    state::put(desk, state);
-    Reply::done(Text::SELECTED, answer)
-}
-
-// Makes one tick.
-fn tick(desk: &mut Desk, t: &[u16], frames: &[u8], lent: &[u8]) -> Reply {
-    let mut state = state::take(desk);
-    let answer = state.tick(t, frames, lent);
-    state::put(desk, state);
-    Reply::tick(answer)
-}
-
-// Takes one byte in.
-fn byte(desk: &mut Desk, t: &[u16], frames: &mut [u8]) -> Reply {
-    let mut state = state::take(desk);
-    let answer = state.byte_in(t, frames, byte_of(desk[NUMBERS]));
-    state::put(desk, state);
-    if let Ok(ByteAnswer::Response(bytes)) = answer {
-        put_answer(desk, &bytes);
-    }
-    Reply::byte(answer)
-}
-
-// Reads the status.
-fn status(desk: &mut Desk, t: &[u16]) -> Reply {
-    let mut state = state::take(desk);
-    let answer = state.read_status(t);
-    state::put(desk, state);
-    Reply::status(answer)
-}
-
-// Begins to send a message.
-fn send(desk: &mut Desk, t: &[u16]) -> Reply {
-    let mut state = state::take(desk);
-    let answer = state.send(t, byte_of(desk[NUMBERS]), desk[NUMBERS + 1]);
-    state::put(desk, state);
-    Reply::done(Text::SENDING, answer)
-}
-
-// Tells the message state.
-fn message(desk: &Desk, t: &[u16]) -> Reply {
-    Reply::message(state::take(desk).message_state(t))
-}
-
-// Tells the number of pending members ahead of a frame.
-fn ahead(desk: &Desk, t: &[u16]) -> Reply {
-    Reply::number(
-        Text::AHEAD,
-        state::take(desk).number_ahead(t, word(desk[NUMBERS])),
-    )
-}
-
-// Puts the bytes of an answer.
+// Puts the bytes of an answer on the desk.
 fn put_answer(desk: &mut Desk, bytes: &[u8; 8]) {
-    let mut i: usize = 0;
-    while i < 8 {
-        desk[ANSWER + i] = wide(bytes[i]);
-        i += 1;
+    for (place, &b) in desk[ANSWER..].iter_mut().zip(bytes) {
+        *place = u32::from(b);
     }
-}
-
-// A byte as a number.
-fn wide(b: u8) -> u32 {
-    b as u32
 }

@@ -1,53 +1,60 @@
 // Printing: the answers are collected in a buffer, and written out when the longest answer may have no room in it and before each reading.
 // After a writing failed nothing more is written.
-use crate::buffers::{LONGEST_ANSWER, OUTPUT_BYTES, Output, within};
-use crate::replies::Reply;
-use crate::texts;
+ghost use Rattle.std.specs.Prelude.{◌≤◌};
+ghost use Rattle.bench.specs.declared.buffers.TheConstants.{OUTPUT_BYTES};
+
+use crate::buffers::{LONGEST_ANSWER, OUTPUT_BYTES};
 use crate::texts::Text;
-use desk::{ANSWER, Desk, PRINTED, WRITE_FAILED, size};
 use script::print;
 
-// Prints an answer; where it has bytes, they are on the desk.
-pub(crate) fn reply(out: &mut Output, desk: &mut Desk, reply: Reply) {
-    if reply.text < Text::BYTES {
-        desk[ANSWER] = reply.n;
-        desk[ANSWER + 1] = reply.place;
+// The answers that are not written out yet, at the front of a buffer.
+#[derive(Drop)]
+pub(crate) struct Printer {
+    out: [u8; OUTPUT_BYTES],
+    // Kept: how many there are stands beside the buffer, since memory is fixed.
+    printed: usize,
+    failed: bool,
+    ghost in_buffer: { printed ≤ OUTPUT_BYTES },
+}
+
+impl Printer {
+    // Nothing is printed yet.
+    pub(crate) fn new() -> Printer {
+        Printer {
+            out: [0; OUTPUT_BYTES],
+            printed: 0,
+            failed: false,
+        }
     }
-    texts::put(out, desk, reply.text, ANSWER);
-}
 
-// Prints bytes as pairs, with a space before each.
-pub(crate) fn bytes(out: &mut Output, desk: &mut Desk, bytes: &[u8]) {
-    let end = print::pairs(out, size(desk[PRINTED]), bytes);
-    desk[PRINTED] = (end % 131072) as u32;
-}
-
-// Writes the answers out where there may be no room for one more.
-pub(crate) fn make_room(rt: HostRuntime, out: &Output, desk: &mut Desk) {
-    if OUTPUT_BYTES - LONGEST_ANSWER < size(desk[PRINTED]) {
-        write_out(rt, out, desk);
+    // Prints a text with numbers.
+    pub(crate) fn put(&mut self, text: Text, numbers: &[u32]) {
+        self.printed = print::by_number(&mut self.out, self.printed, text.0, 0, numbers, 0);
     }
-}
 
-// Writes the answers out, unless an earlier writing failed; a failure is told on standard error.
-pub(crate) fn write_out(rt: HostRuntime, out: &Output, desk: &mut Desk) {
-    let n = size(desk[PRINTED]);
-    desk[PRINTED] = 0;
-    if failed(desk) {
-        return;
+    // Prints bytes as pairs, with a space before each.
+    pub(crate) fn bytes(&mut self, bytes: &[u8]) {
+        self.printed = print::pairs(&mut self.out, self.printed, bytes);
     }
-    if !write_first(rt, out, n) {
-        desk[WRITE_FAILED] = 1;
+
+    // Writes the answers out where there may be no room for one more.
+    pub(crate) fn make_room(&mut self, rt: HostRuntime) {
+        if OUTPUT_BYTES - LONGEST_ANSWER < self.printed {
+            self.write_out(rt);
+        }
     }
-}
 
-// Whether a writing failed.
-pub(crate) fn failed(desk: &Desk) -> bool {
-    desk[WRITE_FAILED] == 1
-}
+    // Writes the answers out, unless an earlier writing failed; a failure is told on standard error.
+    pub(crate) fn write_out(&mut self, rt: HostRuntime) {
+        if !self.failed {
+            let answers = &self.out[..self.printed];
+            self.failed = !streams::write_all(rt, "bench: standard output", answers);
+        }
+        self.printed = 0;
+    }
 
-// Writes the first characters out, and tells whether that went well; a failure is told on standard error.
-fn write_first(rt: HostRuntime, out: &[u8], count: usize) -> bool {
-    let n = within(count, out);
-    streams::write_all(rt, "bench: standard output", &out[..n])
+    // Whether a writing failed.
+    pub(crate) fn failed(&self) -> bool {
+        self.failed
+    }
 }

@@ -7,28 +7,33 @@ use master::tick::TickAnswer;
 use refusal::Refusal;
 use transport::reassembly::Answer;
 
-// An answer before it is printed: its text, and the numbers that stand in it.
+// An answer before it is printed: its text, and the numbers that stand in it; the bytes of one that has bytes are on the desk.
 #[derive(Clone, Copy)]
 pub(crate) struct Reply {
-    pub(crate) text: u32,
-    pub(crate) n: u32,
-    pub(crate) place: u32,
+    pub(crate) text: Text,
+    pub(crate) numbers: Option<[u32; 2]>,
 }
 
 impl Reply {
-    // A text alone.
-    pub(crate) fn alone(text: u32) -> Reply {
-        Reply::two(text, 0, 0)
+    // A text alone, or with the bytes that are on the desk.
+    pub(crate) fn alone(text: Text) -> Reply {
+        Reply {
+            text,
+            numbers: None,
+        }
     }
 
     // A text with a number.
-    pub(crate) fn of(text: u32, n: u32) -> Reply {
+    pub(crate) fn of(text: Text, n: u32) -> Reply {
         Reply::two(text, n, 0)
     }
 
     // A text with two numbers.
-    fn two(text: u32, n: u32, place: u32) -> Reply {
-        Reply { text, n, place }
+    fn two(text: Text, n: u32, place: u32) -> Reply {
+        Reply {
+            text,
+            numbers: Some([n, place]),
+        }
     }
 
     // A refusal of any call but a row of values.
@@ -56,7 +61,7 @@ impl Reply {
     }
 
     // A call that gives nothing: its text, or the refusal.
-    pub(crate) fn done(text: u32, answer: Result<(), Refusal>) -> Reply {
+    pub(crate) fn done(text: Text, answer: Result<(), Refusal>) -> Reply {
         match answer {
             Ok(()) => Reply::alone(text),
             Err(refusal) => Reply::refused(refusal),
@@ -72,7 +77,7 @@ impl Reply {
     }
 
     // A call that gives a number: its text with the number, or the refusal.
-    pub(crate) fn number(text: u32, answer: Result<u16, Refusal>) -> Reply {
+    pub(crate) fn number(text: Text, answer: Result<u16, Refusal>) -> Reply {
         match answer {
             Ok(n) => Reply::of(text, n as u32),
             Err(refusal) => Reply::refused(refusal),
@@ -82,7 +87,7 @@ impl Reply {
     // An array read.
     pub(crate) fn read_array(answer: Result<Array, Refusal>) -> Reply {
         match answer {
-            Ok(array) => Reply::alone(Text::BYTES + (array.count % 9) as u32),
+            Ok(array) => Reply::alone(Text::BYTES[array.count % 9]),
             Err(refusal) => Reply::refused(refusal),
         }
     }
@@ -150,7 +155,7 @@ impl Reply {
     }
 
     // A byte that was made.
-    pub(crate) fn made(text: u32, answer: Result<u8, Refusal>) -> Reply {
+    pub(crate) fn made(text: Text, answer: Result<u8, Refusal>) -> Reply {
         match answer {
             Ok(byte) => Reply::of(text, byte as u32),
             Err(refusal) => Reply::refused(refusal),

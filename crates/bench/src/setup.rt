@@ -1,7 +1,5 @@
 // The lines that lay out a buffer anew: the table, the frame bytes, the lent message, the reassembler's buffer.
-use crate::buffers::{
-    FRAME_BYTES, Frames, LINE_WORDS, MESSAGE_BYTES, Message, ROOM_BYTES, Room, Table, words_within,
-};
+use crate::buffers::{Frames, LINE_WORDS, MESSAGE_BYTES, Message, Room, Table};
 use crate::replies::Reply;
 use crate::texts::Text;
 use cluster::Limits;
@@ -10,6 +8,7 @@ use desk::{
 };
 use master::state::State;
 use script::lists;
+use streams::within;
 
 // Lays out a table, right or not, with frame bytes for its frames and a fresh state, and answers the table check.
 pub(crate) fn table(line: &[u8], desk: &mut Desk, table: &mut Table, frames: &mut Frames) -> Reply {
@@ -18,8 +17,8 @@ pub(crate) fn table(line: &[u8], desk: &mut Desk, table: &mut Table, frames: &mu
         return Reply::malformed();
     };
     *table = words;
-    *frames = [0u8; FRAME_BYTES];
-    let n = words_within(count, &words);
+    frames.fill(0);
+    let n = within(count, &words);
     lay(desk, &words[..n])
 }
 
@@ -33,14 +32,10 @@ fn lay(desk: &mut Desk, t: &[u16]) -> Reply {
 
 // The frame bytes of a table: eight a frame, and none where the number of frames is missing or too large.
 fn frame_bytes(t: &[u16]) -> u32 {
-    if t.len() == 0 {
-        return 0;
+    match t.first() {
+        Some(&frames) if frames <= Limits::FRAMES as u16 => 8 * u32::from(frames),
+        _ => 0,
     }
-    let frames = t[0];
-    if (Limits::FRAMES as u16) < frames {
-        return 0;
-    }
-    8 * frames as u32
 }
 
 // Lays out the message that later ticks are lent.
@@ -57,7 +52,7 @@ pub(crate) fn lend(line: &[u8], desk: &mut Desk, message: &mut Message) -> Reply
 // Lays out so many frame bytes, all 0.
 pub(crate) fn buffer(desk: &mut Desk, frames: &mut Frames) -> Reply {
     let n = desk[NUMBERS];
-    *frames = [0u8; FRAME_BYTES];
+    frames.fill(0);
     desk[FRAMES_USED] = n;
     Reply::of(Text::BUFFER, n)
 }
@@ -65,7 +60,7 @@ pub(crate) fn buffer(desk: &mut Desk, frames: &mut Frames) -> Reply {
 // Lays out so many bytes for the reassembler, all 0, with nothing open.
 pub(crate) fn room(desk: &mut Desk, room: &mut Room) -> Reply {
     let n = desk[NUMBERS];
-    *room = [0u8; ROOM_BYTES];
+    room.fill(0);
     desk[ROOM_USED] = n;
     desk[ASSEMBLY] = 0;
     Reply::of(Text::ROOM, n)

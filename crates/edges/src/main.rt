@@ -10,11 +10,17 @@ mod signals;
 use refusal::Refusal;
 
 fn main(rt: HostRuntime) {
-    show::text(rt, b"refusal numbers, in the order of the papers:");
-    let numbers = Refusal::numbers();
-    show::numbers(rt, &numbers);
-    show::text(rt, b"\n");
+    numbers(rt);
     signals::packings(rt);
     readers::all(rt);
     lengths::counts(rt);
+}
+
+// The refusal numbers, with a space before each.
+fn numbers(rt: HostRuntime) {
+    let _ = print!(rt; "refusal numbers, in the order of the papers:");
+    for number in Refusal::numbers() {
+        let _ = print!(rt; " {number}");
+    }
+    let _ = println!(rt;);
 }

@@ -1,5 +1,4 @@
 // The readers of a cluster table where there is no word or no record.
-use crate::show;
 use cluster::{entries, frames, members, placements, signals};
 
 // A right table: 6 frames, 6 signals, each placed once, 4 members in 2 lists, 6 entries in 2 schedules.
@@ -67,13 +66,7 @@ const TABLE: [u16; 91] = [
 // The table by name where there is no record, and what is left of it where words are missing.
 pub(crate) fn all(rt: HostRuntime) {
     let t = TABLE;
-    show::text(
-        rt,
-        b"counts of frames, signals, members, entries, placements, lists and schedules: the table, its first 3 words, its first 0\n",
-    );
-    counts(rt, &t);
-    counts(rt, &t[..3]);
-    counts(rt, &t[..0]);
+    all_counts(rt, &t);
     all_frames(rt, &t);
     all_signals(rt, &t);
     all_placements(rt, &t);
@@ -83,157 +76,116 @@ pub(crate) fn all(rt: HostRuntime) {
     all_lists(rt, &t);
 }
 
+fn all_counts(rt: HostRuntime, t: &[u16]) {
+    let _ = println!(rt;
+        "counts of frames, signals, members, entries, placements, lists and schedules: the table, its first 3 words, its first 0"
+    );
+    for n in [t.len(), 3, 0] {
+        if let Some(t) = t.get(..n) {
+            counts(rt, t);
+        }
+    }
+}
+
 fn counts(rt: HostRuntime, t: &[u16]) {
-    show::text(rt, b"counts:");
-    number(rt, frames::count(t));
-    number(rt, signals::count(t));
-    number(rt, members::count(t));
-    number(rt, entries::count(t));
-    number(rt, placements::count(t));
-    size(rt, members::lists(t));
-    size(rt, entries::schedules(t));
-    show::text(rt, b"\n");
+    let _ = println!(rt;
+        "counts: {} {} {} {} {} {} {}",
+        frames::count(t),
+        signals::count(t),
+        members::count(t),
+        entries::count(t),
+        placements::count(t),
+        members::lists(t),
+        entries::schedules(t)
+    );
 }
 
 fn all_frames(rt: HostRuntime, t: &[u16]) {
-    show::text(
-        rt,
-        b"frames: identifier, length, flags, published, classic\n",
-    );
-    frame(rt, t, 6);
-    frame(rt, t, 65535);
-}
-
-fn frame(rt: HostRuntime, t: &[u16], f: u16) {
-    label(rt, f);
-    number(rt, frames::identifier(t, f));
-    number(rt, frames::length(t, f));
-    number(rt, frames::flags(t, f));
-    truth(rt, frames::published(t, f));
-    truth(rt, frames::classic(t, f));
-    show::text(rt, b"\n");
+    let _ = println!(rt; "frames: identifier, length, flags, published, classic");
+    for f in [6, 65535] {
+        let _ = println!(rt;
+            "{f}: {} {} {} {} {}",
+            frames::identifier(t, f),
+            frames::length(t, f),
+            frames::flags(t, f),
+            u8::from(frames::published(t, f)),
+            u8::from(frames::classic(t, f))
+        );
+    }
 }
 
 fn all_signals(rt: HostRuntime, t: &[u16]) {
-    show::text(rt, b"signals: kind, width, start, bytes of an array\n");
-    signal(rt, t, 6);
-    signal(rt, t, 65535);
-}
-
-fn signal(rt: HostRuntime, t: &[u16], s: u16) {
-    label(rt, s);
-    number(rt, signals::kind(t, s));
-    number(rt, signals::width(t, s));
-    number(rt, signals::start(t, s));
-    if signals::is_array(t, s) {
-        size(rt, signals::array_length(t, s));
-    } else {
-        show::text(rt, b" -");
+    let _ = println!(rt; "signals: kind, width, start, bytes of an array");
+    for s in [6, 65535] {
+        let _ = print!(rt;
+            "{s}: {} {} {}",
+            signals::kind(t, s),
+            signals::width(t, s),
+            signals::start(t, s)
+        );
+        let _ = if signals::is_array(t, s) {
+            println!(rt; " {}", signals::array_length(t, s))
+        } else {
+            println!(rt; " -")
+        };
     }
-    show::text(rt, b"\n");
 }
 
 fn all_placements(rt: HostRuntime, t: &[u16]) {
-    show::text(
-        rt,
-        b"placements: signal, frame, offset, place in the buffer; the first placement of the signal of that number\n",
+    let _ = println!(rt;
+        "placements: signal, frame, offset, place in the buffer; the first placement of the signal of that number"
     );
-    placement(rt, t, 6);
-    placement(rt, t, 65535);
-}
-
-fn placement(rt: HostRuntime, t: &[u16], p: u16) {
-    label(rt, p);
-    number(rt, placements::signal(t, p));
-    number(rt, placements::frame(t, p));
-    number(rt, placements::offset(t, p));
-    size(rt, placements::place(t, p));
-    number(rt, placements::first(t, p));
-    show::text(rt, b"\n");
+    for p in [6, 65535] {
+        let _ = println!(rt;
+            "{p}: {} {} {} {} {}",
+            placements::signal(t, p),
+            placements::frame(t, p),
+            placements::offset(t, p),
+            placements::place(t, p),
+            placements::first(t, p)
+        );
+    }
 }
 
 fn all_members(rt: HostRuntime, t: &[u16]) {
-    show::text(rt, b"members: list, frame\n");
-    member(rt, t, 4);
-    member(rt, t, 65535);
-}
-
-fn member(rt: HostRuntime, t: &[u16], m: u16) {
-    label(rt, m);
-    number(rt, members::list(t, m));
-    number(rt, members::frame(t, m));
-    show::text(rt, b"\n");
+    let _ = println!(rt; "members: list, frame");
+    for m in [4, 65535] {
+        let _ = println!(rt; "{m}: {} {}", members::list(t, m), members::frame(t, m));
+    }
 }
 
 fn all_entries(rt: HostRuntime, t: &[u16]) {
-    show::text(
-        rt,
-        b"entries: schedule, kind, target, delay, the next entry\n",
-    );
-    entry(rt, t, 6);
-    entry(rt, t, 65535);
-}
-
-fn entry(rt: HostRuntime, t: &[u16], e: u16) {
-    label(rt, e);
-    number(rt, entries::schedule(t, e));
-    number(rt, entries::kind(t, e));
-    number(rt, entries::target(t, e));
-    number(rt, entries::delay(t, e));
-    number(rt, entries::next(t, e));
-    show::text(rt, b"\n");
+    let _ = println!(rt; "entries: schedule, kind, target, delay, the next entry");
+    for e in [6, 65535] {
+        let _ = println!(rt;
+            "{e}: {} {} {} {} {}",
+            entries::schedule(t, e),
+            entries::kind(t, e),
+            entries::target(t, e),
+            entries::delay(t, e),
+            entries::next(t, e)
+        );
+    }
 }
 
 fn all_schedules(rt: HostRuntime, t: &[u16]) {
-    show::text(rt, b"the first entry of a schedule that is not there\n");
-    schedule(rt, t, 2);
-    schedule(rt, t, 65535);
-}
-
-fn schedule(rt: HostRuntime, t: &[u16], n: u16) {
-    label(rt, n);
-    number(rt, entries::first(t, n));
-    show::text(rt, b"\n");
+    let _ = println!(rt; "the first entry of a schedule that is not there");
+    for n in [2, 65535] {
+        let _ = println!(rt; "{n}: {}", entries::first(t, n));
+    }
 }
 
 fn all_lists(rt: HostRuntime, t: &[u16]) {
-    show::text(
-        rt,
-        b"the next member of a list that is not there, from members 0 to 4 on\n",
-    );
-    list(rt, t, 2);
-    list(rt, t, 65535);
+    let _ = println!(rt; "the next member of a list that is not there, from members 0 to 4 on");
+    for l in [2, 65535] {
+        list(rt, t, l);
+    }
 }
 
 fn list(rt: HostRuntime, t: &[u16], l: u16) {
-    label(rt, l);
-    number(rt, members::next(t, l, 0));
-    number(rt, members::next(t, l, 1));
-    number(rt, members::next(t, l, 2));
-    number(rt, members::next(t, l, 3));
-    number(rt, members::next(t, l, 4));
-    show::text(rt, b"\n");
-}
-
-// The number of a record, before its fields.
-fn label(rt: HostRuntime, n: u16) {
-    show::decimal(rt, n as u64);
-    show::text(rt, b":");
-}
-
-fn number(rt: HostRuntime, n: u16) {
-    size(rt, n as usize);
-}
-
-fn size(rt: HostRuntime, n: usize) {
-    show::text(rt, b" ");
-    show::decimal(rt, n as u64);
-}
-
-fn truth(rt: HostRuntime, is: bool) {
-    if is {
-        number(rt, 1);
-    } else {
-        number(rt, 0);
+    let _ = print!(rt; "{l}:");
+    for m in 0..5 {
+        let _ = print!(rt; " {}", members::next(t, l, m));
     }
+    let _ = println!(rt;);
 }

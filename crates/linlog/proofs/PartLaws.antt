@@ -1,9 +1,8 @@
 -- A part of a log is reported and kept, and a last line is reported: the two equations of `in_parts`.
-use Rattle.std.proofs.Common.{Ok, ◌≡◌, ℕ, suc, ◌+◌, ◌*◌, ◌%◌, ◌^◌, ◌<◌, ◌≤◌, true, false, List, [], ◌∷◌, ◌++◌, length, take, drop, set, ℤ, pos, negsuc, sym, refl, ap, ◌∙◌, true≢false, append_assoc, arith, take-append-drop, length-take, length-take-le, take_at, to_z-of_z, w64, SFits, to_z, of_z, ltb-true}
+use Rattle.std.proofs.Common.{Ok, ◌≡◌, ℕ, suc, ◌+◌, ◌*◌, ◌%◌, ◌^◌, ◌<◌, ◌≤◌, false, List, [], ◌∷◌, ◌++◌, length, take, drop, set, Option, None, Some, sym, refl, ap, ◌∙◌, append_assoc, arith, take-append-drop, length-take, length-take-le, take_at}
+use Rattle.std.proofs.lemmas.Option.{none-some}
 use native.Mathlib.Nat.{min-le_left}
-use lib.Signed.{lt_z}
 use lib.Seq.{take-append-add, set_split}
-use Rattle.streams.specs.Counts.{Moved, clamp_len}
 use Rattle.signal.proofs.Inside.{order}
 use Rattle.buslog.specs.declared.report.Written.{Written}
 use Rattle.buslog.specs.Row.{longest_row}
@@ -96,47 +95,28 @@ module _ (log r : Log) (text out : List ℕ) where
 
 -- ---- what a reading brings about, by its three answers
 
--- a negative answer, as the machine reads it back from its bits
-pub negative : (z : ℤ) → SFits w64 z → lt_z (to_z w64 (of_z w64 z)) (pos 0) ≡ true → (k : ℕ) × (z ≡ negsuc k)
-negative z fits e = by z (rw (to_z-of_z fits) at e) where
-  by : (y : ℤ) → lt_z y (pos 0) ≡ true → (k : ℕ) × (y ≡ negsuc k)
-  by (pos n) h = let l = ltb-true n 0 h in absurd (omega arith)
-  by (negsuc k) h = (k, refl)
-
--- what a reading may answer, as the machine reads it back
-pub moved_back : (z : ℤ) (a b : ℕ) → SFits w64 z → Moved a z → a ≡ b → Moved b (to_z w64 (of_z w64 z))
-moved_back z a b fits m e = rw (to_z-of_z fits, ← e) m
-
--- any other answer of a reading into so many characters is their number
-pub counted : (z : ℤ) (most n m : ℕ) → SFits w64 z → Moved most z → lt_z (to_z w64 (of_z w64 z)) (pos 0) ≡ false
-    → n ≡ clamp_len (to_z w64 (of_z w64 z)) m → m ≡ most → z ≡ pos n
-counted z most n m fits moved e c same = by z moved (rw (to_z-of_z fits) at e) (rw (to_z-of_z fits, same) at c) where
-  by : (y : ℤ) → Moved most y → lt_z y (pos 0) ≡ false → n ≡ clamp_len y most → y ≡ pos n
-  by (pos k) l h q = ap pos (omega arith)
-  by (negsuc k) l h q = absurd (true≢false h)
-
-module _ (log : Log) (got : ℤ) (text out : List ℕ) (r : Log) (text_after out_after : List ℕ) where
-  pub goes_failed : (k : ℕ) → got ≡ negsuc k → Fails out r out_after → Goes log got text out r text_after out_after
-  goes_failed k bad fails =
+module _ (log : Log) (text out : List ℕ) (r : Log) (text_after out_after : List ℕ) where
+  pub goes_failed : Fails out r out_after → Goes log None text out r text_after out_after
+  goes_failed fails =
       record {
-        failed = λ _ _. fails;
-        over = λ none. let z : ◌≡◌ {A = ℕ} 0 1 = cc in absurd (omega arith);
-        came = λ n some _. let z : ◌≡◌ {A = ℕ} 0 1 = cc in absurd (omega arith);
+        failed = λ _. fails;
+        over = λ none. absurd (none-some _ none);
+        came = λ n some _. absurd (none-some _ some);
       }
 
-  pub goes_over : got ≡ pos 0 → Ends log (take log.kept text) out r out_after → Goes log got text out r text_after out_after
-  goes_over none ends =
+  pub goes_over : Ends log (take log.kept text) out r out_after → Goes log (Some 0) text out r text_after out_after
+  goes_over ends =
       record {
-        failed = λ k bad. let z : ◌≡◌ {A = ℕ} 0 1 = cc in absurd (omega arith);
+        failed = λ bad. absurd (none-some _ (sym bad));
         over = λ _. ends;
-        came = λ n some h. let z : n ≡ 0 = cc in absurd (omega arith);
+        came = λ n some h. let z : 0 ≡ n = cc in absurd (omega arith);
       }
 
-  pub goes_on : (n : ℕ) → got ≡ pos n → 1 ≤ n → log.kept ≤ length text
-      → Reports log (take (log.kept + n) text) out r text_after out_after → Goes log got text out r text_after out_after
-  goes_on n some h within reports =
+  pub goes_on : (n : ℕ) → 1 ≤ n → log.kept ≤ length text
+      → Reports log (take (log.kept + n) text) out r text_after out_after → Goes log (Some n) text out r text_after out_after
+  goes_on n h within reports =
       record {
-        failed = λ k bad. let z : ◌≡◌ {A = ℕ} 0 1 = cc in absurd (omega arith);
+        failed = λ bad. absurd (none-some _ (sym bad));
         over = λ none. let z : n ≡ 0 = cc in absurd (omega arith);
         came = λ m e _. let q : n ≡ m = cc in rw (part_behind text log.kept n within, q) at reports;
       }
@@ -145,9 +125,9 @@ module _ (log : Log) (got : ℤ) (text out : List ℕ) (r : Log) (text_after out
 pub few_kept : (log : Log) (text out : List ℕ) (r : Log) (text_after out_after : List ℕ) → Turns log text out r text_after out_after → r.kept ≤ kept_length
 unfolding line_kept kept_of
 few_kept log text out r text_after out_after t = by t.got refl where
-  by : (g : ℤ) → t.got ≡ g → r.kept ≤ kept_length
-  by (negsuc k) e = omega (arith, (t.goes.failed k e).none_kept)
-  by (pos n) e =
+  by : (g : Option ℕ) → t.got ≡ g → r.kept ≤ kept_length
+  by None e = omega (arith, (t.goes.failed e).none_kept)
+  by (Some n) e =
       order n 1
       (λ none. let z : n ≡ 0 = omega arith in omega (arith, (t.goes.over (rw z at e)).none_kept))
       (λ some.

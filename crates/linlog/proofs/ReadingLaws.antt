@@ -1,5 +1,5 @@
 -- What is done after a reading, by the number that it answered: each answer with the rows that it puts and with what it keeps.
-use Rattle.std.proofs.Common.{◌≡◌, ℕ, suc, ◌+◌, ◌-◌, ◌%◌, ◌^◌, ◌≤◌, true, false, ◌⊎◌, ◌↔◌, List, [], ◌∷◌, ◌++◌, length, take, drop, ℤ, pos, negsuc, refl, ap, ◌∙◌, arith}
+use Rattle.std.proofs.Common.{◌≡◌, ℕ, suc, ◌+◌, ◌-◌, ◌%◌, ◌^◌, ◌≤◌, true, false, ◌⊎◌, ◌↔◌, List, [], ◌∷◌, ◌++◌, length, take, drop, Option, None, Some, refl, ap, ◌∙◌, arith}
 use Rattle.streams.specs.Counts.{Moved}
 use Rattle.buslog.specs.Lines.{whole_lines, unfinished, last_line}
 use Rattle.buslog.specs.Report.{built_in, rows_of, fronted, kept_of}
@@ -20,18 +20,18 @@ ended_line [] h = refl
 ended_line (c ∷ u) h = line_then [] (c ∷ u) (10 ∷ []) h
 
 module _ (log : Log) (text out : List ℕ) (r : Log) (text_after out_after : List ℕ) where
-  -- a negative answer: no row is put, and nothing goes on
-  pub failed_reading : (k : ℕ) → Goes log (negsuc k) text out r text_after out_after → (out_after ≡ out) × (r.kept ≡ 0) × (r.goes_on ≡ false)
-  failed_reading k g = let f = g.failed k refl in (f.no_rows, f.none_kept, f.over)
+  -- no number: no row is put, and nothing goes on
+  pub failed_reading : Goes log None text out r text_after out_after → (out_after ≡ out) × (r.kept ≡ 0) × (r.goes_on ≡ false)
+  failed_reading g = let f = g.failed refl in (f.no_rows, f.none_kept, f.over)
 
   -- 0 is the end: the row of the line that was kept is put, if there is one, and nothing goes on
-  pub end_of_input : OneLine (take log.kept text) → Goes log (pos 0) text out r text_after out_after
+  pub end_of_input : OneLine (take log.kept text) → Goes log (Some 0) text out r text_after out_after
       → (out_after ≡ fronted (rows_of built_in log.number (last_line (take log.kept text))) out) × (r.kept ≡ 0) × (r.goes_on ≡ false)
   end_of_input one g = let e = g.over refl in (e.rows ∙ rw (ended_line (take log.kept text) one), e.none_kept, e.over)
 
   -- n characters: the rows of the whole lines are put, of the text that was kept with the n characters behind it, the lines are counted, and what
   -- stands behind the last newline is kept, cut to 30 characters
-  pub characters_read : (n : ℕ) → 1 ≤ n → Goes log (pos n) text out r text_after out_after
+  pub characters_read : (n : ℕ) → 1 ≤ n → Goes log (Some n) text out r text_after out_after
       → (out_after ≡ fronted (rows_of built_in log.number (whole_lines [] (take log.kept text ++ take n (drop log.kept text)))) out)
       × (r.number ≡ (log.number + length (whole_lines [] (take log.kept text ++ take n (drop log.kept text)))) % 2 ^ 64)
       × (take r.kept text_after ≡ take 30 (unfinished [] (take log.kept text ++ take n (drop log.kept text))))
@@ -45,7 +45,7 @@ module _ (log : Log) (text out : List ℕ) (r : Log) (text_after out_after : Lis
 
 -- one turn is what some answer of a reading brings about, and what was kept stays before what was read
 pub turn_exactly : (log : Log) (text out : List ℕ) (r : Log) (text_after out_after : List ℕ) → Turns log text out r text_after out_after
-    ↔ ((got : ℤ) × (now : List ℕ) × Moved (length text - log.kept) got × (take log.kept now ≡ take log.kept text)
+    ↔ ((got : Option ℕ) × (now : List ℕ) × Moved (length text - log.kept) got × (take log.kept now ≡ take log.kept text)
     × Goes log got now out r text_after out_after)
 turn_exactly log text out r text_after out_after = (
   (λ t. (t.got, t.now, t.moved, t.same, t.goes)),

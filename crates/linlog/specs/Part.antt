@@ -1,6 +1,6 @@
 -- A log in parts: what the program does with one part, and at the end of the input. These are the two equations of `in_parts` (buslog, Report), by which a
 -- log in parts gives the report of the whole.
-use Rattle.std.specs.Prelude.{◌≡◌, ℕ, suc, ◌+◌, ◌-◌, ◌%◌, ◌^◌, ◌≤◌, true, false, ◌⊎◌, List, [], ◌∷◌, ◌++◌, length, take, drop, ℤ, pos, negsuc}
+use Rattle.std.specs.Prelude.{◌≡◌, ℕ, suc, ◌+◌, ◌-◌, ◌%◌, ◌^◌, ◌≤◌, true, false, ◌⊎◌, List, [], ◌∷◌, ◌++◌, length, take, drop, Option, None, Some}
 use Rattle.streams.specs.Counts.{Moved}
 use Rattle.buslog.specs.Lines.{whole_lines}
 use Rattle.buslog.specs.Report.{built_in, rows_of, characters_of, fronted, kept_of}
@@ -35,16 +35,16 @@ pub record Fails (out : List ℕ) (r : Log) (out_after : List ℕ) : Type 0 wher
   pub none_kept : r.kept ≡ 0
   pub over : r.goes_on ≡ false
 
--- what a reading brings about, by what it answered and by nothing else: a negative number is a failure, 0 is the end of the input, and of n characters
+-- what a reading brings about, by what it answered and by nothing else: no number is a failure, 0 is the end of the input, and of n characters
 -- the n that stand behind what was kept are reported with it
-pub record Goes (log : Log) (got : ℤ) (text out : List ℕ) (r : Log) (text_after out_after : List ℕ) : Type 0 where
-  pub failed : (k : ℕ) → got ≡ negsuc k → Fails out r out_after
-  pub over : got ≡ pos 0 → Ends log (take log.kept text) out r out_after
-  pub came : (n : ℕ) → got ≡ pos n → 1 ≤ n → Reports log (take log.kept text ++ take n (drop log.kept text)) out r text_after out_after
+pub record Goes (log : Log) (got : Option ℕ) (text out : List ℕ) (r : Log) (text_after out_after : List ℕ) : Type 0 where
+  pub failed : got ≡ None → Fails out r out_after
+  pub over : got ≡ Some 0 → Ends log (take log.kept text) out r out_after
+  pub came : (n : ℕ) → got ≡ Some n → 1 ≤ n → Reports log (take log.kept text ++ take n (drop log.kept text)) out r text_after out_after
 
 -- one turn: a reading left what was kept as it was, and what it answered was done
 pub record Turns (log : Log) (text out : List ℕ) (r : Log) (text_after out_after : List ℕ) : Type 0 where
-  pub got : ℤ
+  pub got : Option ℕ
   pub moved : Moved (length text - log.kept) got
   pub now : List ℕ
   pub same : take log.kept now ≡ take log.kept text

@@ -1,13 +1,21 @@
 // The log program of document 01: judges the frames of a log on standard input, one a line, and prints a row for each.
 #![tactic(auto)]
 
-ghost use Rattle.std.specs.Prelude.{◌≡◌, ◌+◌, ◌-◌, ◌*◌, ◌<◌, ◌≤◌, false, length, take};
-ghost use Rattle.buslog.specs.Row.{header, longest_row};
-ghost use Rattle.buslog.specs.Report.{built_in, kept_length};
+ghost use Rattle.std.specs.Prelude.{◌≡◌, ◌-◌, ◌<◌, ◌≤◌, false, length, take};
+ghost use Rattle.buslog.specs.Row.{header};
+ghost use Rattle.buslog.specs.Report.{built_in};
 ghost use Rattle.streams.specs.Counts.{Moved};
 ghost use Rattle.linlog.specs.Part.{started, Reports, Ends, Goes, Turns, Runs};
 
 use buslog::report;
+
+// The characters of the log that are read at once, with those kept before them.
+const TEXT_BYTES: usize = 16384;
+
+// The rows of so much text always fit: 33 characters for each of its characters.
+// Kept: text and rows as two parameters; as fields of a struct, what `self.text` is behind the loan of a part of it, in `whole_lines`, and
+// its length after a turn, in `run`, stayed open.
+const ROW_BYTES: usize = 33 * TEXT_BYTES;
 
 // How far the log was reported.
 #[derive(Clone, Copy)]
@@ -15,7 +23,10 @@ struct Log {
     // The number of the next line.
     number: u64,
     // The characters of a line that is not whole yet, at the front of the text.
+    // Kept: that they are fewer than the text has stands in three contracts; as a ghost field it would be a field of `started` (specs/Part),
+    // and `no_turn` (ReadingLaws) would ask for it.
     kept: usize,
+    // Kept: `next_turn`, `no_turn` and `run_exactly` (ReadingLaws) speak of it, and of the number and what is kept of a log that ended too.
     goes_on: bool,
 }
 
@@ -28,15 +39,9 @@ fn main(rt: HostRuntime) {
     if !write_out(rt, &header) {
         return;
     }
-    let mut text = [0u8; 16384];
-    // The rows of so much text always fit: 33 characters for each of its characters.
-    let mut out = [0u8; 540672];
-    report(rt, &mut text, &mut out);
-}
-
-// Reports the log in parts, over buffers of the sizes that the turns ask for.
-fn report(rt: HostRuntime, text: &mut [u8; 16384], out: &mut [u8; 540672]) {
-    run(rt, text, out);
+    let mut text = [0u8; TEXT_BYTES];
+    let mut out = [0u8; ROW_BYTES];
+    run(rt, &mut text, &mut out);
 }
 
 // Says how the program is used, on standard error, where no row stands.
@@ -78,70 +83,75 @@ fn started() -> Log
     }
 }
 
-// Turn after turn, from line 1 on. Nothing says that the input ends, so the turns count down from a number that no run uses up.
-fn run(rt: HostRuntime, text: &mut [u8], out: &mut [u8])
-    requires { (kept_length < length text.old) × (longest_row * length text.old ≤ length out.old) }
+// Turn after turn, from line 1 on, until one ends the log; nothing says that the input ends, and no run uses up so many turns.
+fn run(rt: HostRuntime, text: &mut [u8; TEXT_BYTES], out: &mut [u8; ROW_BYTES])
     ensures { Runs text.old out.old text.new out.new }
 {
     let mut log = started();
-    let mut turns = u64::MAX;
-    while turns > 0 && log.goes_on {
+    for turns in 0..u64::MAX {
+        if !log.goes_on {
+            return;
+        }
         log = turn(rt, log, text, out);
-        turns -= 1;
     }
 }
 
 // Reads once behind what was kept, and does what the answer of that reading says; a failure is told on standard error.
-fn turn(rt: HostRuntime, log: Log, text: &mut [u8], out: &mut [u8]) -> Log
-    requires { (log.kept < length text.old) × (longest_row * length text.old ≤ length out.old) }
+fn turn(rt: HostRuntime, log: Log, text: &mut [u8; TEXT_BYTES], out: &mut [u8; ROW_BYTES]) -> Log
+    requires { log.kept < length text.old }
     ensures { Turns log text.old out.old result text.new out.new }
 {
-    let kept = log.kept;
-    let got = streams::read(rt, "linlog: standard input", &mut text[kept..]);
+    let got = streams::read(rt, "linlog: standard input", &mut text[log.kept..]);
     part(rt, log, text, got, out)
 }
 
-// What a reading brings about, by what it answered: a negative number is a failure, which was told on standard error, and nothing more
+// What a reading brings about, by what it answered: no number is a failure, which was told on standard error, and nothing more
 // is reported; 0 is the end, where the last line is reported; and n characters go behind what was kept, and their whole lines are.
-fn part(rt: HostRuntime, log: Log, text: &mut [u8], got: isize, out: &mut [u8]) -> Log
-    requires { (log.kept < length text.old) × Moved (length text.old - log.kept) got × (longest_row * length text.old ≤ length out.old) }
+fn part(
+    rt: HostRuntime,
+    log: Log,
+    text: &mut [u8; TEXT_BYTES],
+    got: Option<usize>,
+    out: &mut [u8; ROW_BYTES],
+) -> Log
+    requires { (log.kept < length text.old) × Moved (length text.old - log.kept) got }
     ensures { Goes log got text.old out.old result text.new out.new }
 {
-    let kept = log.kept;
-    if got < 0 {
-        return ended(log);
+    match got {
+        None => ended(log),
+        Some(0) => last(rt, log, text, out),
+        Some(more) => whole_lines(rt, log, text, log.kept + more, out),
     }
-    let more = streams::count(got, &text[kept..]);
-    if more == 0 {
-        return last(rt, log, text, out);
-    }
-    whole_lines(rt, log, text, kept + more, out)
 }
 
 // Reports a last line that lacks its newline, if there is one.
-fn last(rt: HostRuntime, log: Log, text: &mut [u8], out: &mut [u8]) -> Log
-    requires { (log.kept < length text.old) × (longest_row * length text.old ≤ length out.old) }
+fn last(rt: HostRuntime, log: Log, text: &mut [u8; TEXT_BYTES], out: &mut [u8; ROW_BYTES]) -> Log
+    requires { log.kept < length text.old }
     ensures { Ends log (take log.kept text.old) out.old result out.new }
 {
-    let kept = log.kept;
-    if kept == 0 {
+    if log.kept == 0 {
         return ended(log);
     }
-    text[kept] = b'\n';
-    ended(whole_lines(rt, log, text, kept + 1, out))
+    text[log.kept] = b'\n';
+    ended(whole_lines(rt, log, text, log.kept + 1, out))
 }
 
 // Reports the whole lines of the first n characters, writes their rows, and keeps what is left.
-fn whole_lines(rt: HostRuntime, log: Log, text: &mut [u8], n: usize, out: &mut [u8]) -> Log
-    requires { (n ≤ length text.old) × (longest_row * length text.old ≤ length out.old) }
+fn whole_lines(
+    rt: HostRuntime,
+    log: Log,
+    text: &mut [u8; TEXT_BYTES],
+    n: usize,
+    out: &mut [u8; ROW_BYTES],
+) -> Log
+    requires { n ≤ length text.old }
     ensures { Reports log (take n text.old) out.old result text.new out.new }
 {
     let table = table();
     let written = report::write(&table, log.number, &text[..n], out).unwrap();
-    let put = written.put;
-    let goes_on = write_out(rt, &out[..put]);
+    let goes_on = write_out(rt, &out[..written.put]);
     Log {
-        number: std::num::wrapping_add_u64(log.number, written.lines as u64),
+        number: log.number.wrapping_add(written.lines as u64),
         kept: report::keep(&mut text[..n], written.used),
         goes_on,
     }
@@ -152,8 +162,8 @@ fn ended(log: Log) -> Log
     ensures { (result.kept ≡ 0) × (result.goes_on ≡ false) }
 {
     Log {
-        number: log.number,
         kept: 0,
         goes_on: false,
+        ..log
     }
 }

@@ -1,6 +1,5 @@
 // The calls: a master made ready, then for each letter a tick (T), a row (R), its single writes (W), or else a byte in.
-use crate::row;
-use crate::row::VALUES;
+use crate::row::Row;
 use master::byte::ByteAnswer;
 use master::state::{State, Transfer};
 use master::tick::TickAnswer;
@@ -11,12 +10,10 @@ pub(crate) fn all(t: &[u16], bytes: &mut [u8], letters: &[u8]) -> u64 {
     let mut state = State::start(t, bytes).unwrap_or(State::fresh());
     let _ = state.select(t, 0);
     write_six(&mut state, t, bytes);
-    let mut numbers = [0u16; VALUES];
-    let mut values = [0u32; VALUES];
-    row::build(t, &mut numbers, &mut values);
+    let row = Row::of(t);
     let mut digest: u64 = 0;
     for &letter in letters {
-        let code = call(&mut state, t, bytes, letter, &numbers, &values);
+        let code = call(&mut state, t, bytes, letter, &row);
         digest = folded(digest, code);
     }
     with_left(digest, &state, bytes)
@@ -24,37 +21,28 @@ pub(crate) fn all(t: &[u16], bytes: &mut [u8], letters: &[u8]) -> u64 {
 
 // Six scalars are written, each in two frames, so that ten of the fifteen lists have a pending frame.
 fn write_six(state: &mut State, t: &[u16], bytes: &mut [u8]) {
-    for s in [14, 22, 30, 38, 46, 54] {
+    for s in (14..60).step_by(8) {
         let _ = state.write(t, bytes, s, 42);
     }
 }
 
 // The call of a letter, and its answer as a number.
-fn call(
-    state: &mut State,
-    t: &[u16],
-    bytes: &mut [u8],
-    letter: u8,
-    numbers: &[u16; VALUES],
-    values: &[u32; VALUES],
-) -> u64 {
+fn call(state: &mut State, t: &[u16], bytes: &mut [u8], letter: u8, row: &Row) -> u64 {
     match letter {
         b'T' => tick_code(state.tick(t, bytes, &[])),
-        b'R' => row::write(state, t, bytes, numbers, values),
-        b'W' => row::write_singly(state, t, bytes, numbers, values),
+        b'R' => row.write(state, t, bytes),
+        b'W' => row.write_singly(state, t, bytes),
         _ => {
-            let b = due(state.transfer);
-            byte_code(state.byte_in(t, bytes, b))
+            let byte = due(state.transfer);
+            byte_code(state.byte_in(t, bytes, byte))
         }
     }
 }
 
 // The byte that is due in the open copy.
 fn due(transfer: Transfer) -> u8 {
-    match transfer.bytes.get(transfer.count as usize) {
-        Some(&byte) => byte,
-        None => 0,
-    }
+    let i = usize::from(transfer.count);
+    transfer.bytes.get(i).copied().unwrap_or(0)
 }
 
 fn tick_code(answer: Result<TickAnswer, Refusal>) -> u64 {
@@ -83,17 +71,15 @@ pub(crate) fn refused(refusal: Refusal) -> u64 {
 
 // The digest with what the calls left: the last transfer counted, the frame bytes and the pending bits.
 fn with_left(digest: u64, state: &State, bytes: &[u8]) -> u64 {
-    let last = folded(digest, state.status.last as u64);
+    let last = folded(digest, u64::from(state.status.last));
     with_pending(with_bytes(last, bytes), &state.pending)
 }
 
 // The digest with the frame bytes.
 fn with_bytes(digest: u64, bytes: &[u8]) -> u64 {
-    let mut next = digest;
-    for &byte in bytes {
-        next = folded(next, byte as u64);
-    }
-    next
+    bytes
+        .iter()
+        .fold(digest, |next, &byte| folded(next, u64::from(byte)))
 }
 
 // The digest with the numbers of the pending frames.

@@ -4,106 +4,87 @@
 
 // Makes the table.
 pub(crate) fn build(t: &mut [u16]) {
-    let mut i: usize = 0;
-    while i < t.len() {
-        t[i] = word(i);
-        i += 1;
+    for (i, place) in t.iter_mut().enumerate() {
+        *place = word(i);
     }
 }
 
 // The word at a position.
 fn word(i: usize) -> u16 {
-    if i < 5 {
-        return count(i);
+    match i {
+        0..5 => count(i),
+        5..185 => frame((i - 5) / 3, (i - 5) % 3),
+        185..953 => signal((i - 185) / 3, (i - 185) % 3),
+        953..2489 => placement((i - 953) / 3, (i - 953) % 3),
+        2489..2609 => member((i - 2489) / 2, (i - 2489) % 2),
+        2609..3633 => entry((i - 2609) / 4, (i - 2609) % 4),
+        _ => 0,
     }
-    if i < 185 {
-        return frame((i - 5) / 3, (i - 5) % 3);
-    }
-    if i < 953 {
-        return signal((i - 185) / 3, (i - 185) % 3);
-    }
-    if i < 2489 {
-        return placement((i - 953) / 3, (i - 953) % 3);
-    }
-    if i < 2609 {
-        return member((i - 2489) / 2, (i - 2489) % 2);
-    }
-    if i < 3633 {
-        return entry((i - 2609) / 4, (i - 2609) % 4);
-    }
-    0
 }
 
 // 60 frames, 256 signals, 60 members, 256 entries, 512 placements.
 fn count(column: usize) -> u16 {
-    if column == 4 {
-        return 512;
+    match column {
+        4 => 512,
+        0 | 2 => 60,
+        _ => 256,
     }
-    if column % 2 == 0 { 60 } else { 256 }
 }
 
 // Published frames of eight bytes, the classic ones by turns.
 fn frame(f: usize, column: usize) -> u16 {
-    if column == 0 {
-        return (59 - f % 60) as u16;
+    match column {
+        0 => (59 - f % 60) as u16,
+        1 => 8,
+        _ => (1 + 2 * (f % 2)) as u16,
     }
-    if column == 1 {
-        return 8;
-    }
-    (1 + 2 * (f % 2)) as u16
 }
 
 // Scalars of six bits and arrays of one byte by turns.
 fn signal(s: usize, column: usize) -> u16 {
-    if column == 0 {
-        return (s % 2) as u16;
+    match column {
+        0 => (s % 2) as u16,
+        1 => (6 + 2 * (s % 2)) as u16,
+        _ => (s / 2 % 64) as u16,
     }
-    if column == 1 {
-        return (6 + 2 * (s % 2)) as u16;
-    }
-    (s / 2 % 64) as u16
 }
 
 // Each signal in two frames, 31 apart; the arrays from the first byte of a frame on, the scalars from its last bits down.
 fn placement(p: usize, column: usize) -> u16 {
     let s = p / 2;
-    if column == 0 {
-        return (s % 256) as u16;
+    match column {
+        0 => (s % 256) as u16,
+        1 => ((s % 256 + 31 * (p % 2)) % 60) as u16,
+        _ => offset(s % 2, s / 60),
     }
-    if column == 1 {
-        return ((s % 256 + 31 * (p % 2)) % 60) as u16;
-    }
-    offset(s % 2, s / 60)
 }
 
 // The offset in a round of 60 signals.
 fn offset(kind: usize, round: usize) -> u16 {
     if kind == 1 {
-        return (8 * (round % 8)) as u16;
+        (8 * (round % 8)) as u16
+    } else {
+        (58 - 6 * (round % 8)) as u16
     }
-    (58 - 6 * (round % 8)) as u16
 }
 
 // Four members a list.
 fn member(m: usize, column: usize) -> u16 {
     if column == 0 {
-        return (m / 4 % 15) as u16;
+        (m / 4 % 15) as u16
+    } else {
+        (59 - m % 60) as u16
     }
-    (59 - m % 60) as u16
 }
 
 // 64 entries a schedule.
 fn entry(e: usize, column: usize) -> u16 {
-    if column == 0 {
-        return (e / 64 % 4) as u16;
+    match column {
+        0 => (e / 64 % 4) as u16,
+        1 => kind(e),
+        2 => target(e),
+        _ => 1,
     }
-    if column == 1 {
-        return kind(e);
-    }
-    if column == 2 {
-        return target(e);
-    }
-    1
 }
 
 // Frames and lists by turns, and then one of each kind.

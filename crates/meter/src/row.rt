@@ -7,17 +7,46 @@ use master::state::State;
 use refusal::Refusal;
 
 // The values of the row.
-pub(crate) const VALUES: usize = 20;
+const VALUES: usize = 20;
 
-// Makes the row from the table, so that the compiler does not know it: every twelfth signal, which are scalars of six bits,
-// four in each of ten frames.
-pub(crate) fn build(t: &[u16], numbers: &mut [u16; VALUES], values: &mut [u32; VALUES]) {
-    let step = frames::count(t) / 5;
-    let mut s: u16 = 0;
-    for i in 0..VALUES {
-        numbers[i] = s;
-        values[i] = opposite(signals::start(t, s));
-        s = (s % 256 + step) % 256;
+// The signals of the row by their numbers, and a value for each.
+// Kept: two arrays, since `State::write_row` takes the numbers and the values apart.
+#[derive(Clone, Copy)]
+pub(crate) struct Row {
+    numbers: [u16; VALUES],
+    values: [u32; VALUES],
+}
+
+impl Row {
+    // Makes the row from the table, so that the compiler does not know it: every twelfth signal, which are scalars of six bits,
+    // four in each of ten frames.
+    pub(crate) fn of(t: &[u16]) -> Row {
+        let mut numbers = [0; VALUES];
+        let mut values = [0; VALUES];
+        let step = frames::count(t) / 5;
+        let mut s: u16 = 0;
+        for (number, value) in numbers.iter_mut().zip(&mut values) {
+            *number = s;
+            *value = opposite(signals::start(t, s));
+            s = (s % 256 + step) % 256;
+        }
+        Row { numbers, values }
+    }
+
+    // Writes the row.
+    pub(crate) fn write(&self, state: &mut State, t: &[u16], bytes: &mut [u8]) -> u64 {
+        let n = length(t, self.numbers.len());
+        let m = length(t, self.values.len());
+        code_of(state.write_row(t, bytes, &self.numbers[..n], &self.values[..m]))
+    }
+
+    // Writes the values of the row one by one; the code is the largest.
+    pub(crate) fn write_singly(&self, state: &mut State, t: &[u16], bytes: &mut [u8]) -> u64 {
+        let mut code: u64 = 0;
+        for (&s, &v) in self.numbers.iter().zip(&self.values) {
+            code = code.max(code_of(state.write(t, bytes, s, v)));
+        }
+        code
     }
 }
 
@@ -30,36 +59,7 @@ fn opposite(start: u16) -> u32 {
 fn length(t: &[u16], most: usize) -> usize
     ensures { result ≤ most }
 {
-    let n = (frames::count(t) / 3) as usize;
-    if n < most { n } else { most }
-}
-
-// Writes the row.
-pub(crate) fn write(
-    state: &mut State,
-    t: &[u16],
-    bytes: &mut [u8],
-    numbers: &[u16],
-    values: &[u32],
-) -> u64 {
-    let n = length(t, numbers.len());
-    let m = length(t, values.len());
-    code_of(state.write_row(t, bytes, &numbers[..n], &values[..m]))
-}
-
-// Writes the values of the row one by one; the code is the largest.
-pub(crate) fn write_singly(
-    state: &mut State,
-    t: &[u16],
-    bytes: &mut [u8],
-    numbers: &[u16; VALUES],
-    values: &[u32; VALUES],
-) -> u64 {
-    let mut code: u64 = 0;
-    for (&s, &v) in numbers.iter().zip(values) {
-        code = code.max(code_of(state.write(t, bytes, s, v)));
-    }
-    code
+    usize::from(frames::count(t) / 3).min(most)
 }
 
 fn code_of(answer: Result<(), Refusal>) -> u64 {

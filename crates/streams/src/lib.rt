@@ -3,7 +3,7 @@
 #![tactic(auto)]
 
 ghost use Rattle.std.specs.Prelude.{◌≤◌, ◌≡◌, length, min};
-ghost use Rattle.streams.specs.Counts.{IsPrefixLen, Moved, clamp_len};
+ghost use Rattle.streams.specs.Counts.{IsPrefixLen, Moved};
 
 use std::env::FillError;
 use std::fmt::InlineText;
@@ -12,36 +12,29 @@ use std::rt::Env;
 
 // Whether the program was started with an argument.
 pub fn has_argument(rt: HostRuntime) -> bool {
-    match rt.arg(1, &mut []) {
-        Ok(_) => true,
-        Err(FillError::TooLong) => true,
-        Err(FillError::NotPresent) => false,
-    }
+    !matches!(rt.arg(1, &mut []), Err(FillError::NotPresent))
 }
 
 // Reads once from standard input, and tells how many bytes came to the front of a buffer, 0 at the end of the input. A failure is told
-// on standard error behind some words, and the answer is -1 then.
-pub fn read(rt: HostRuntime, what: &str, bytes: &mut [u8]) -> isize
+// on standard error behind some words, and no number is told then.
+pub fn read(rt: HostRuntime, what: &str, bytes: &mut [u8]) -> Option<usize>
     ensures { Moved (length bytes.old) result }
 {
     match rt.stdin().read(bytes) {
-        Ok(n) => n as isize,
+        Ok(n) => Some(n),
         Err(error) => {
             fail(rt, what, error);
-            -1
+            None
         }
     }
 }
 
-// The answer of a reading as a number of a buffer's bytes: 0 where it is negative.
-pub fn count(got: isize, bytes: &[u8]) -> usize
-    ensures in_bounds { IsPrefixLen result bytes.now }
-    ensures value { result ≡ clamp_len got (length bytes.now) }
+// The lesser of a number and how many elements there are.
+pub fn within<T>(n: usize, items: &[T]) -> usize
+    ensures in_bounds { IsPrefixLen result items.now }
+    ensures value { result ≡ min n (length items.now) }
 {
-    if got <= 0 {
-        return 0;
-    }
-    least(got as usize, bytes.len())
+    n.min(items.len())
 }
 
 // Reads until a buffer is full, the input ends or a reading fails, and tells how many bytes stand at its front.
@@ -49,11 +42,11 @@ pub fn read_full(rt: HostRuntime, bytes: &mut [u8]) -> usize
     ensures { IsPrefixLen result bytes.new }
 {
     let mut done: usize = 0;
+    // Kept: where the next part begins is told by the reading before it, so that no iterator goes over the parts.
     while done < bytes.len() {
         match rt.stdin().read(&mut bytes[done..]) {
-            Ok(0) => return done,
+            Ok(0) | Err(_) => break,
             Ok(n) => done += n,
-            Err(_) => return done,
         }
     }
     done
@@ -83,11 +76,4 @@ fn without_number(said: &str) -> &str {
         Some((words, _)) => words,
         None => said,
     }
-}
-
-// The lesser of two numbers.
-fn least(a: usize, b: usize) -> usize
-    ensures { result ≡ min a b }
-{
-    if a < b { a } else { b }
 }
