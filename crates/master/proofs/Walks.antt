@@ -2,7 +2,7 @@
 use Prim.Native.Nat.{ℕ, suc, ◌+◌, ◌-◌, ◌≤◌, ◌<◌}
 use mathlib.Core.Path.{◌≡◌, refl}
 use mir.Val.{bool_byte}
-use mathlib.Core.Bool.{Bool, true, false, cond, ◌&&◌}
+use mathlib.Core.Bool.{Bool, true, false, cond, ◌&&◌, true≢false, false≢true}
 use mathlib.Core.List.{List, [], ◌∷◌}
 use native.Mathlib.Numerals.{add-one}
 use native.Mathlib.Omega.{arith}
@@ -10,27 +10,10 @@ use lib.Dec.{eqb}
 use lib.ListN.{get_or}
 use Rattle.transport.proofs.Tests.{whether}
 use Rattle.cluster.specs.Table.{member_count, member_list, member_frame}
-use Rattle.cluster.specs.Lists.{members_from, next_member}
-use Rattle.cluster.proofs.ListWalk.{left_from, left_next, left_none}
+use Rattle.cluster.specs.Lists.{members, members_from}
 use Rattle.master.specs.declared.state.Opened.TheVariants.{Nothing, Frame}
 use Rattle.master.specs.Tick.{first_pending}
 use Rattle.master.specs.Ahead.{pending_count}
-
--- the first pending frame of those left in a list
-module _ (t : List ℕ) (l : ℕ) (bits : List Bool) (m : ℕ) where
-  pub first_here : next_member t l m < member_count t → get_or bits (member_frame t (next_member t l m)) false ≡ true
-      → first_pending bits (left_from t l m) ≡ Frame (member_frame t (next_member t l m))
-  unfolding first_pending
-  first_here h p = rw (left_next t l m h, p)
-
-  pub first_later : next_member t l m < member_count t → get_or bits (member_frame t (next_member t l m)) false ≡ false
-      → first_pending bits (left_from t l m) ≡ first_pending bits (left_from t l (suc (next_member t l m)))
-  unfolding first_pending
-  first_later h p = rw (left_next t l m h, p)
-
-  pub first_none : member_count t ≤ next_member t l m → first_pending bits (left_from t l m) ≡ Nothing
-  unfolding first_pending
-  first_none h = rw (left_none t l m h)
 
 -- what a member adds to the count of its list
 module _ (t : List ℕ) (l m n : ℕ) (h : m < n) where
@@ -55,6 +38,23 @@ module _ (t : List ℕ) (l m n : ℕ) (h : m < n) where
       → k + c + pending_count bits rest ≡ pending_count bits (members_from t l 0 n)
   count_on bits k c e q = omega (arith, e, q, count_turn bits)
 
+  -- a pending member is the first pending frame of those from it on, and another one is passed over
+  pub pending_here : (bits : List Bool) → (eqb (member_list t m) l && get_or bits (member_frame t m) false) ≡ true
+      → first_pending bits (members_from t l m (n - m)) ≡ Frame (member_frame t m)
+  unfolding first_pending
+  pending_here bits e =
+      whether (eqb (member_list t m) l)
+      (λ a. whether (get_or bits (member_frame t m) false) (λ b. rw (turn, a, b)) (λ b. absurd (false≢true (rw (a, b) at e))))
+      (λ a. absurd (false≢true (rw a at e)))
+
+  pub pending_later : (bits : List Bool) → (eqb (member_list t m) l && get_or bits (member_frame t m) false) ≡ false
+      → first_pending bits (members_from t l m (n - m)) ≡ first_pending bits rest
+  unfolding first_pending
+  pending_later bits e =
+      whether (eqb (member_list t m) l)
+      (λ a. whether (get_or bits (member_frame t m) false) (λ b. absurd (true≢false (rw (a, b) at e))) (λ b. rw (turn, a, b)))
+      (λ a. rw (turn, a))
+
 -- behind the last member there is nothing
 pub members_end : (t : List ℕ) (l m n : ℕ) → n ≤ m → members_from t l m (n - m) ≡ []
 unfolding members_from
@@ -62,6 +62,16 @@ members_end t l m n h = let e : n - m ≡ 0 = omega arith in rw e
 
 pub members_start : (t : List ℕ) (l n : ℕ) → members_from t l 0 (n - 0) ≡ members_from t l 0 n
 members_start t l n = let e : n - 0 ≡ n = omega arith in rw e
+
+-- the members from the first on are those of the list
+pub members_all : (t : List ℕ) (l : ℕ) → members t l ≡ members_from t l 0 (member_count t)
+unfolding members
+members_all t l = refl
+
+-- and nothing is pending
+pub pending_end : (t : List ℕ) (l m n : ℕ) (bits : List Bool) → n ≤ m → first_pending bits (members_from t l m (n - m)) ≡ Nothing
+unfolding first_pending
+pending_end t l m n bits h = rw (members_end t l m n h)
 
 -- and nothing is left to count
 pub count_end : (t : List ℕ) (l m n : ℕ) (bits : List Bool) (k : ℕ) → n ≤ m

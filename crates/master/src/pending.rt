@@ -71,13 +71,10 @@ pub(crate) fn first_pending(t: &[u16], pending: [bool; Limits::FRAMES], l: u16) 
     ensures { result ≡ first_pending pending (members_of t.now l) }
 {
     let n = members::count(t);
-    let mut m = members::next(t, l, 0);
-    while m < n {
-        let f = members::frame(t, m);
-        if pending[f as usize] {
-            return Opened::Frame(f);
+    for m in 0..n {
+        if is_pending_member(t, pending, l, m) {
+            return Opened::Frame(members::frame(t, m));
         }
-        m = members::next(t, l, m + 1);
     }
     Opened::Nothing
 }

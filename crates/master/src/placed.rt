@@ -15,6 +15,7 @@ pub(crate) fn first(t: &[u16], s: u16) -> u16
 {
     let mut low: u16 = 0;
     let mut high = placements::count(t);
+    // Kept: the placements stand in the table's words and not in a slice of their own, so that no binary search of the library goes over them.
     while low < high {
         let middle = (low + high) / 2;
         if placements::signal(t, middle) < s {
