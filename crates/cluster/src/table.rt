@@ -153,8 +153,5 @@ pub(crate) fn follows(count: usize, number: usize) -> bool
     requires { number ≤ 65536 }
     ensures { result ≡ followsOf count number }
 {
-    if number == count {
-        return true;
-    }
-    number + 1 == count
+    number == count || number + 1 == count
 }
