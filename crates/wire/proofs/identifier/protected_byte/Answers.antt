@@ -1,16 +1,14 @@
--- `wire::identifier::protected_byte` meets its contract: antt computes both sides at each of the 64 identifiers.
+-- Antt computes both sides at each of the 64 identifiers.
 use Prim.Native.Nat.{ℕ, ◌+◌, ◌*◌, ◌/◌, ◌%◌, ◌-◌}
 use mathlib.Core.Path.{◌≡◌, refl}
 use mathlib.Core.Bool.{Bool, true, xor}
-use borrow.Author.Rules.{rules}
 use borrow.Author.Tests.{eqb-true}
 use lib.Bits.{bit_xor}
 use lib.Dec.{eqb}
 use Rattle.wire.specs.Bits.{bit}
 use Rattle.wire.specs.Identifier.{protected_byte, p0, p1}
 use Rattle.wire.proofs.Below.{all_below, below}
-use Rattle.wire.proofs.identifier.protected_byte.Statement.{statement}
-use Rattle.wire.proofs.identifier.protected_byte.Tie as tie
+use Rattle.wire.proofs.identifier.protected_byte.Goals as goal
 
 -- what the code computes
 computed : ℕ → ℕ
@@ -26,11 +24,6 @@ all_right : all_below 64 right ≡ true
 unfolding right computed protected_byte p0 p1 bit xor
 all_right = refl
 
-returns : tie.Need-returns
+pub returns : goal.returns
 unfolding right computed
 returns c = eqb-true _ _ (below 64 right all_right c.args.id c.requires)
-
-pub protected_byte_spec : {M : Type 1} → statement M
-protected_byte_spec =
-    tie.close (tie.spec (λ c. search rules) (λ c. search rules) (λ c. search rules) (λ c. search rules) (λ c. search rules)
-    returns)
