@@ -59,6 +59,7 @@ pub fn schedules(t: &[u16]) -> usize
 }
 
 // The first entry of a schedule; the number of entries where there is none.
+// Kept: a generic search would take the field as a closure and its promise through `F.post`, and its call is as long as this loop.
 pub fn first(t: &[u16], n: u16) -> u16
     ensures { result ≡ first_entry t.now n }
 {

@@ -43,6 +43,7 @@ pub fn lists(t: &[u16]) -> usize
 }
 
 // The first member of a list from member m on. Where there is none: the number of members, or m where that is more.
+// Kept: as `entries::first`.
 pub fn next(t: &[u16], l: u16, m: u16) -> u16
     ensures { result ≡ next_member t.now l m }
 {
@@ -68,6 +69,7 @@ pub fn has(t: &[u16], l: u16, f: u16) -> bool
 }
 
 // The member that a frame is; the number of members where it is in no list.
+// Kept: as `entries::first`.
 pub fn of_frame(t: &[u16], f: u16) -> u16
     ensures { result ≡ member_of t.now f }
 {

@@ -51,6 +51,7 @@ pub fn place(t: &[u16], k: u16) -> usize
 }
 
 // The first placement of a signal; where there is none, the number of placements.
+// Kept: as `entries::first`.
 pub fn first(t: &[u16], s: u16) -> u16
     ensures { result ≡ first_placement t.now s }
 {
@@ -183,6 +184,7 @@ fn signal_right(t: &[u16], placed: usize, s: usize) -> bool
 }
 
 // Whether a placement of a signal may be in a frame: it is there and, where the signal has placements, none of them is in it and it has their publisher.
+// Kept: one test a line, as document 01 lists them; as one expression the `||` of the first placement would stand inside an `&&` of four.
 fn frame_right(t: &[u16], last: &[u16], known: Before, s: usize, f: usize) -> bool
     requires records_before { RecordsBefore t.now × PlacedBefore t.now last.now known × (length last.now ≡ most_frames) }
     requires s_bound { (s ≤ 65536) × (follows known.placed s ≡ true) }
