@@ -37,6 +37,7 @@ fn rows(t: &[u16], number: u64, text: &[u8], out: &mut [u8]) -> Written
     let mut lines: usize = 0;
     let mut used: usize = 0;
     let mut put: usize = 0;
+    // Kept: the room that the rows leave ends the loop, and not a place of the text; a `for` over the lines would need a break at that test.
     while 33 <= out.len() - put {
         let end = scan::find(text, used, text.len(), b'\n');
         if end == text.len() {
@@ -75,9 +76,5 @@ pub fn keep(text: &mut [u8], from: usize) -> usize
 fn kept_length(length: usize, from: usize) -> usize
     ensures { result ≡ min kept_length (length - from) }
 {
-    if length <= from {
-        return 0;
-    }
-    let rest = length - from;
-    if rest < 30 { rest } else { 30 }
+    length.saturating_sub(from).min(30)
 }

@@ -52,15 +52,14 @@ pub fn schedules(t: &[u16]) -> usize
     ensures value { result ≡ schedule_count t.now }
     ensures upper_bound { result ≤ 65536 }
 {
-    let n = count(t);
-    if n == 0 {
-        0
-    } else {
-        schedule(t, n - 1) as usize + 1
+    match count(t) {
+        0 => 0,
+        n => schedule(t, n - 1) as usize + 1,
     }
 }
 
 // The first entry of a schedule; the number of entries where there is none.
+// Kept: a generic search would take the field as a closure and its promise through `F.post`, and its call is as long as this loop.
 pub fn first(t: &[u16], n: u16) -> u16
     ensures { result ≡ first_entry t.now n }
 {
@@ -78,12 +77,8 @@ pub fn next(t: &[u16], e: u16) -> u16
     ensures { result ≡ next_entry t.now e }
 {
     let n = schedule(t, e);
-    if e < count(t) {
-        if e + 1 < count(t) {
-            if schedule(t, e + 1) == n {
-                return e + 1;
-            }
-        }
+    if e < count(t) && e + 1 < count(t) && schedule(t, e + 1) == n {
+        return e + 1;
     }
     first(t, n)
 }
@@ -175,11 +170,9 @@ fn right_words(frames: usize, lists: usize, schedules: usize, words: Words) -> u
 fn target_right(frames: usize, lists: usize, kind: usize, target: usize) -> bool
     ensures { result ≡ target_right frames lists kind target }
 {
-    if kind == 0 {
-        return target < frames;
+    match kind {
+        0 => target < frames,
+        1 => target < lists,
+        _ => target == 0,
     }
-    if kind == 1 {
-        return target < lists;
-    }
-    target == 0
 }

@@ -145,16 +145,10 @@ fn right_words(used: &[bool], words: Words) -> usize
     ensures { result ≡ leading (frame_seen used.now words) }
 {
     let id = words.identifier;
-    if Limits::IDENTIFIERS <= id {
+    if Limits::IDENTIFIERS <= id || used[id] {
         return 0;
     }
-    if used[id] {
-        return 0;
-    }
-    if words.bytes < 1 {
-        return 1;
-    }
-    if 8 < words.bytes {
+    if words.bytes < 1 || 8 < words.bytes {
         return 1;
     }
     if words.flags <= 3 { 3 } else { 2 }

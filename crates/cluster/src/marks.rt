@@ -26,5 +26,5 @@ fn ones(width: usize) -> u64
     requires { (1 ≤ width) × (width ≤ 64) }
     ensures { result ≡ 2 ^ width - 1 }
 {
-    18446744073709551615 >> ((64 - width) as u32)
+    u64::MAX >> ((64 - width) as u32)
 }

@@ -36,15 +36,14 @@ pub fn lists(t: &[u16]) -> usize
     ensures value { result ≡ list_count t.now }
     ensures upper_bound { result ≤ 65536 }
 {
-    let n = count(t);
-    if n == 0 {
-        0
-    } else {
-        list(t, n - 1) as usize + 1
+    match count(t) {
+        0 => 0,
+        n => list(t, n - 1) as usize + 1,
     }
 }
 
 // The first member of a list from member m on. Where there is none: the number of members, or m where that is more.
+// Kept: as `entries::first`.
 pub fn next(t: &[u16], l: u16, m: u16) -> u16
     ensures { result ≡ next_member t.now l m }
 {
@@ -61,18 +60,16 @@ pub fn next(t: &[u16], l: u16, m: u16) -> u16
 pub fn has(t: &[u16], l: u16, f: u16) -> bool
     ensures { result ≡ is_one_of f (members t.now l) }
 {
-    let n = count(t);
-    let mut m = next(t, l, 0);
-    while m < n {
-        if frame(t, m) == f {
+    for m in 0..count(t) {
+        if list(t, m) == l && frame(t, m) == f {
             return true;
         }
-        m = next(t, l, m + 1);
     }
     false
 }
 
 // The member that a frame is; the number of members where it is in no list.
+// Kept: as `entries::first`.
 pub fn of_frame(t: &[u16], f: u16) -> u16
     ensures { result ≡ member_of t.now f }
 {
@@ -151,12 +148,8 @@ fn right_words(t: &[u16], listed: &[bool], lists: usize, words: Words) -> usize
     if !follows(lists, words.list) {
         return 0;
     }
-    if frames::count(t) as usize <= f {
+    if frames::count(t) as usize <= f || listed[f] || !frames::room_of(t, f).published {
         return 1;
     }
-    if listed[f] {
-        return 1;
-    }
-    let room = frames::room_of(t, f);
-    if room.published { 2 } else { 1 }
+    2
 }

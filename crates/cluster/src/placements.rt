@@ -51,6 +51,7 @@ pub fn place(t: &[u16], k: u16) -> usize
 }
 
 // The first placement of a signal; where there is none, the number of placements.
+// Kept: as `entries::first`.
 pub fn first(t: &[u16], s: u16) -> u16
     ensures { result ≡ first_placement t.now s }
 {
@@ -67,11 +68,9 @@ pub fn first(t: &[u16], s: u16) -> u16
 pub(crate) fn placed(t: &[u16]) -> usize
     ensures { result ≡ placed_signals t.now }
 {
-    let n = count(t);
-    if n == 0 {
-        0
-    } else {
-        signal(t, n - 1) as usize + 1
+    match count(t) {
+        0 => 0,
+        n => signal(t, n - 1) as usize + 1,
     }
 }
 
@@ -178,12 +177,14 @@ fn signal_right(t: &[u16], placed: usize, s: usize) -> bool
     ensures { result ≡ placement_signal_right (signal_count t.now) (follows placed s) s }
 {
     if s == placed {
-        return s < signals::count(t) as usize;
+        s < (signals::count(t) as usize)
+    } else {
+        s + 1 == placed
     }
-    s + 1 == placed
 }
 
 // Whether a placement of a signal may be in a frame: it is there and, where the signal has placements, none of them is in it and it has their publisher.
+// Kept: one test a line, as document 01 lists them; as one expression the `||` of the first placement would stand inside an `&&` of four.
 fn frame_right(t: &[u16], last: &[u16], known: Before, s: usize, f: usize) -> bool
     requires records_before { RecordsBefore t.now × PlacedBefore t.now last.now known × (length last.now ≡ most_frames) }
     requires s_bound { (s ≤ 65536) × (follows known.placed s ≡ true) }
@@ -211,15 +212,12 @@ fn offset_free(shape: Shape, room: Room, occupied: u64, offset: usize) -> bool
     if room.bits < offset + shape.width {
         return false;
     }
-    if !on_border(shape.array, offset) {
-        return false;
-    }
-    are_free(occupied, offset, shape.width)
+    on_border(shape.array, offset) && are_free(occupied, offset, shape.width)
 }
 
 // Whether an offset is at a byte border, where it is that of an array.
 fn on_border(array: bool, offset: usize) -> bool
     ensures { result ≡ cond array (eqb (offset % 8) 0) true }
 {
-    if array { offset % 8 == 0 } else { true }
+    !array || offset % 8 == 0
 }

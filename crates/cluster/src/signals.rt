@@ -51,8 +51,7 @@ pub fn array_length(t: &[u16], s: u16) -> usize
     ensures value { result ≡ array_length t.now s }
     ensures upper_bound { result ≤ 8 }
 {
-    let bytes = (width(t, s) / 8) as usize;
-    if bytes < 8 { bytes } else { 8 }
+    ((width(t, s) / 8) as usize).min(8)
 }
 
 // What a signal says of its placements: whether it is an array, and how many bits it has.
@@ -151,25 +150,17 @@ fn width_right(array: bool, width: usize) -> bool
     ensures { result ≡ width_right array width }
 {
     if array {
-        return whole_bytes(width);
+        whole_bytes(width)
+    } else {
+        1 <= width && width <= 16
     }
-    if width < 1 {
-        return false;
-    }
-    width <= 16
 }
 
 // Whether a width is that of 1 to 8 whole bytes.
 fn whole_bytes(width: usize) -> bool
     ensures { result ≡ width_right true width }
 {
-    if width < 8 {
-        return false;
-    }
-    if 64 < width {
-        return false;
-    }
-    width % 8 == 0
+    8 <= width && width <= 64 && width % 8 == 0
 }
 
 // The first number that is too large for a start value.

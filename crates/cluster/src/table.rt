@@ -9,6 +9,7 @@ use crate::{Limits, fault};
 use refusal::Refusal;
 
 // The word at a position, and 0 where there is none.
+// Kept: `t.get(i).copied().unwrap_or(0)` is no plainer.
 pub(crate) fn word(t: &[u16], i: usize) -> u16
     ensures { result ≡ word_of t.now i }
 {
@@ -153,8 +154,5 @@ pub(crate) fn follows(count: usize, number: usize) -> bool
     requires { number ≤ 65536 }
     ensures { result ≡ followsOf count number }
 {
-    if number == count {
-        return true;
-    }
-    number + 1 == count
+    number == count || number + 1 == count
 }

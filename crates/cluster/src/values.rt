@@ -5,6 +5,7 @@ ghost use Rattle.cluster.specs.Values.{value_fits, array_fits, scalar_at, with_s
 use crate::{placements, signals};
 
 // A byte array as it is handed out: eight bytes, the unused ones 255, and how many are used.
+// Kept: fixed memory; a Vec needs the heap, and a slice would have to lie in a buffer of the caller's.
 #[derive(Clone, Copy)]
 pub struct Array {
     pub bytes: [u8; 8],
@@ -16,10 +17,7 @@ pub fn scalar_fits(t: &[u16], s: u16, v: u32) -> bool
     ensures { result ≡ value_fits t.now s v }
 {
     let width = signals::width(t, s);
-    if 31 < width {
-        return true;
-    }
-    v < 1 << (width as u32)
+    31 < width || v < 1 << (width as u32)
 }
 
 // Whether an array has as many bytes as are handed over for it.

@@ -19,23 +19,15 @@ use Rattle.transport.specs.declared.reassembly.Reassembly.{Reassembly}
 abbrev pub bit : Bool → ℕ
 bit b = cond b 1 0
 
-abbrev pub entry_number : Option ℕ → ℕ
-entry_number None = 65536
-entry_number (Some e) = e
-
-abbrev pub schedule_number : Option ℕ → ℕ
-schedule_number None = 65536
-schedule_number (Some n) = n
+abbrev pub number : Option ℕ → ℕ
+number None = 65536
+number (Some n) = n
 
 abbrev pub open_number : Opened → ℕ
 open_number opened.Nothing = 65536
 open_number (opened.Frame f) = f
 open_number opened.Request = 65537
 open_number opened.Response = 65538
-
-abbrev pub reception_number : Option ℕ → ℕ
-reception_number None = 65536
-reception_number (Some k) = k
 
 -- ---- the master's state, part by part
 
@@ -48,7 +40,7 @@ unfoldable pub with_pending : List Bool → List ℕ → List ℕ
 with_pending pending d = with_each (λ i. bit (get_or pending i false)) 0 60 d
 
 abbrev pub with_plan : Plan → List ℕ → List ℕ
-with_plan p d = set (set (set d 60 p.wait) 61 (entry_number p.current)) 62 (schedule_number p.requested)
+with_plan p d = set (set (set d 60 p.wait) 61 (number p.current)) 62 (number p.requested)
 
 unfoldable pub with_nine : List ℕ → List ℕ → List ℕ
 with_nine bytes d = with_each (λ i. get_or bytes i 0) 65 9 d
@@ -70,7 +62,7 @@ abbrev pub with_status : Status → List ℕ → List ℕ
 with_status s d = set (set (set (set d 79 (bit s.error)) 80 (bit s.success)) 81 (bit s.overrun)) 82 s.last
 
 unfoldable pub with_received : List Reception → List ℕ → List ℕ
-with_received rs d = with_each (λ i. reception_number (get_or rs i never_received).last) 128 256 d
+with_received rs d = with_each (λ i. number (get_or rs i never_received).last) 128 256 d
 
 unfoldable pub with_state : State → List ℕ → List ℕ
 with_state s d =

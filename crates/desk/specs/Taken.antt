@@ -9,7 +9,6 @@ use Rattle.master.specs.declared.state.Message.{Message}
 use Rattle.master.specs.declared.state.Message.TheVariants as message
 use Rattle.master.specs.declared.state.Status.{Status}
 use Rattle.master.specs.declared.state.Reception.{Reception}
-use Rattle.master.specs.Fresh.{never_received}
 use Rattle.transport.specs.declared.reassembly.Reassembly.{Reassembly}
 
 -- the number at a place, its low 16 bits, its low 8 bits, and whether it is 1
@@ -35,15 +34,12 @@ each f (suc n) = each f n ++ (f n ∷ [])
 unfoldable pub pending_on : List ℕ → List Bool
 pending_on d = each (is_set d) 60
 
--- an entry, a schedule: 65,536 stands for none
-unfoldable pub current_of : ℕ → Option ℕ
-current_of n = cond (eqb n 65536) None (Some (n % 65536))
-
-unfoldable pub requested_of : ℕ → Option ℕ
-requested_of n = cond (eqb n 65536) None (Some (n % 65536))
+-- an entry, a schedule, a placement: 65,536 stands for none
+unfoldable pub chosen_of : ℕ → Option ℕ
+chosen_of n = cond (eqb n 65536) None (Some (n % 65536))
 
 abbrev pub plan_on : List ℕ → Plan
-plan_on d = record { wait = word_at d 60; current = current_of (at d 61); requested = requested_of (at d 62) }
+plan_on d = record { wait = word_at d 60; current = chosen_of (at d 61); requested = chosen_of (at d 62) }
 
 -- what is open: a frame by its number, 65,536 for nothing, 65,537 for the request, 65,538 for the response
 unfoldable pub opened_of : ℕ → Opened
@@ -65,9 +61,9 @@ message_on d =
 abbrev pub status_on : List ℕ → Status
 status_on d = record { error = is_set d 79; success = is_set d 80; overrun = is_set d 81; last = byte_at d 82 }
 
--- a placement received last: 65,536 stands for never
-unfoldable pub reception_of : ℕ → Reception
-reception_of n = cond (eqb n 65536) never_received (record { last = Some (n % 65536) })
+-- a placement received last
+abbrev pub reception_of : ℕ → Reception
+reception_of n = record { last = chosen_of n }
 
 unfoldable pub received_on : List ℕ → List Reception
 received_on d = each (λ i. reception_of (at d (128 + i))) 256

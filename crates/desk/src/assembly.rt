@@ -10,17 +10,16 @@ use transport::reassembly::{Assembly, Reassembly};
 pub fn take(desk: &Desk) -> Reassembly
     ensures { result ≡ reassembly_on desk.now }
 {
-    if desk[ASSEMBLY] == 0 {
-        return Reassembly { message: None };
-    }
-    Reassembly {
-        message: Some(Assembly {
+    let message = match desk[ASSEMBLY] {
+        0 => None,
+        _ => Some(Assembly {
             nad: byte(desk[ASSEMBLY + 1]),
             length: word(desk[ASSEMBLY + 2]),
             count: word(desk[ASSEMBLY + 3]),
             counter: byte(desk[ASSEMBLY + 4]),
         }),
-    }
+    };
+    Reassembly { message }
 }
 
 // Puts a state.
@@ -38,8 +37,8 @@ fn put_open(desk: &mut Desk, assembly: Assembly)
     ensures { desk.new ≡ with_assembly assembly desk.old }
 {
     desk[ASSEMBLY] = 1;
-    desk[ASSEMBLY + 1] = assembly.nad as u32;
-    desk[ASSEMBLY + 2] = assembly.length as u32;
-    desk[ASSEMBLY + 3] = assembly.count as u32;
-    desk[ASSEMBLY + 4] = assembly.counter as u32;
+    desk[ASSEMBLY + 1] = u32::from(assembly.nad);
+    desk[ASSEMBLY + 2] = u32::from(assembly.length);
+    desk[ASSEMBLY + 3] = u32::from(assembly.count);
+    desk[ASSEMBLY + 4] = u32::from(assembly.counter);
 }

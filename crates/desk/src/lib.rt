@@ -94,6 +94,7 @@ pub const COMPLETED: u32 = 2;
 pub const FAILED: u32 = 3;
 
 // A number of 16 bits.
+// Kept: `n as u16` has to lose nothing, and `try_from` would need an answer for the rest.
 pub fn word(n: u32) -> u16
     ensures { result ≡ n % 65536 }
 {
@@ -101,6 +102,7 @@ pub fn word(n: u32) -> u16
 }
 
 // A number of 8 bits.
+// Kept: as `word`.
 pub fn byte(n: u32) -> u8
     ensures { result ≡ n % 256 }
 {
@@ -108,6 +110,7 @@ pub fn byte(n: u32) -> u8
 }
 
 // A number as a size.
+// Kept: there is no `From<u32>` for usize, and bench names this public function.
 pub fn size(n: u32) -> usize
     ensures { result ≡ n }
 {

@@ -1,8 +1,8 @@
 // The master's state on the desk.
 ghost use Rattle.std.specs.Prelude.{◌≡◌};
-ghost use Rattle.desk.specs.Taken.{pending_on, current_of, requested_of, plan_on, opened_of, nine_on, transfer_on, message_on, status_on};
-ghost use Rattle.desk.specs.Taken.{reception_of, received_on, state_on};
-ghost use Rattle.desk.specs.Put.{bit, entry_number, schedule_number, open_number, reception_number};
+ghost use Rattle.desk.specs.Taken.{pending_on, chosen_of, plan_on, opened_of, nine_on, transfer_on, message_on, status_on};
+ghost use Rattle.desk.specs.Taken.{received_on, state_on};
+ghost use Rattle.desk.specs.Put.{number, open_number};
 ghost use Rattle.desk.specs.Put.{with_pending, with_plan, with_nine, with_transfer, with_sending, with_message, with_status, with_received, with_state};
 
 use crate::{
@@ -43,21 +43,14 @@ fn plan(desk: &Desk) -> Plan
 {
     Plan {
         wait: word(desk[WAIT]),
-        current: current(desk[ENTRY]),
-        requested: requested(desk[REQUEST]),
+        current: chosen(desk[ENTRY]),
+        requested: chosen(desk[REQUEST]),
     }
 }
 
-// The current entry.
-fn current(n: u32) -> Option<u16>
-    ensures { result ≡ current_of n }
-{
-    if n == NONE { None } else { Some(word(n)) }
-}
-
-// The requested schedule.
-fn requested(n: u32) -> Option<u16>
-    ensures { result ≡ requested_of n }
+// An entry, a schedule or a placement, if there is one.
+fn chosen(n: u32) -> Option<u16>
+    ensures { result ≡ chosen_of n }
 {
     if n == NONE { None } else { Some(word(n)) }
 }
@@ -78,16 +71,12 @@ fn transfer(desk: &Desk) -> Transfer
 fn opened(n: u32) -> Opened
     ensures { result ≡ opened_of n }
 {
-    if n == NONE {
-        return Opened::Nothing;
+    match n {
+        NONE => Opened::Nothing,
+        OPEN_REQUEST => Opened::Request,
+        OPEN_RESPONSE => Opened::Response,
+        _ => Opened::Frame(word(n)),
     }
-    if n == OPEN_REQUEST {
-        return Opened::Request;
-    }
-    if n == OPEN_RESPONSE {
-        return Opened::Response;
-    }
-    Opened::Frame(word(n))
 }
 
 // The nine bytes of the transfer.
@@ -105,21 +94,16 @@ fn nine(desk: &Desk) -> [u8; 9]
 fn message(desk: &Desk) -> Message
     ensures { result ≡ message_on desk.now }
 {
-    let kind = desk[MESSAGE];
-    if kind == SENDING {
-        return Message::Sending(Sending {
+    match desk[MESSAGE] {
+        SENDING => Message::Sending(Sending {
             nad: byte(desk[NAD]),
             length: word(desk[LENGTH]),
             next: word(desk[NEXT]),
-        });
+        }),
+        COMPLETED => Message::Completed,
+        FAILED => Message::Failed,
+        _ => Message::None,
     }
-    if kind == COMPLETED {
-        return Message::Completed;
-    }
-    if kind == FAILED {
-        return Message::Failed;
-    }
-    Message::None
 }
 
 // The status in its parts.
@@ -140,22 +124,11 @@ fn received(desk: &Desk) -> [Reception; SIGNALS]
 {
     let mut received = [Reception::never(); SIGNALS];
     for s in 0..SIGNALS {
-        received[s] = reception(desk[RECEIVED + s]);
+        received[s] = Reception {
+            last: chosen(desk[RECEIVED + s]),
+        };
     }
     received
-}
-
-// The placement of a signal that was received last.
-fn reception(n: u32) -> Reception
-    ensures { result ≡ reception_of n }
-{
-    if n == NONE {
-        Reception::never()
-    } else {
-        Reception {
-            last: Some(word(n)),
-        }
-    }
 }
 
 // Puts a state.
@@ -175,7 +148,7 @@ fn put_pending(desk: &mut Desk, pending: &[bool; FRAMES])
     ensures { desk.new ≡ with_pending pending.now desk.old }
 {
     for f in 0..FRAMES {
-        desk[f] = bit(pending[f]);
+        desk[f] = u32::from(pending[f]);
     }
 }
 
@@ -183,29 +156,16 @@ fn put_pending(desk: &mut Desk, pending: &[bool; FRAMES])
 fn put_plan(desk: &mut Desk, plan: Plan)
     ensures { desk.new ≡ with_plan plan desk.old }
 {
-    desk[WAIT] = plan.wait as u32;
-    desk[ENTRY] = entry_number(plan.current);
-    desk[REQUEST] = schedule_number(plan.requested);
+    desk[WAIT] = u32::from(plan.wait);
+    desk[ENTRY] = number(plan.current);
+    desk[REQUEST] = number(plan.requested);
 }
 
-// An entry as a number.
-fn entry_number(current: Option<u16>) -> u32
-    ensures { result ≡ entry_number current }
+// An entry, a schedule or a placement as a number.
+fn number(chosen: Option<u16>) -> u32
+    ensures { result ≡ number chosen }
 {
-    match current {
-        None => NONE,
-        Some(e) => e as u32,
-    }
-}
-
-// A schedule as a number.
-fn schedule_number(requested: Option<u16>) -> u32
-    ensures { result ≡ schedule_number requested }
-{
-    match requested {
-        None => NONE,
-        Some(n) => n as u32,
-    }
+    chosen.map_or(NONE, u32::from)
 }
 
 // Puts the transfer record.
@@ -213,8 +173,8 @@ fn put_transfer(desk: &mut Desk, transfer: Transfer)
     ensures { desk.new ≡ with_transfer transfer desk.old }
 {
     desk[OPEN] = open_number(transfer.opened);
-    desk[COUNT] = transfer.count as u32;
-    desk[WRITTEN] = bit(transfer.written);
+    desk[COUNT] = u32::from(transfer.count);
+    desk[WRITTEN] = u32::from(transfer.written);
     put_nine(desk, &transfer.bytes);
 }
 
@@ -224,7 +184,7 @@ fn open_number(opened: Opened) -> u32
 {
     match opened {
         Opened::Nothing => NONE,
-        Opened::Frame(f) => f as u32,
+        Opened::Frame(f) => u32::from(f),
         Opened::Request => OPEN_REQUEST,
         Opened::Response => OPEN_RESPONSE,
     }
@@ -235,7 +195,7 @@ fn put_nine(desk: &mut Desk, bytes: &[u8; 9])
     ensures { desk.new ≡ with_nine bytes.now desk.old }
 {
     for i in 0..9 {
-        desk[BYTES + i] = wide(bytes[i]);
+        desk[BYTES + i] = u32::from(bytes[i]);
     }
 }
 
@@ -256,19 +216,19 @@ fn put_sending(desk: &mut Desk, sending: Sending)
     ensures { desk.new ≡ with_sending sending desk.old }
 {
     desk[MESSAGE] = SENDING;
-    desk[NAD] = sending.nad as u32;
-    desk[LENGTH] = sending.length as u32;
-    desk[NEXT] = sending.next as u32;
+    desk[NAD] = u32::from(sending.nad);
+    desk[LENGTH] = u32::from(sending.length);
+    desk[NEXT] = u32::from(sending.next);
 }
 
 // Puts the status.
 fn put_status(desk: &mut Desk, status: Status)
     ensures { desk.new ≡ with_status status desk.old }
 {
-    desk[ERROR] = bit(status.error);
-    desk[SUCCESS] = bit(status.success);
-    desk[OVERRUN] = bit(status.overrun);
-    desk[LAST] = status.last as u32;
+    desk[ERROR] = u32::from(status.error);
+    desk[SUCCESS] = u32::from(status.success);
+    desk[OVERRUN] = u32::from(status.overrun);
+    desk[LAST] = u32::from(status.last);
 }
 
 // Puts the placements received last.
@@ -276,30 +236,6 @@ fn put_received(desk: &mut Desk, received: &[Reception; SIGNALS])
     ensures { desk.new ≡ with_received received.now desk.old }
 {
     for s in 0..SIGNALS {
-        desk[RECEIVED + s] = reception_number(received[s]);
+        desk[RECEIVED + s] = number(received[s].last);
     }
-}
-
-// A placement received last as a number.
-fn reception_number(reception: Reception) -> u32
-    ensures { result ≡ reception_number reception.last }
-{
-    match reception.last {
-        None => NONE,
-        Some(k) => k as u32,
-    }
-}
-
-// A byte as a number.
-fn wide(b: u8) -> u32
-    ensures { result ≡ b }
-{
-    b as u32
-}
-
-// A bit as a number.
-fn bit(b: bool) -> u32
-    ensures { result ≡ bit b }
-{
-    if b { 1 } else { 0 }
 }

@@ -58,13 +58,11 @@ impl Refusal {
     pub fn tells_place(self, row: bool) -> bool
         ensures { result ≡ tells_place row self.number }
     {
-        if self.number == Refusal::TABLE {
-            return true;
+        match self.number {
+            Refusal::TABLE => true,
+            Refusal::UNKNOWN..=Refusal::VALUE => row,
+            _ => false,
         }
-        if self.number < Refusal::UNKNOWN {
-            return false;
-        }
-        row && self.number <= Refusal::VALUE
     }
 
     // All numbers, in the order of the papers.

@@ -82,15 +82,12 @@ fn entry_bytes(t: &[u16], e: u16, longest: &[u16; Limits::MEMBERS]) -> u16
     requires { RightTable t.now × (e < entry_count t.now) × Longest t.now longest.now }
     ensures { result ≡ entry_bytes t.now e }
 {
-    let kind = entries::kind(t, e);
     let target = entries::target(t, e);
-    if kind == 0 {
-        return frames::length(t, target);
+    match entries::kind(t, e) {
+        0 => frames::length(t, target),
+        1 => longest[target as usize],
+        _ => 8,
     }
-    if kind == 1 {
-        return longest[target as usize];
-    }
-    8
 }
 
 // Whether a slot of some ticks holds a frame of some data bytes.

@@ -1,6 +1,7 @@
 -- So many bits were put.
 use mathlib.Core.Bool.{false}
 use native.Mathlib.Omega.{arith}
+use borrow.Author.Rules.{rules}
 use lib.ListN.{get_or}
 use Rattle.desk.specs.Put.{bit, with_pending}
 use Rattle.desk.proofs.Filling.{put_none, put_next_first, put_all}
@@ -12,7 +13,7 @@ loop-f-init c = put_none _ _ _
 
 pub loop-f-preserved : goal.loop-f-preserved
 unfolding with_pending
-loop-f-preserved c = put_next_first (λ k. bit (get_or c.args.pending.now k false)) c.args.desk.now _ _ _ c.loop-f.invariant c.bit.ensures
+loop-f-preserved c = put_next_first (λ k. bit (get_or c.args.pending.now k false)) c.args.desk.now _ _ _ c.loop-f.invariant (search rules)
 
 pub returns : goal.returns
 unfolding with_pending

@@ -12,7 +12,7 @@ loop-s-init c = (search rules, taken_none _)
 
 pub loop-s-preserved : goal.loop-s-preserved
 loop-s-preserved c = let loop = c.loop-s in
-    (simp length-set loop.invariant.0, taken_next (on c.args.desk.now) _ _ _ (omega arith) loop.invariant.1 c.reception.ensures)
+    (simp length-set loop.invariant.0, taken_next (on c.args.desk.now) _ _ _ (omega arith) loop.invariant.1 (search rules))
 
 pub returns : goal.returns
 unfolding received_on
