@@ -1,3 +1,4 @@
+-- Kept: as answers `loop-out-preserved` stayed open at the number of the line, which `one_more` takes as `_`.
 -- `report::rows` meets its contract. The invariant: some lines are reported, and what is left is the rest of the text and of the room.
 use Rattle.std.proofs.Common.{◌-◌, length, refl, arith, rules}
 use Rattle.buslog.proofs.Fronting.{behind_within}

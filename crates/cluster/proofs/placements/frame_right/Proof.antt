@@ -1,3 +1,4 @@
+-- Kept: as answers the walk's own definitions did not close: `Goals` names no record of the place whose facts they take.
 -- `cluster::placements::frame_right` meets its contract: a signal without placements before has none in the frame, and is of no other publisher.
 use Prim.Native.Nat.{◌+◌, ◌<◌}
 use mathlib.Core.Bool.{beq}

@@ -1,3 +1,4 @@
+-- Kept: as answers the walk's own definitions did not close: `Goals` names no record of the place whose facts they take.
 -- `cluster::placements::right_words` meets its contract: each way out has the tests that led there.
 use Prim.Native.Nat.{◌+◌, ◌*◌, ◌<◌}
 use mathlib.Core.Bool.{Bool, true}

@@ -1,3 +1,4 @@
+-- Kept: as answers the walk's own definitions did not close: `Goals` names no record of the place whose facts they take.
 -- `cluster::table::judge` meets its contract: the words read are the fields.
 use native.Mathlib.Omega.{arith}
 use mathlib.Core.Path.{◌≡◌, sym, ◌∙◌, ap}
