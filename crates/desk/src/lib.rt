@@ -59,14 +59,7 @@ pub const MESSAGE_USED: usize = 90;
 
 pub const ROOM_USED: usize = 91;
 
-// The characters of the answers that are not written out yet, and whether a writing failed.
-pub const PRINTED: usize = 92;
-
-pub const WRITE_FAILED: usize = 93;
-
-// The line at hand: which form it has, where its list begins, and its numbers and bytes.
-pub const FORM: usize = 96;
-
+// The line at hand: where its list begins, and its numbers and bytes.
 pub const LIST: usize = 97;
 
 pub const NUMBERS: usize = 98;
@@ -79,6 +72,7 @@ pub const SIGNALS: usize = 256;
 
 pub const RECEIVED: usize = 128;
 
+// Kept: the desk is an array of numbers, so that a case has its number there.
 // In the place of an entry, a schedule or a placement: none; in that of a frame: nothing is open, or a transfer that is of no frame.
 pub const NONE: u32 = 65536;
 

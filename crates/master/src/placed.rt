@@ -37,6 +37,7 @@ pub(crate) fn published(t: &[u16], s: u16) -> bool
 }
 
 // Writes a scalar into each of its placements.
+// Kept: the four loops over a signal's placements; one function over a closure would promise what it did through `F.post`, and is no shorter.
 pub(crate) fn put_scalar(t: &[u16], bytes: &mut [u8], s: u16, v: u16)
     requires { RightTable t.now }
     ensures { bytes.new ≡ with_scalar t.now bytes.old s v }

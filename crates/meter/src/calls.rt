@@ -27,6 +27,7 @@ fn write_six(state: &mut State, t: &[u16], bytes: &mut [u8]) {
 }
 
 // The call of a letter, and its answer as a number.
+// Kept: a match on the letter; a table of closures would lend the state and the bytes in each.
 fn call(state: &mut State, t: &[u16], bytes: &mut [u8], letter: u8, row: &Row) -> u64 {
     match letter {
         b'T' => tick_code(state.tick(t, bytes, &[])),

@@ -76,6 +76,7 @@ impl Numbers {
 pub fn read(line: &[u8], forms: &[u8]) -> Line
     ensures { result ≡ line_of forms.now line.now }
 {
+    // Kept: of a line that has no form the number of forms is told, which an `enumerate` has no longer behind the loop.
     let mut k: usize = 0;
     for form in forms.split(|c| *c == b'|') {
         if let Some(read) = read_as(line, form) {
