@@ -22,9 +22,14 @@ impl Bench {
         let value = self.desk[NUMBERS + 1];
         let mut state = state::take(&self.desk);
         let reply = match call {
-            Call::Tick => Reply::tick(state.tick(t, frames, lent)),
+            Call::Tick => {
+                let (next, answer) = state.tick(t, frames, lent);
+                state = next;
+                Reply::tick(answer)
+            }
             Call::Byte => {
-                let answer = state.byte_in(t, frames, byte(n));
+                let (next, answer) = state.byte_in(t, frames, byte(n));
+                state = next;
                 if let Ok(ByteAnswer::Response(bytes)) = answer {
                     put_answer(&mut self.desk, &bytes);
                 }

@@ -24,10 +24,20 @@ pub enum ByteAnswer {
 }
 
 impl State {
-    // One byte of the open transfer.
-    pub fn byte_in(&mut self, t: &[u16], bytes: &mut [u8], b: u8) -> Result<ByteAnswer, Refusal>
+    // One byte of the open transfer. The state is handed back, as it was where the byte is refused.
+    pub fn byte_in(self, t: &[u16], bytes: &mut [u8], b: u8) -> (State, Result<ByteAnswer, Refusal>)
+        ensures leaves { Leaves (byte_of t.now self bytes.old b) (handed result.0 result.1) bytes.new }
+        ensures told { byte_told result.1 ≡ call_told t.now (held self bytes.old) (call.byte_in b) }
+    {
+        let mut next = self;
+        let answer = next.taken(t, bytes, b);
+        (next, answer)
+    }
+
+    // The byte on the state in place.
+    fn taken(&mut self, t: &[u16], bytes: &mut [u8], b: u8) -> Result<ByteAnswer, Refusal>
         ensures leaves { Leaves (byte_of t.now self.old bytes.old b) (handed self.new result) bytes.new }
-        ensures told { byte_told result ≡ call_told t.now (held self.old bytes.old) (call.byte_in b) }
+        ensures tells { byte_told result ≡ call_told t.now (held self.old bytes.old) (call.byte_in b) }
     {
         self.judge_byte(t, bytes.len())?;
         if self.transfer.opened.sends(t) {

@@ -1,6 +1,6 @@
 // The LIN master above the UART: its state, and every call on it (document 01, "Calls and steps", "Status", and the sending half of
 // "Diagnostic messages"). Every call accepts every table, state, buffer and number; a refused one changes nothing. The calls are
-// methods of `state::State`, one module each; the state is handed back by value beside the answer. What holds of every history of
+// methods of `state::State`, one module each; a tick and a byte hand the state back, the others change it in place. What holds of every history of
 // calls is the record `Claim` of specs/Claim.antt, proved as `demand_3` in proofs/History/Claimed.antt.
 #![tactic(auto)]
 

@@ -27,10 +27,20 @@ pub enum TickAnswer {
 }
 
 impl State {
-    // One tick: the wait falls, or a slot starts.
-    pub fn tick(&mut self, t: &[u16], bytes: &[u8], lent: &[u8]) -> Result<TickAnswer, Refusal>
+    // One tick: the wait falls, or a slot starts. The state is handed back, as it was where the tick is refused.
+    pub fn tick(self, t: &[u16], bytes: &[u8], lent: &[u8]) -> (State, Result<TickAnswer, Refusal>)
+        ensures value { handed result.0 result.1 ≡ tick_of t.now bytes.now lent.now self }
+        ensures told { tick_told result.1 ≡ call_told t.now (held self bytes.now) (call.tick lent.now) }
+    {
+        let mut next = self;
+        let answer = next.ticked(t, bytes, lent);
+        (next, answer)
+    }
+
+    // The tick on the state in place.
+    fn ticked(&mut self, t: &[u16], bytes: &[u8], lent: &[u8]) -> Result<TickAnswer, Refusal>
         ensures value { handed self.new result ≡ tick_of t.now bytes.now lent.now self.old }
-        ensures told { tick_told result ≡ call_told t.now (held self.old bytes.now) (call.tick lent.now) }
+        ensures tells { tick_told result ≡ call_told t.now (held self.old bytes.now) (call.tick lent.now) }
     {
         self.judge_tick(t, bytes.len(), lent.len())?;
         if self.plan.waits() {

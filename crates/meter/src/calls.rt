@@ -30,12 +30,18 @@ fn write_six(state: &mut State, t: &[u16], bytes: &mut [u8]) {
 // Kept: a match on the letter; a table of closures would lend the state and the bytes in each.
 fn call(state: &mut State, t: &[u16], bytes: &mut [u8], letter: u8, row: &Row) -> u64 {
     match letter {
-        b'T' => tick_code(state.tick(t, bytes, &[])),
+        b'T' => {
+            let (next, answer) = state.tick(t, bytes, &[]);
+            *state = next;
+            tick_code(answer)
+        }
         b'R' => row.write(state, t, bytes),
         b'W' => row.write_singly(state, t, bytes),
         _ => {
             let byte = due(state.transfer);
-            byte_code(state.byte_in(t, bytes, byte))
+            let (next, answer) = state.byte_in(t, bytes, byte);
+            *state = next;
+            byte_code(answer)
         }
     }
 }

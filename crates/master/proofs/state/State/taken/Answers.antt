@@ -5,14 +5,14 @@ use Rattle.master.specs.Answers.{handed}
 use Rattle.master.specs.Byte.{byte_of, byte_effect}
 use Rattle.master.proofs.Verdicts.{byte_size}
 use Rattle.master.proofs.ToldLaws.{byte_told_lem}
-use Rattle.master.proofs.state.State.byte_in.Goals as goal
+use Rattle.master.proofs.state.State.taken.Goals as goal
 
 pub returns-in_err-judge_byte : goal.returns-in_err-judge_byte
 unfolding byte_of byte_effect
 returns-in_err-judge_byte c =
     let a = c.args in
     let all = byte_told_lem a.t.now a.self.now a.bytes.now a.b (handed a.self.now c.from_residual.result) a.bytes.now (record { handed = ap (handed a.self.now) (passed_on _ _ c.from_residual.ensures.1) ∙ rw (← c.in_err-judge_byte.ensures); kept = rw (← c.in_err-judge_byte.ensures) }) in
-    record { leaves = all.0; told = all.1 }
+    record { leaves = all.0; tells = all.1 }
 
 pub sent_byte-requires : goal.sent_byte-requires
 sent_byte-requires c =
@@ -25,11 +25,11 @@ unfolding byte_of byte_effect
 returns-then-sends c =
     let a = c.args in
     let all = byte_told_lem a.t.now a.self.now a.bytes.now a.b (handed c.sent_byte.new.self (Ok c.sent_byte.result)) a.bytes.now (record { handed = rw (← c.in_ok-judge_byte.ensures, ← c.sends.ensures, c.if-sends.true) c.sent_byte.ensures; kept = rw (← c.in_ok-judge_byte.ensures, ← c.sends.ensures, c.if-sends.true) }) in
-    record { leaves = all.0; told = all.1 }
+    record { leaves = all.0; tells = all.1 }
 
 pub returns : goal.returns
 unfolding byte_of byte_effect
 returns c =
     let a = c.args in
     let all = byte_told_lem a.t.now a.self.now a.bytes.now a.b (handed c.received_byte.new.self (Ok c.received_byte.result)) c.received_byte.new.bytes (record { handed = rw (← c.in_ok-judge_byte.ensures, ← c.sends.ensures, c.if-sends.false) c.received_byte.ensures.handed; kept = rw (← c.in_ok-judge_byte.ensures, ← c.sends.ensures, c.if-sends.false) c.received_byte.ensures.kept }) in
-    record { leaves = all.0; told = all.1 }
+    record { leaves = all.0; tells = all.1 }
