@@ -1,5 +1,8 @@
 -- The decimal digits of a number, put down from the last one on.
 use Rattle.std.proofs.Common.{◌≡◌, ◌==◌, ℕ, zero, suc, ◌+◌, ◌-◌, ◌/◌, ◌%◌, ◌^◌, ◌<◌, ◌≤◌, List, [], ◌∷◌, ◌++◌, length, take, drop, set, sym, refl, ◌∙◌, mod-eq_of_lt, div-lt_iff_lt-mul, pow-suc, sub-one, arith, length-append, length-drop, length-set, take_all, drop-cons, drop_of_length-le, get_or-set_same, drop-set-lt, ne_eqb}
+use Rattle.std.proofs.Common.{replicate, ap}
+use Rattle.std.proofs.lemmas.List.{take-set, take-take, take-replicate, take-append-drop, length-replicate}
+use Rattle.std.proofs.Math.Seq.{drop-append_seam}
 use Rattle.wire.proofs.Tests.{whether}
 use lib.Seq.{append_snoc}
 use Rattle.buslog.specs.Row.{digits_of, decimal_of}
@@ -66,3 +69,31 @@ pub spelled : (n at left : ℕ) (digits : List ℕ) → decimal_of n ≡ digits_
     → take (20 - at) (drop at digits) ≡ decimal_of n
 spelled n at left digits e z l =
     take_all (20 - at) (drop at digits) (simp length-drop (omega arith)) ∙ sym (e ∙ rw (z, no_digits))
+
+-- the bytes before the digits stay zeros
+pub zeros_before : (at : ℕ) (digits : List ℕ) (d : ℕ) → take at digits ≡ replicate at 0 → take (at - 1) (set digits (at - 1) d) ≡ replicate (at - 1) 0
+zeros_before at digits d e =
+    let inner : take (at - 1) (take at digits) ≡ take (at - 1) digits = take-take (at - 1) at digits (omega arith) in
+    take-set digits (at - 1) d ∙ sym inner ∙ (rw e (take-replicate (at - 1) at 0 (omega arith)))
+
+-- the digits that are there are all, and they begin behind what is before them
+here : (n at left : ℕ) (digits : List ℕ) → decimal_of n ≡ digits_of at left ++ drop at digits → left ≡ 0 → drop at digits ≡ decimal_of n
+here n at left digits e z = sym (e ∙ rw (z, no_digits))
+
+pub begins : (n at left : ℕ) (digits : List ℕ) → decimal_of n ≡ digits_of at left ++ drop at digits → left ≡ 0 → length digits ≡ 20 → at ≤ 19
+    → at ≡ 20 - length (decimal_of n)
+begins n at left digits e z l h = let p = length-drop at digits in omega (arith, p, l, h, ap length (here n at left digits e z))
+
+pub all_of : (n at left : ℕ) (digits : List ℕ) → decimal_of n ≡ digits_of at left ++ drop at digits → take at digits ≡ replicate at 0 → left ≡ 0
+    → length digits ≡ 20 → at ≤ 19 → digits ≡ replicate (20 - length (decimal_of n)) 0 ++ decimal_of n
+all_of n at left digits e f z l h =
+    rw (← (begins n at left digits e z l h), ← f, ← (here n at left digits e z)) (sym (take-append-drop at digits))
+
+-- behind the zeros stand the digits
+pub behind_zeros : (ds : List ℕ) (k : ℕ) → drop k (replicate k 0 ++ ds) ≡ ds
+behind_zeros ds k = let l : length (replicate {A = ℕ} k 0) ≡ k = length-replicate k 0 in rw l at (drop-append_seam (replicate k 0) ds)
+
+-- the part of the array from where the digits begin is the digits
+pub shown : (ds all : List ℕ) (first : ℕ) → length ds ≤ 20 → all ≡ replicate (20 - length ds) 0 ++ ds → first ≡ 20 - length ds
+    → take (20 - first) (drop first all) ≡ ds
+shown ds all first h e f = rw (f, e, behind_zeros ds (20 - length ds)) (take_all (20 - (20 - length ds)) ds (omega (arith, h)))

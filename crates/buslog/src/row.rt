@@ -1,5 +1,5 @@
 // One row of a report: the number of the line, the identifier and the verdict.
-ghost use Rattle.std.specs.Prelude.{◌≡◌, ◌+◌, ◌≤◌, ◌∷◌, ◌++◌, length};
+ghost use Rattle.std.specs.Prelude.{◌≡◌, ◌+◌, ◌≤◌, ◌∷◌, ◌++◌, ◌-◌, length, replicate};
 ghost use Rattle.buslog.specs.Row.{row_of, decimal_of, longest_row};
 ghost use Rattle.buslog.specs.Pairs.{pair_of};
 ghost use Rattle.buslog.specs.Report.{Fronts};
@@ -22,14 +22,16 @@ fn put_decimal(out: &mut [u8], number: u64) -> usize
     requires { 20 ≤ length out.old }
     ensures { Fronts (decimal_of number) out.old result out.new × (result ≤ 20) }
 {
-    let mut digits = [0; 20];
-    scan::copy(decimal(number, &mut digits), out)
+    let (digits, first) = decimal(number);
+    scan::copy(&digits[first..], out)
 }
 
-// The decimal digits of a number, put at the end of a buffer.
-pub fn decimal(number: u64, digits: &mut [u8; 20]) -> &[u8]
-    ensures { result.now ≡ decimal_of number }
+// The decimal digits of a number at the end of an array, zeros before them, and where the digits begin.
+pub fn decimal(number: u64) -> ([u8; 20], usize)
+    ensures digits { result.0 ≡ replicate (20 - length (decimal_of number)) 0 ++ decimal_of number }
+    ensures first { result.1 ≡ 20 - length (decimal_of number) }
 {
+    let mut digits = [0; 20];
     let mut first: usize = 19;
     digits[19] = b'0' + (number % 10) as u8;
     let mut rest = number / 10;
@@ -39,7 +41,7 @@ pub fn decimal(number: u64, digits: &mut [u8; 20]) -> &[u8]
         digits[first] = b'0' + (rest % 10) as u8;
         rest = rest / 10;
     }
-    &digits[first..]
+    (digits, first)
 }
 
 // Puts a space, the identifier, a space, the verdict's word and a newline.

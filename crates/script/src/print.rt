@@ -106,8 +106,8 @@ fn number_or_none(out: &mut [u8], at: usize, n: u32) -> usize
 fn decimal(out: &mut [u8], at: usize, number: u32) -> usize
     ensures { Puts (decimal_of number) out.old at result out.new }
 {
-    let mut digits = [0; 20];
-    text(out, at, row::decimal(number as u64, &mut digits))
+    let (digits, first) = row::decimal(number as u64);
+    text(out, at, &digits[first..])
 }
 
 // Puts a space and a byte as a pair.

@@ -1,5 +1,5 @@
 -- The digits are those of what is left, and then those that are there.
-use Rattle.std.proofs.Common.{◌≡◌, ◌^◌, ◌<◌, ◌≤◌, ◌++◌, length, drop}
+use Rattle.std.proofs.Common.{◌≡◌, ◌^◌, ◌<◌, ◌≤◌, ◌++◌, length, drop, take, replicate}
 use Rattle.buslog.specs.Row.{digits_of, decimal_of}
 use Rattle.buslog.proofs.row.decimal.Given as goal
 
@@ -8,6 +8,7 @@ invariant-loop-rest l = record {
   size : length l.digits ≡ 20;
   place : l.first ≤ 19;
   below : l.rest < 10 ^ l.first;
+  front : take l.first l.digits ≡ replicate l.first 0;
   same : decimal_of l.number ≡ digits_of l.first l.rest ++ drop l.first l.digits;
 }
 
