@@ -2,13 +2,14 @@
 ghost use Rattle.cluster.specs.Table.{frame_count};
 ghost use Rattle.std.specs.Prelude.{SomeIff, ◌<◌, ◌≡◌, ◌≤◌, length};
 ghost use Rattle.refusal.specs.Answers.{gives};
-ghost use Rattle.cluster.specs.Check.{RightTable, taken_of};
+ghost use Rattle.cluster.specs.Check.{taken_of};
 ghost use Rattle.cluster.specs.Answers.{behind_table};
 ghost use Rattle.buslog.specs.Answers.{verdict_values, judged_told};
 ghost use Rattle.buslog.specs.Verdict.{frame_with, known_verdict, identifier_verdict, bytes_verdict, line_verdict, judge_of};
 
 use crate::pairs;
 use cluster::frames;
+use cluster::right::Right;
 use refusal::Refusal;
 use wire::checksum::Model;
 use wire::{checksum, identifier};
@@ -29,14 +30,12 @@ pub fn judge(t: &[u16], line: &[u8]) -> Result<Verdict, Refusal>
     ensures value { result ≡ judge_of t.now line.now }
     ensures told { judged_told result ≡ behind_table (taken_of t.now) (gives (verdict_values (line_verdict t.now line.now))) }
 {
-    cluster::taken(t)?;
-    Ok(of_line(t, line))
+    Ok(of_line(Right::taken(t)?, line))
 }
 
 // The verdict on a line under an accepted table.
-pub(crate) fn of_line(t: &[u16], line: &[u8]) -> Verdict
-    requires { RightTable t.now }
-    ensures { result ≡ line_verdict t.now line.now }
+pub(crate) fn of_line(t: Right, line: &[u8]) -> Verdict
+    ensures { result ≡ line_verdict t.entry.words.now line.now }
 {
     let Some(read) = pairs::read(line) else {
         return Verdict::Text;
@@ -45,9 +44,9 @@ pub(crate) fn of_line(t: &[u16], line: &[u8]) -> Verdict
 }
 
 // The verdict on one byte or more: protected identifier, data, checksum.
-fn of_bytes(t: &[u16], bytes: &[u8]) -> Verdict
-    requires { RightTable t.now × (1 ≤ length bytes.now) }
-    ensures { result ≡ bytes_verdict t.now bytes.now }
+fn of_bytes(t: Right, bytes: &[u8]) -> Verdict
+    requires { 1 ≤ length bytes.now }
+    ensures { result ≡ bytes_verdict t.entry.words.now bytes.now }
 {
     match identifier::read(bytes[0]) {
         Err(_) => Verdict::Parity,
@@ -56,15 +55,20 @@ fn of_bytes(t: &[u16], bytes: &[u8]) -> Verdict
 }
 
 // The verdict by the identifier, and by what stands behind it.
-fn of_identifier(t: &[u16], id: u8, rest: &[u8]) -> Verdict
-    requires { RightTable t.now × (id ≤ 63) }
-    ensures { result ≡ identifier_verdict t.now id rest.now }
+fn of_identifier(t: Right, id: u8, rest: &[u8]) -> Verdict
+    requires { id ≤ 63 }
+    ensures { result ≡ identifier_verdict t.entry.words.now id rest.now }
 {
     if id == 60 || id == 61 {
         return of_known(id, 8, Model::Classic, rest);
     }
-    match frame_with(t, id) {
-        Some(f) => of_known(id, frames::length(t, f), frames::model(t, f), rest),
+    match frame_with(t.words, id) {
+        Some(f) => of_known(
+            id,
+            frames::length(t.words, f),
+            frames::model(t.words, f),
+            rest,
+        ),
         None => Verdict::Unknown(id),
     }
 }

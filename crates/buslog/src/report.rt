@@ -1,7 +1,7 @@
 // The report of a log, a part at a time.
 ghost use Rattle.std.specs.Prelude.{◌≡◌, Ok, ◌-◌, min, [], length};
 ghost use Rattle.refusal.specs.Answers.{gives};
-ghost use Rattle.cluster.specs.Check.{RightTable, taken_of};
+ghost use Rattle.cluster.specs.Check.{taken_of};
 ghost use Rattle.cluster.specs.Answers.{behind_table};
 ghost use Rattle.buslog.specs.Answers.{report_told};
 ghost use Rattle.buslog.specs.Report.{reported, reporting, reported_lines, Leaves, Fronts, kept_of, kept_length};
@@ -9,6 +9,7 @@ ghost use Rattle.buslog.specs.Parts.{so_far};
 
 use crate::judge::of_line;
 use crate::row;
+use cluster::right::Right;
 use refusal::Refusal;
 
 // How many lines were reported, how many characters of the text they have, and how many their rows have.
@@ -24,14 +25,12 @@ pub fn write(t: &[u16], number: u64, text: &[u8], out: &mut [u8]) -> Result<Writ
     ensures leaves { Leaves (reported t.now number (length out.old) text.now) out.old result out.new }
     ensures told { report_told result ≡ behind_table (taken_of t.now) (gives []) }
 {
-    cluster::taken(t)?;
-    Ok(rows(t, number, text, out))
+    Ok(rows(Right::taken(t)?, number, text, out))
 }
 
 // Reports under an accepted table.
-fn rows(t: &[u16], number: u64, text: &[u8], out: &mut [u8]) -> Written
-    requires { RightTable t.now }
-    ensures { Leaves (reporting t.now number (reported_lines t.now number (length out.old) text.now))
+fn rows(t: Right, number: u64, text: &[u8], out: &mut [u8]) -> Written
+    ensures { Leaves (reporting t.entry.words.now number (reported_lines t.entry.words.now number (length out.old) text.now))
         out.old (Ok result) out.new }
 {
     let mut lines: usize = 0;

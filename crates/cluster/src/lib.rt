@@ -10,6 +10,7 @@ pub mod fresh;
 mod marks;
 pub mod members;
 pub mod placements;
+pub mod right;
 pub mod signals;
 mod table;
 pub mod values;

@@ -6,6 +6,7 @@ ghost use Rattle.master.specs.Received.{last_of, received_up_to, received_by, la
 
 use crate::placed;
 use crate::state::{Opened, Reception, State};
+use cluster::right::Right;
 use cluster::{Limits, frames, placements, signals};
 
 // Whether each reception is of a placement that can be received.
@@ -97,8 +98,8 @@ impl State {
         requires { RightTable t.now }
         ensures { result ≡ source_of t.now self.received s }
     {
-        if placed::published(t, s) {
-            return Some(placed::first(t, s));
+        if placed::published(Right { words: t }, s) {
+            return Some(placed::first(Right { words: t }, s));
         }
         last_of(self.received, s)
     }

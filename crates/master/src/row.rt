@@ -12,6 +12,7 @@ use crate::admit::refused;
 use crate::placed;
 use crate::state::{State, Transfer};
 use crate::write::writable;
+use cluster::right::Right;
 use cluster::values as values_of;
 use refusal::Refusal;
 
@@ -85,7 +86,7 @@ fn first_bad(t: &[u16], signals: &[u16], values: &[u32]) -> Result<(), Refusal>
     for i in 0..signals.len() {
         let s = signals[i];
         let fits = values_of::scalar_fits(t, s, values[i]);
-        if let Err(refusal) = writable(t, s, false, fits) {
+        if let Err(refusal) = writable(Right { words: t }, s, false, fits) {
             return Err(Refusal::at(refusal.number, i));
         }
     }
@@ -100,7 +101,7 @@ fn put_row(t: &[u16], bytes: &mut [u8], signals: &[u16], values: &[u32])
     ensures { bytes.new ≡ with_row t.now bytes.old (puts signals.now values.now) }
 {
     for i in 0..signals.len() {
-        placed::put_scalar(t, bytes, signals[i], values[i] as u16);
+        placed::put_scalar(Right { words: t }, bytes, signals[i], values[i] as u16);
     }
 }
 
@@ -110,6 +111,6 @@ fn mark_row(t: &[u16], signals: &[u16], pending: &mut [bool])
     ensures { pending.new ≡ marked_bits t.now signals.now pending.old }
 {
     for &s in signals {
-        placed::mark(t, s, pending);
+        placed::mark(Right { words: t }, s, pending);
     }
 }

@@ -17,6 +17,7 @@ ghost use Rattle.master.specs.Byte.{early as earlyOf, checksum_right, with_byte}
 
 use crate::placed;
 use crate::state::{Message, Opened, Transfer};
+use cluster::right::Right;
 use cluster::{entries, frames, members};
 use transport::cutting;
 use wire::checksum::Model;
@@ -144,7 +145,7 @@ impl Opened {
         ensures { result ≡ touches_open t.now s self }
     {
         match self {
-            Opened::Frame(f) => placed::touches(t, s, f),
+            Opened::Frame(f) => placed::touches(Right { words: t }, s, f),
             _ => false,
         }
     }

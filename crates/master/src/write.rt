@@ -1,6 +1,5 @@
 // The two writes.
 ghost use Rattle.std.specs.Prelude.{true, false, ◌≡◌};
-ghost use Rattle.cluster.specs.Check.{RightTable};
 ghost use Rattle.master.specs.Admit.{Leaves};
 ghost use Rattle.master.specs.Write.{writable as writableOf, marked as markedOf, write_verdict, write_of};
 ghost use Rattle.master.specs.Put.{scalar, array, put};
@@ -12,6 +11,7 @@ ghost use Rattle.master.specs.Told.{call_told};
 use crate::admit::refused;
 use crate::placed;
 use crate::state::State;
+use cluster::right::Right;
 use cluster::{signals, values};
 use refusal::Refusal;
 
@@ -22,8 +22,9 @@ impl State {
         ensures told { write_told result ≡ call_told t.now (held self.old bytes.old) (call.write (put s (scalar v))) }
     {
         self.judge_scalar(t, bytes.len(), s, v)?;
-        placed::put_scalar(t, bytes, s, v as u16);
-        *self = self.marked(t, s);
+        let right = Right { words: t };
+        placed::put_scalar(right, bytes, s, v as u16);
+        *self = self.marked(right, s);
         Ok(())
     }
 
@@ -39,8 +40,9 @@ impl State {
         ensures told { write_told result ≡ call_told t.now (held self.old bytes.old) (call.write (put s (array values.now))) }
     {
         self.judge_array(t, bytes.len(), s, values)?;
-        placed::put_array(t, bytes, s, values);
-        *self = self.marked(t, s);
+        let right = Right { words: t };
+        placed::put_array(right, bytes, s, values);
+        *self = self.marked(right, s);
         Ok(())
     }
 
@@ -49,7 +51,7 @@ impl State {
         ensures { result ≡ write_verdict t.now size self (put s (scalar v)) }
     {
         self.admit(t, size)?;
-        writable(t, s, false, values::scalar_fits(t, s, v))
+        writable(Right { words: t }, s, false, values::scalar_fits(t, s, v))
     }
 
     // The verdict on a write of an array.
@@ -57,35 +59,38 @@ impl State {
         ensures { result ≡ write_verdict t.now size self (put s (array values.now)) }
     {
         self.admit(t, size)?;
-        writable(t, s, true, values::array_fits(t, s, values))
+        writable(
+            Right { words: t },
+            s,
+            true,
+            values::array_fits(t, s, values),
+        )
     }
 
     // The frames of a signal are pending, and an open transfer of one of them was written since.
     #[tactic(auto, unfolding(crate::specs::Write::marked))]
-    fn marked(self, t: &[u16], s: u16) -> State
-        requires { RightTable t.now }
-        ensures { result ≡ markedOf t.now s self }
+    fn marked(self, t: Right, s: u16) -> State
+        ensures { result ≡ markedOf t.entry.words.now s self }
     {
         let mut pending = self.pending;
         placed::mark(t, s, &mut pending);
         self.with_pending(pending)
-            .with_transfer(self.transfer.rewritten(t, s))
+            .with_transfer(self.transfer.rewritten(t.words, s))
     }
 }
 
 // Refusals 4 to 7 of a write.
 #[tactic(auto, unfolding(crate::specs::Write::writable))]
-pub(crate) fn writable(t: &[u16], s: u16, array: bool, fits: bool) -> Result<(), Refusal>
-    requires { RightTable t.now }
-    ensures { result ≡ writableOf t.now s array fits }
+pub(crate) fn writable(t: Right, s: u16, array: bool, fits: bool) -> Result<(), Refusal>
+    ensures { result ≡ writableOf t.entry.words.now s array fits }
 {
-    if signals::count(t) <= s {
+    if signals::count(t.words) <= s {
         return refused(Refusal::UNKNOWN);
     }
     if !placed::published(t, s) {
         return refused(Refusal::NOT_PUBLISHED);
     }
-    if signals::is_array(t, s) != array {
+    if signals::is_array(t.words, s) != array {
         return refused(Refusal::KIND);
     }
     if !fits {

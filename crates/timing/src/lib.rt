@@ -3,13 +3,13 @@
 #![tactic(auto)]
 
 ghost use Rattle.std.specs.Prelude.{◌&&◌, ◌≡◌, ◌<◌, Ok};
-ghost use Rattle.cluster.specs.Check.{RightTable};
 ghost use Rattle.cluster.specs.Table.{entry_count};
 ghost use Rattle.timing.specs.FrameTime.{minimum_bits};
 ghost use Rattle.timing.specs.Judge.{found_of, judge_of, judgement_told, judge_told};
 ghost use Rattle.timing.specs.Parts.{Longest};
 ghost use Rattle.timing.specs.Slots.{slot_holds, entry_bytes, first_short, time_right};
 
+use cluster::right::Right;
 use cluster::{Limits, entries, frames, members};
 use refusal::Refusal;
 
@@ -19,11 +19,11 @@ pub fn judge(t: &[u16], tick: u32, bit: u32) -> Result<Option<u16>, Refusal>
     ensures value { result ≡ judge_of t.now tick bit }
     ensures told { judgement_told result ≡ judge_told t.now tick bit }
 {
-    cluster::taken(t)?;
+    let right = Right::taken(t)?;
     if !times_right(tick, bit) {
         return Err(Refusal::of(Refusal::TIME));
     }
-    Ok(first_short(t, tick, bit))
+    Ok(first_short(right, tick, bit))
 }
 
 // The bit times that a frame of some data bytes takes at least.
@@ -48,13 +48,17 @@ fn time_right(x: u32) -> bool
 }
 
 // The first entry whose slot is short.
-fn first_short(t: &[u16], tick: u32, bit: u32) -> Option<u16>
-    requires { RightTable t.now }
-    ensures { Ok result ≡ found_of t.now (first_short t.now tick bit) }
+fn first_short(t: Right, tick: u32, bit: u32) -> Option<u16>
+    ensures { Ok result ≡ found_of t.entry.words.now (first_short t.entry.words.now tick bit) }
 {
     let longest = longest_members(t);
-    for e in 0..entries::count(t) {
-        if !slot_holds(tick, bit, entries::delay(t, e), entry_bytes(t, e, &longest)) {
+    for e in 0..entries::count(t.words) {
+        if !slot_holds(
+            tick,
+            bit,
+            entries::delay(t.words, e),
+            entry_bytes(t, e, &longest),
+        ) {
             return Some(e);
         }
     }
@@ -62,14 +66,13 @@ fn first_short(t: &[u16], tick: u32, bit: u32) -> Option<u16>
 }
 
 // The data bytes of the longest member of each list.
-fn longest_members(t: &[u16]) -> [u16; Limits::MEMBERS]
-    requires { RightTable t.now }
-    ensures { Longest t.now result }
+fn longest_members(t: Right) -> [u16; Limits::MEMBERS]
+    ensures { Longest t.entry.words.now result }
 {
     let mut longest = [0u16; Limits::MEMBERS];
-    for m in 0..members::count(t) {
-        let l = members::list(t, m) as usize;
-        let bytes = frames::length(t, members::frame(t, m));
+    for m in 0..members::count(t.words) {
+        let l = members::list(t.words, m) as usize;
+        let bytes = frames::length(t.words, members::frame(t.words, m));
         if longest[l] < bytes {
             longest[l] = bytes;
         }
@@ -78,13 +81,13 @@ fn longest_members(t: &[u16]) -> [u16; Limits::MEMBERS]
 }
 
 // The data bytes of an entry's longest frame, with the longest member of each list at hand.
-fn entry_bytes(t: &[u16], e: u16, longest: &[u16; Limits::MEMBERS]) -> u16
-    requires { RightTable t.now × (e < entry_count t.now) × Longest t.now longest.now }
-    ensures { result ≡ entry_bytes t.now e }
+fn entry_bytes(t: Right, e: u16, longest: &[u16; Limits::MEMBERS]) -> u16
+    requires { (e < entry_count t.words.now) × Longest t.words.now longest.now }
+    ensures { result ≡ entry_bytes t.entry.words.now e }
 {
-    let target = entries::target(t, e);
-    match entries::kind(t, e) {
-        0 => frames::length(t, target),
+    let target = entries::target(t.words, e);
+    match entries::kind(t.words, e) {
+        0 => frames::length(t.words, target),
         1 => longest[target as usize],
         _ => 8,
     }

@@ -16,19 +16,19 @@ loop-e-init c = rw sub-zero
 pub returns-then-not-slot_holds : goal.returns-then-not-slot_holds
 unfolding found_of
 returns-then-not-slot_holds c =
-    let t = c.args.t.now in
+    let t = c.args.t.words.now in
     let there : c.loop-e.e < entry_count t = omega (arith, c.count-e-end.ensures, c.loop-e-test.true) in
     let found = c.loop-e.invariant ∙ right _ _ _ there (short_by _ _ _ _ _ _ _ c.delay.ensures c.entry_bytes.ensures c.slot_holds.ensures ∙ ap not c.if-not-slot_holds.true) in
     rw (found, lt-ltb _ _ there)
 
 pub loop-e-preserved : goal.loop-e-preserved
 loop-e-preserved c =
-    let there : c.loop-e.e < entry_count c.args.t.now = omega (arith, c.count-e-end.ensures, c.loop-e-test.true) in
+    let there : c.loop-e.e < entry_count c.args.t.words.now = omega (arith, c.count-e-end.ensures, c.loop-e-test.true) in
     c.loop-e.invariant ∙ wrong _ _ _ there (short_by _ _ _ _ _ _ _ c.delay.ensures c.entry_bytes.ensures c.slot_holds.ensures ∙ ap not c.if-not-slot_holds.false)
 
 pub returns : goal.returns
 unfolding found_of
 returns c =
-    let passed : entry_count c.args.t.now ≤ c.loop-e.e = omega (arith, c.count-e-end.ensures, c.loop-e-test.false) in
+    let passed : entry_count c.args.t.words.now ≤ c.loop-e.e = omega (arith, c.count-e-end.ensures, c.loop-e-test.false) in
     let none = c.loop-e.invariant ∙ ended _ _ _ passed in
     rw (none, le-ltb _ _ passed)

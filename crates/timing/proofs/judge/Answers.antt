@@ -1,14 +1,15 @@
 -- The table is taken, the times are right, and the first short entry is the answer; what is answered is told in the paper's terms.
 use Rattle.std.proofs.Common.{Err, ap, sym, ◌∙◌}
 use Rattle.refusal.proofs.PassedOn.{passed_on}
-use Rattle.cluster.proofs.TakenLaws.{taken_right}
+use Rattle.timing.specs.Judge.{found_of}
+use Rattle.timing.specs.Slots.{first_short}
 use Rattle.timing.proofs.Steps.{table_refused, time_refused, found_told, judge_told_lem}
 use Rattle.timing.proofs.judge.Goals as goal
 
-pub returns-in_err-taken : goal.returns-in_err-taken
-returns-in_err-taken c =
+pub returns-in_err-right : goal.returns-in_err-right
+returns-in_err-right c =
     let a = c.args in
-    let refused = table_refused _ a.tick a.bit _ (sym c.in_err-taken.ensures.value) in
+    let refused = table_refused _ a.tick a.bit _ c.in_err-right.ensures.refused in
     let all = judge_told_lem a.t.now a.tick a.bit _ (passed_on _ _ c.from_residual.ensures.1 ∙ sym refused) in
     record { value = all.0; told = all.1 }
 
@@ -16,17 +17,15 @@ pub returns-then-not-times_right : goal.returns-then-not-times_right
 returns-then-not-times_right c =
     let a = c.args in
     let times = sym c.times_right.ensures ∙ c.if-not-times_right.true in
-    let refused = time_refused _ a.tick a.bit (sym c.in_ok-taken.ensures.value) times in
+    let refused = time_refused _ a.tick a.bit c.in_ok-right.ensures.right times in
     let all = judge_told_lem a.t.now a.tick a.bit _ (ap Err c.of.ensures ∙ sym refused) in
     record { value = all.0; told = all.1 }
-
-pub first_short-requires : goal.first_short-requires
-first_short-requires c = taken_right _ (sym c.in_ok-taken.ensures.value)
 
 pub returns : goal.returns
 returns c =
     let a = c.args in
     let times = sym c.times_right.ensures ∙ c.if-not-times_right.false in
-    let found = found_told _ a.tick a.bit (sym c.in_ok-taken.ensures.value) times in
-    let all = judge_told_lem a.t.now a.tick a.bit _ (c.first_short.ensures ∙ sym found) in
+    let found = found_told _ a.tick a.bit c.in_ok-right.ensures.right times in
+    let same = ap (λ t. found_of t (first_short t a.tick a.bit)) c.in_ok-right.ensures.words in
+    let all = judge_told_lem a.t.now a.tick a.bit _ (c.first_short.ensures ∙ same ∙ sym found) in
     record { value = all.0; told = all.1 }

@@ -14,19 +14,19 @@ below t m l n right e h of =
     omega (arith, of, list_below t right m there, list_count_lem t right, member_count_lem t right)
 
 pub loop-m-init : goal.loop-m-init
-loop-m-init c = none_yet c.args.t.now
+loop-m-init c = none_yet c.args.t.words.now
 
 pub bounds-longest-l : goal.bounds-longest-l
-bounds-longest-l c = below _ _ _ _ c.requires c.count-m-end.ensures c.loop-m-test.true c.list-l.ensures
+bounds-longest-l c = below _ _ _ _ c.args.t.right c.count-m-end.ensures c.loop-m-test.true c.list-l.ensures
 
 pub bounds-longest-l-then-longest-l : goal.bounds-longest-l-then-longest-l
-bounds-longest-l-then-longest-l c = below _ _ _ _ c.requires c.count-m-end.ensures c.loop-m-test.true c.list-l.ensures
+bounds-longest-l-then-longest-l c = below _ _ _ _ c.args.t.right c.count-m-end.ensures c.loop-m-test.true c.list-l.ensures
 
 pub loop-m-preserved : goal.loop-m-preserved
 loop-m-preserved c =
-    let t = c.args.t.now in
+    let t = c.args.t.words.now in
     let at = c.loop-m in
-    let list = below _ _ _ _ c.requires c.count-m-end.ensures c.loop-m-test.true c.list-l.ensures in
+    let list = below _ _ _ _ c.args.t.right c.count-m-end.ensures c.loop-m-test.true c.list-l.ensures in
     let bytes = c.length-bytes.ensures ∙ ap (frame_length t) c.frame.ensures in
     elim c.if-longest-l.branch [
       | then-longest-l w ↦ rw w.longest-is (longer t at.m at.longest _ _ at.invariant c.list-l.ensures bytes list w.if-longest-l.true)

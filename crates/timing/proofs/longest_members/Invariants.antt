@@ -3,4 +3,4 @@ use Rattle.timing.proofs.Steps.{LongestOf}
 use Rattle.timing.proofs.longest_members.Given as goal
 
 abbrev pub invariant-loop-m : goal.invariant-loop-m
-invariant-loop-m l = LongestOf l.t l.m l.longest
+invariant-loop-m l = LongestOf l.t.words.now l.m l.longest

@@ -12,16 +12,16 @@ returns-then-id-eq60 c =
 
 pub of_known-requires-in-Some : goal.of_known-requires-in-Some
 of_known-requires-in-Some c =
-    let t = c.args.t.now in
+    let t = c.args.t.words.now in
     let f = c.in-Some.f in
     let there : f < frame_count t = omega (arith, c.in-Some.ensures.0, c.in-Some.ensures.1) in
     let n = c.length.ensures in
-    (c.requires.1, omega (arith, frame_length_low t c.requires.0 f there, n), omega (arith, frame_length_high t c.requires.0 f there, n))
+    (c.requires, omega (arith, frame_length_low t c.args.t.right f there, n), omega (arith, frame_length_high t c.args.t.right f there, n))
 
 pub returns-in-Some : goal.returns-in-Some
 returns-in-Some c =
     let f = c.in-Some.ensures in
-    let there : c.in-Some.f < frame_count c.args.t.now = omega (arith, f.0, f.1) in
+    let there : c.in-Some.f < frame_count c.args.t.words.now = omega (arith, f.0, f.1) in
     c.of_known-in-Some.ensures
     ∙ listed _ _ _ (rw (ne_eqb _ 60 c.if-id-eq60.false, ne_eqb _ 61 c.if-id-eq61.false)) _ _ _ f.1 there c.length.ensures c.model.ensures
 

@@ -7,7 +7,7 @@ use Rattle.buslog.proofs.report.rows.Statement.{statement}
 use Rattle.buslog.proofs.report.rows.Tie as tie
 
 abbrev invariant_loop : tie.invariant-loop-out
-invariant_loop t number text out₀ lines₀ used₀ put₀ out lines used put = Done t number text out₀ lines used put out
+invariant_loop t number text out₀ lines₀ used₀ put₀ out lines used put = Done t.words.now number text out₀ lines used put out
 
 abbrev decreases_loop : tie.decreases-loop-out
 decreases_loop t number text out₀ lines₀ used₀ put₀ out lines used put = length text - used

@@ -4,4 +4,4 @@ use Rattle.master.proofs.Marking.{Set}
 use Rattle.master.proofs.placed.mark.Given as goal
 
 abbrev pub invariant-loop-k : goal.invariant-loop-k
-invariant-loop-k l = Walk l.t l.s (λ m. Set l.t l.s m l.fn.pending l.pending) l.k
+invariant-loop-k l = Walk l.t.words.now l.s (λ m. Set l.t.words.now l.s m l.fn.pending l.pending) l.k

@@ -5,4 +5,4 @@ use Rattle.master.proofs.PlacedTurns.{Left}
 use Rattle.master.proofs.placed.put_array.Given as goal
 
 abbrev pub invariant-loop-k : goal.invariant-loop-k
-invariant-loop-k l = Walk l.t l.s (Left l.t l.s (λ m cs. with_array_at l.t cs m l.values) (with_array l.t l.fn.bytes l.s l.values) l.bytes) l.k
+invariant-loop-k l = Walk l.t.words.now l.s (Left l.t.words.now l.s (λ m cs. with_array_at l.t.words.now cs m l.values) (with_array l.t.words.now l.fn.bytes l.s l.values) l.bytes) l.k

@@ -4,4 +4,4 @@ use Rattle.master.proofs.PlacedTurns.{Unmet}
 use Rattle.master.proofs.placed.touches.Given as goal
 
 abbrev pub invariant-loop-k : goal.invariant-loop-k
-invariant-loop-k l = Walk l.t l.s (Unmet l.t l.s l.f) l.k
+invariant-loop-k l = Walk l.t.words.now l.s (Unmet l.t.words.now l.s l.f) l.k

@@ -3,5 +3,5 @@ use Rattle.std.proofs.Common.{sym}
 use Rattle.master.proofs.Admitted.{admitted_table}
 use Rattle.master.proofs.state.State.judge_array.Goals as goal
 
-pub writable-requires : goal.writable-requires
-writable-requires c = admitted_table _ _ _ (sym c.in_ok-admit.ensures.value)
+pub invariant_of-writable : goal.invariant_of-writable
+invariant_of-writable c = record { right = admitted_table _ _ _ (sym c.in_ok-admit.ensures.value) }

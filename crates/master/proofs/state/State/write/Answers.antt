@@ -20,11 +20,8 @@ overflow_cast-v c =
     let a = c.args in
     record { fits = omega (arith, write_value_below a.t.now (length a.bytes.now) a.self.now a.s a.v (sym c.in_ok-judge_scalar.ensures)) }
 
-pub put_scalar-requires : goal.put_scalar-requires
-put_scalar-requires c = write_table _ _ _ _ _ _ (sym c.in_ok-judge_scalar.ensures)
-
-pub marked-requires : goal.marked-requires
-marked-requires c = write_table _ _ _ _ _ _ (sym c.in_ok-judge_scalar.ensures)
+pub invariant_of-right : goal.invariant_of-right
+invariant_of-right c = record { right = write_table _ _ _ _ _ _ (sym c.in_ok-judge_scalar.ensures) }
 
 pub returns : goal.returns
 unfolding write_of

@@ -15,11 +15,8 @@ returns-in_err-judge_array c =
     let all = write_told_lem a.t.now a.self.now a.bytes.now (put a.s (array a.values.now)) (handed a.self.now c.from_residual.result) a.bytes.now (record { handed = ap (handed a.self.now) (passed_on _ _ c.from_residual.ensures.1) ∙ rw (← c.in_err-judge_array.ensures); kept = rw (← c.in_err-judge_array.ensures) }) in
     record { leaves = all.0; told = all.1 }
 
-pub put_array-requires : goal.put_array-requires
-put_array-requires c = write_table _ _ _ _ _ _ (sym c.in_ok-judge_array.ensures)
-
-pub marked-requires : goal.marked-requires
-marked-requires c = write_table _ _ _ _ _ _ (sym c.in_ok-judge_array.ensures)
+pub invariant_of-right : goal.invariant_of-right
+invariant_of-right c = record { right = write_table _ _ _ _ _ _ (sym c.in_ok-judge_array.ensures) }
 
 pub returns : goal.returns
 unfolding write_of
