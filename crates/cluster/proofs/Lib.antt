@@ -22,6 +22,7 @@ pub mod FreshLaws
 pub mod HeaderLaws
 pub mod HeaderTurn
 pub mod InWords
+pub mod KindLaws
 pub mod ListLaws
 pub mod ListWalk
 pub mod Local

@@ -4,6 +4,7 @@ pub mod Columns
 pub mod Right
 pub mod Check
 pub mod Answers
+pub mod Kinds
 pub mod Lists
 pub mod Fresh
 pub mod Values

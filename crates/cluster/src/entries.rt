@@ -2,6 +2,7 @@
 ghost use Rattle.std.specs.Prelude.{◌≡◌, ◌+◌, ◌<◌, ◌≤◌, length};
 ghost use Rattle.cluster.specs.Check.{entry_faults};
 ghost use Rattle.cluster.specs.Columns.{follows as followsOf, target_right, entry_columns};
+ghost use Rattle.cluster.specs.Kinds.{kind_of};
 ghost use Rattle.cluster.specs.Lists.{first_entry, next_entry};
 ghost use Rattle.cluster.specs.Read.{EntryRead, leading};
 ghost use Rattle.cluster.specs.Table.{most_frames, most_signals, most_members, most_entries, most_placements};
@@ -31,6 +32,38 @@ pub fn kind(t: &[u16], e: u16) -> u16
     ensures { result ≡ entry_kind t.now e }
 {
     word(t, entry_at(t, e as usize) + 1)
+}
+
+// What an entry opens: its frame, the first pending member of its list, the diagnostic request or the diagnostic response.
+#[derive(Clone, Copy, PartialEq, Eq)]
+pub enum EntryKind {
+    Frame,
+    List,
+    Request,
+    Response,
+}
+
+impl EntryKind {
+    // The kind that a word of the table stands for.
+    #[tactic(auto, unfolding(crate::specs::Kinds::kind_of))]
+    pub fn of(word: u16) -> Option<EntryKind>
+        ensures { result ≡ kind_of word }
+    {
+        match word {
+            0 => Some(EntryKind::Frame),
+            1 => Some(EntryKind::List),
+            2 => Some(EntryKind::Request),
+            3 => Some(EntryKind::Response),
+            _ => None,
+        }
+    }
+}
+
+// The kind of an entry by its name; none where the word is no kind, as in no right table.
+pub fn kind_of(t: &[u16], e: u16) -> Option<EntryKind>
+    ensures { result ≡ kind_of (entry_kind t.now e) }
+{
+    EntryKind::of(kind(t, e))
 }
 
 // The target of an entry: a frame number, a list number, or 0.

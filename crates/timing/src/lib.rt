@@ -9,6 +9,7 @@ ghost use Rattle.timing.specs.Judge.{found_of, judge_of, judgement_told, judge_t
 ghost use Rattle.timing.specs.Parts.{Longest};
 ghost use Rattle.timing.specs.Slots.{slot_holds, entry_bytes, first_short, time_right};
 
+use cluster::entries::EntryKind;
 use cluster::right::Right;
 use cluster::{Limits, entries, frames, members};
 use refusal::Refusal;
@@ -86,10 +87,12 @@ fn entry_bytes(t: Right, e: u16, longest: &[u16; Limits::MEMBERS]) -> u16
     ensures { result ≡ entry_bytes t.entry.words.now e }
 {
     let target = entries::target(t.words, e);
-    match entries::kind(t.words, e) {
-        0 => frames::length(t.words, target),
-        1 => longest[target as usize],
-        _ => 8,
+    match entries::kind_of(t.words, e) {
+        Some(EntryKind::Frame) => frames::length(t.words, target),
+        Some(EntryKind::List) => longest[target as usize],
+        Some(EntryKind::Request) => 8,
+        Some(EntryKind::Response) => 8,
+        None => 8,
     }
 }
 
