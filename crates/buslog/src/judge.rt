@@ -89,14 +89,8 @@ fn of_known(id: u8, length: u16, wish: Model, rest: &[u8]) -> Verdict
 }
 
 // The frame with an identifier.
-// Kept: `find` on a range would be proved by what each run of its closure answers, and this loop is as short.
 fn frame_with(t: &[u16], id: u8) -> Option<u16>
     ensures { SomeIff result (frame_with t.now id < frame_count t.now) (frame_with t.now id) }
 {
-    for f in 0..frames::count(t) {
-        if frames::identifier(t, f) == id as u16 {
-            return Some(f);
-        }
-    }
-    None
+    (0..frames::count(t)).find(|f| frames::identifier(t, *f) == id as u16)
 }

@@ -19,6 +19,7 @@ pub(crate) fn read(line: &[u8]) -> Option<Pairs>
         return None;
     }
     let mut bytes = [255; 10];
+    // Kept: how many bytes there are is told behind the loop, where an `enumerate` has no number any more.
     let mut count = 0;
     for part in line.chunks(3) {
         match part {
@@ -40,7 +41,7 @@ pub fn byte(high: u8, low: u8) -> Option<u8>
 }
 
 // The value of an upper-case hexadecimal digit.
-pub fn digit(c: u8) -> Option<u8>
+fn digit(c: u8) -> Option<u8>
     ensures { SomeIff result (digit_of c < 16) (digit_of c) }
 {
     match c {

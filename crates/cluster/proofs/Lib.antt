@@ -15,6 +15,7 @@ pub mod EntryTurn
 pub mod FieldLaws
 pub mod FieldMask
 pub mod Filling
+pub mod Finding
 pub mod FirstFault
 pub mod FrameLaws
 pub mod FrameTurn

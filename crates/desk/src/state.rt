@@ -31,8 +31,8 @@ fn pending(desk: &Desk) -> [bool; FRAMES]
     ensures { result ≡ pending_on desk.now }
 {
     let mut pending = [false; FRAMES];
-    for f in 0..FRAMES {
-        pending[f] = desk[f] == 1;
+    for (f, bit) in pending.iter_mut().enumerate() {
+        *bit = desk[f] == 1;
     }
     pending
 }
@@ -84,8 +84,8 @@ fn nine(desk: &Desk) -> [u8; 9]
     ensures { result ≡ nine_on desk.now }
 {
     let mut bytes = [0u8; 9];
-    for i in 0..9 {
-        bytes[i] = byte(desk[BYTES + i]);
+    for (i, place) in bytes.iter_mut().enumerate() {
+        *place = byte(desk[BYTES + i]);
     }
     bytes
 }
@@ -123,10 +123,8 @@ fn received(desk: &Desk) -> [Reception; SIGNALS]
     ensures { result ≡ received_on desk.now }
 {
     let mut received = [Reception::never(); SIGNALS];
-    for s in 0..SIGNALS {
-        received[s] = Reception {
-            last: chosen(desk[RECEIVED + s]),
-        };
+    for (s, reception) in received.iter_mut().enumerate() {
+        reception.last = chosen(desk[RECEIVED + s]);
     }
     received
 }
@@ -147,8 +145,8 @@ pub fn put(desk: &mut Desk, state: State)
 fn put_pending(desk: &mut Desk, pending: &[bool; FRAMES])
     ensures { desk.new ≡ with_pending pending.now desk.old }
 {
-    for f in 0..FRAMES {
-        desk[f] = u32::from(pending[f]);
+    for (f, &bit) in pending.iter().enumerate() {
+        desk[f] = u32::from(bit);
     }
 }
 
@@ -194,8 +192,8 @@ fn open_number(opened: Opened) -> u32
 fn put_nine(desk: &mut Desk, bytes: &[u8; 9])
     ensures { desk.new ≡ with_nine bytes.now desk.old }
 {
-    for i in 0..9 {
-        desk[BYTES + i] = u32::from(bytes[i]);
+    for (i, &byte) in bytes.iter().enumerate() {
+        desk[BYTES + i] = u32::from(byte);
     }
 }
 
@@ -235,7 +233,7 @@ fn put_status(desk: &mut Desk, status: Status)
 fn put_received(desk: &mut Desk, received: &[Reception; SIGNALS])
     ensures { desk.new ≡ with_received received.now desk.old }
 {
-    for s in 0..SIGNALS {
-        desk[RECEIVED + s] = number(received[s].last);
+    for (s, reception) in received.iter().enumerate() {
+        desk[RECEIVED + s] = number(reception.last);
     }
 }

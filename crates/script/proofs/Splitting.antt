@@ -9,6 +9,8 @@ use lib.Dec.{eqb}
 use Rattle.std.proofs.Common.{Option, Some, None, ◌==◌}
 use Rattle.std.proofs.lemmas.Iterator.{YieldsList}
 use Rattle.std.specs.List.{slice_split, onto_first}
+use Rattle.std.specs.declared.iter.Enumerate.{Enumerate}
+use Rattle.std.specs.Iterator.Adapters.{enumerate_source, enumerate_steps}
 use lib.ListN.{length, take, drop, length-drop}
 use lib.Seq.{drop-drop, take-length, length-take-le}
 use Rattle.scan.specs.Bytes.{index_of, index_after, slice}
@@ -60,6 +62,14 @@ module _ {S A B : Type 0} {steps : S → Option A → S → Type 0} {v : A → B
   pub no_part : (parts : List B) → YieldsList steps v s parts → steps s None t → parts ≡ []
   no_part [] y h = refl
   no_part (p ∷ parts) y h = absurd (y.runs.0 t h)
+
+-- an iterator that counts gives what the iterator that it counts gives
+module _ {S A B : Type 0} {steps : S → Option A → S → Type 0} {v : A → B} where
+  pub counted_parts : (parts : List B) (s : Enumerate S) → YieldsList steps v (enumerate_source s) parts → YieldsList (enumerate_steps steps) (λ x. v x.1) s parts
+  counted_parts [] s y = record { runs = λ x t h. y.runs x.1 (enumerate_source t) h.0 }
+  counted_parts (p ∷ parts) s y = record {
+    runs = (λ t h. y.runs.0 (enumerate_source t) h.0, λ x t h. let r = y.runs.1 x.1 (enumerate_source t) h.0 in (r.0, (counted_parts parts t (record { runs = r.1 })).runs));
+  }
 
 module _ (s : ℕ) where
   module _ (c : ℕ) (rest : List ℕ) where

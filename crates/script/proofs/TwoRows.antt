@@ -79,18 +79,18 @@ module _ (line : List ℕ) (n : ℕ) (before : List ℕ) where
 
 -- ---- the same, by the fields that an iterator gives from a place on
 
-pub record LeftRow {S : Type 0} (steps : S → Option (Bor (List ℕ)) → S → Type 0) (line : List ℕ) (at : ℕ) (words₀ : List ℕ) (of_line : S) (count next : ℕ) (words : List ℕ)
-    : Type 0 where
+pub record LeftRow {S A : Type 0} (steps : S → Option A → S → Type 0) (v : A → List ℕ) (line : List ℕ) (at : ℕ) (words₀ : List ℕ) (of_line : S) (count next : ℕ)
+    (words : List ℕ) : Type 0 where
   pub fields : List (List ℕ)
-  pub gives : YieldsList steps (λ x. x.now) of_line fields
+  pub gives : YieldsList steps v of_line fields
   pub there : fields_from 32 line next ≡ fields
   pub within : count ≤ length words
   pub size : length words ≡ length words₀
   pub rest : (r : Option Row) (after : List ℕ) → ReadsFirst line count (fields_from 32 line next) words r after
       → ReadsFirst line 0 (fields_from 32 line at) words₀ r after
 
-module _ {S : Type 0} {steps : S → Option (Bor (List ℕ)) → S → Type 0} {line : List ℕ} {at : ℕ} {words₀ : List ℕ} {of_line : S} where
-  pub row_begins : at ≤ length line → YieldsList steps (λ x. x.now) of_line (slice_split (λ b. b == 32) (drop at line)) → LeftRow steps line at words₀ of_line 0 at words₀
+module _ {S A : Type 0} {steps : S → Option A → S → Type 0} {v : A → List ℕ} {line : List ℕ} {at : ℕ} {words₀ : List ℕ} {of_line : S} where
+  pub row_begins : at ≤ length line → YieldsList steps v of_line (slice_split (λ b. b == 32) (drop at line)) → LeftRow steps v line at words₀ of_line 0 at words₀
   row_begins h y = record {
     fields = fields_of 32 (drop at line);
     gives = rw (split_fields 32 (drop at line)) at y;
@@ -100,44 +100,48 @@ module _ {S : Type 0} {steps : S → Option (Bor (List ℕ)) → S → Type 0} {
     rest = λ r after l. l;
   }
 
-  module _ {count next : ℕ} {words : List ℕ} (l : LeftRow steps line at words₀ of_line count next words) (t : S) where
+  module _ {count next : ℕ} {words : List ℕ} (l : LeftRow steps v line at words₀ of_line count next words) (t : S) where
     pub row_over : steps of_line None t → ReadsFirst line 0 (fields_from 32 line at) words₀ None words
     row_over h = l.rest None words (rw (l.there, no_part t l.fields l.gives h) (first_over line count words))
 
-    module _ (f : Bor (List ℕ)) (h : steps of_line (Some f) t) where
-      split_here : fields_from 32 line next ≡ f.now ∷ drop 1 l.fields
+    module _ (f : A) (h : steps of_line (Some f) t) where
+      split_here : fields_from 32 line next ≡ (v f) ∷ drop 1 l.fields
       split_here = l.there ∙ (part_taken t l.fields l.gives h).0
 
-      pub next_within : next + (length f.now + 1) ≤ length line + 1
-      next_within = (behind_field 32 line next f.now (drop 1 l.fields) split_here).0
+      pub next_within : next + (length (v f) + 1) ≤ length line + 1
+      next_within = (behind_field 32 line next (v f) (drop 1 l.fields) split_here).0
 
-      pub row_colon : true ≡ is_colon f.now
-          → ReadsFirst line 0 (fields_from 32 line at) words₀ (Some (record { count = count; next = next + (length f.now + 1) })) words
+      pub row_colon : true ≡ is_colon (v f)
+          → ReadsFirst line 0 (fields_from 32 line at) words₀ (Some (record { count = count; next = next + (length (v f) + 1) })) words
       row_colon e =
           l.rest _ words
           (rw split_here
-          (first_colon line count words f.now (drop 1 l.fields) (sym e) l.within (next + (length f.now + 1))
-          (sym (behind_field 32 line next f.now (drop 1 l.fields) split_here).1)))
+          (first_colon line count words (v f) (drop 1 l.fields) (sym e) l.within (next + (length (v f) + 1))
+          (sym (behind_field 32 line next (v f) (drop 1 l.fields) split_here).1)))
 
-      module _ (e : false ≡ is_colon f.now) where
+      module _ (e : false ≡ is_colon (v f)) where
         pub row_full : length words ≤ count → ReadsFirst line 0 (fields_from 32 line at) words₀ None words
-        row_full k = l.rest None words (rw split_here (first_full line count words f.now (drop 1 l.fields) (sym e) k))
+        row_full k = l.rest None words (rw split_here (first_full line count words (v f) (drop 1 l.fields) (sym e) k))
 
-        pub row_wrong : None ≡ decimal_field 65535 f.now → ReadsFirst line 0 (fields_from 32 line at) words₀ None words
-        row_wrong q = l.rest None words (rw split_here (first_wrong line count words f.now (drop 1 l.fields) (sym e) (sym q)))
+        pub row_wrong : None ≡ decimal_field 65535 (v f) → ReadsFirst line 0 (fields_from 32 line at) words₀ None words
+        row_wrong q = l.rest None words (rw split_here (first_wrong line count words (v f) (drop 1 l.fields) (sym e) (sym q)))
 
-        pub row_next : count < length words → {v : ℕ} → Some v ≡ decimal_field 65535 f.now
-            → LeftRow steps line at words₀ t (count + 1) (next + (length f.now + 1)) (set words count v)
-        row_next k {v} q =
-            let b = (behind_field 32 line next f.now (drop 1 l.fields) split_here).1 in
+        row_next : count < length words → {w : ℕ} → Some w ≡ decimal_field 65535 (v f)
+            → LeftRow steps v line at words₀ t (count + 1) (next + (length (v f) + 1)) (set words count w)
+        row_next k {w} q =
+            let b = (behind_field 32 line next (v f) (drop 1 l.fields) split_here).1 in
             record {
               fields = drop 1 l.fields;
               gives = (part_taken t l.fields l.gives h).1;
               there = sym b;
               within = simp length-set (omega arith);
               size = simp length-set l.size;
-              rest = λ r after p. l.rest r after (rw split_here (first_next line count words f.now (drop 1 l.fields) (sym e) (sym q) k (rw b p)));
+              rest = λ r after p. l.rest r after (rw split_here (first_next line count words (v f) (drop 1 l.fields) (sym e) (sym q) k (rw b p)));
             }
+
+        pub row_counted : {w n m : ℕ} → n ≡ count → m ≡ count + 1 → n < length words → Some w ≡ decimal_field 65535 (v f)
+            → LeftRow steps v line at words₀ t m (next + (length (v f) + 1)) (set words n w)
+        row_counted a b k q = rw (a, b) (row_next (rw a at k) q)
 
 -- ---- both rows
 

@@ -35,9 +35,8 @@ fn first_row(line: &[u8], at: usize, words: &mut [u16]) -> Option<Row>
     if line.len() < at {
         return None;
     }
-    let mut count: usize = 0;
     let mut next = at;
-    for field in line[at..].split(|c| *c == b' ') {
+    for (count, field) in line[at..].split(|c| *c == b' ').enumerate() {
         next += field.len() + 1;
         if is_colon(field) {
             return Some(Row { count, next });
@@ -46,7 +45,6 @@ fn first_row(line: &[u8], at: usize, words: &mut [u16]) -> Option<Row>
             return None;
         }
         words[count] = u16::read(field)?;
-        count += 1;
     }
     None
 }

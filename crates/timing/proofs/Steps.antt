@@ -49,28 +49,16 @@ module _ (t : List ℕ) where
   unfolding longest_member
   member_out l m h = rw (ne_eqb (member_list t m) l h)
 
-  -- a member that is longer takes the place of its list's longest one
-  pub longer : (m : ℕ) (ns : List ℕ) (l n : ℕ) → LongestOf t m ns → l ≡ member_list t m → n ≡ frame_length t (member_frame t m)
-      → l < 60 → get_or ns l 0 < n → LongestOf t (m + 1) (set ns l n)
-  longer m ns l n so_far e f b more = (simp length-set so_far.0, λ k. rw (add-one m) (by k))
+  -- the longer of a member and its list's longest one so far is the list's longest
+  pub longest_next : (m : ℕ) (ns : List ℕ) (l n : ℕ) → LongestOf t m ns → l ≡ member_list t m → n ≡ frame_length t (member_frame t m)
+      → l < 60 → LongestOf t (m + 1) (set ns l (max (get_or ns l 0) n))
+  longest_next m ns l n so_far e f b = (simp length-set so_far.0, λ k. rw (add-one m) (by k))
     where
-      by : (k : ℕ) → get_or (set ns l n) k 0 ≡ longest_member t k (suc m)
+      by : (k : ℕ) → get_or (set ns l (max (get_or ns l 0) n)) k 0 ≡ longest_member t k (suc m)
       by k =
           elim (ℕ_discrete k l) [
-            | yes p ↦ rw (p, get_or-set_same ns l n 0 (omega (arith, so_far.0))) (omega (arith, member_in l m (sym e), so_far.1 l))
-            | no d ↦ rw (get_or-set_other ns l k n 0 d) (so_far.1 k ∙ sym (member_out k m (λ q. d (sym (e ∙ q)))))
-          ]
-
-  -- a member that is not leaves all as they are
-  pub not_longer : (m : ℕ) (ns : List ℕ) (l n : ℕ) → LongestOf t m ns → l ≡ member_list t m → n ≡ frame_length t (member_frame t m)
-      → n ≤ get_or ns l 0 → LongestOf t (m + 1) ns
-  not_longer m ns l n so_far e f less = (so_far.0, λ k. rw (add-one m) (by k))
-    where
-      by : (k : ℕ) → get_or ns k 0 ≡ longest_member t k (suc m)
-      by k =
-          elim (ℕ_discrete k l) [
-            | yes p ↦ rw p (omega (arith, member_in l m (sym e), so_far.1 l))
-            | no d ↦ so_far.1 k ∙ sym (member_out k m (λ q. d (sym (e ∙ q))))
+            | yes p ↦ rw (p, get_or-set_same ns l (max (get_or ns l 0) n) 0 (omega (arith, so_far.0)), so_far.1 l, f) (sym (member_in l m (sym e)))
+            | no d ↦ rw (get_or-set_other ns l k (max (get_or ns l 0) n) 0 d) (so_far.1 k ∙ sym (member_out k m (λ q. d (sym (e ∙ q)))))
           ]
 
   -- ---- an entry's longest frame

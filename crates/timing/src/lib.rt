@@ -74,9 +74,7 @@ fn longest_members(t: Right) -> [u16; Limits::MEMBERS]
     for m in 0..members::count(t.words) {
         let l = members::list(t.words, m) as usize;
         let bytes = frames::length(t.words, members::frame(t.words, m));
-        if longest[l] < bytes {
-            longest[l] = bytes;
-        }
+        longest[l] = longest[l].max(bytes);
     }
     longest
 }
