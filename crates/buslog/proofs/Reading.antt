@@ -91,7 +91,8 @@ pub record LeftPairs (line rest : List ℕ) (size n : ℕ) (bytes : List ℕ) : 
   pub three : size ≡ 3
   pub whole : 0 < length rest → length rest % 3 ≡ 2
   pub room : 3 * n + length rest ≤ 30
-  pub some : length rest ≡ 0 → 1 ≤ n
+  pub going : 0 < length rest → 3 * n + length rest ≡ length line
+  pub gone : length rest ≡ 0 → 3 * n ≡ length line + 1
   pub ten : length bytes ≡ 10
   pub pairs : are_pairs line ≡ go_on rest
   pub front : pair_bytes line ≡ take n bytes ++ pair_bytes rest
@@ -101,7 +102,8 @@ pairs_begin line bytes h e t = record {
   three = refl;
   whole = λ k. e;
   room = omega arith;
-  some = λ k. absurd (omega arith);
+  going = λ k. omega arith;
+  gone = λ k. absurd (omega arith);
   ten = t;
   pairs = sym (more line (omega arith));
   front = refl;
@@ -146,7 +148,8 @@ module _ (line : List ℕ) (n : ℕ) (bytes : List ℕ) where
     three = refl;
     whole = λ k. absurd (omega arith);
     room = omega (arith, l.room);
-    some = λ k. omega arith;
+    going = λ k. absurd (omega arith);
+    gone = λ k. omega (arith, l.going (omega arith));
     ten = simp length-set l.ten;
     pairs = l.pairs ∙ is_pair_lem a c q;
     front = turn bytes n b (omega (arith, l.room, l.ten)) _ _ _ l.front (ap (λ (k : ℕ). k ∷ []) (sym (is_byte a c q)));
@@ -161,7 +164,8 @@ module _ (line : List ℕ) (n : ℕ) (bytes : List ℕ) where
         three = refl;
         whole = λ k. w;
         room = omega (arith, l.room);
-        some = λ k. omega arith;
+        going = λ k. omega (arith, l.going (omega arith));
+        gone = λ k. absurd (omega arith);
         ten = simp length-set l.ten;
         pairs = l.pairs ∙ pairs_more a c d rest (is_pair_lem a c q) (s refl) ∙ sym (more rest (omega arith));
         front = turn bytes n b (omega (arith, l.room, l.ten)) _ _ _ l.front (ap (λ (k : ℕ). k ∷ pair_bytes rest) (sym (is_byte a c q)));
@@ -185,14 +189,21 @@ module _ (line : List ℕ) (n : ℕ) (bytes : List ℕ) where
     pub no_space : length x ≡ 3 → (get_or x 2 0 ≡ 32 → ⊥) → line_bytes line ≡ []
     no_space e q = is_text line (by_space x after here e q)
 
-    pub next_pair : {b : ℕ} → Some b ≡ byte_of (get_or x 0 0) (get_or x 1 0) → (length x ≡ 3 → get_or x 2 0 ≡ 32) → LeftPairs line after size2 (n + 1) (set bytes n b)
+    next_pair : {b : ℕ} → Some b ≡ byte_of (get_or x 0 0) (get_or x 1 0) → (length x ≡ 3 → get_or x 2 0 ≡ 32) → LeftPairs line after size2 (n + 1) (set bytes n b)
     next_pair {b} q s = let z : size2 ≡ 3 = step.0 ∙ l.three in rw z (by_pair x after b here taken left (sym q) s)
 
-  pub all_pairs : (rest : List ℕ) {size : ℕ} → LeftPairs line rest size n bytes → length line ≤ 29 → length rest ≡ 0 → Holds line (record { count = n; bytes = bytes })
+    pub next_counted : {k m b : ℕ} → k ≡ n → m ≡ n + 1 → Some b ≡ byte_of (get_or x 0 0) (get_or x 1 0) → (length x ≡ 3 → get_or x 2 0 ≡ 32)
+        → LeftPairs line after size2 m (set bytes k b)
+    next_counted d e q s = rw (d, e) (next_pair q s)
+
+  pub all_pairs : (rest : List ℕ) {size k : ℕ} → LeftPairs line rest size n bytes → length line ≤ 29 → length rest ≡ 0 → 3 * k ≡ length line + 1
+      → Holds line (record { count = k; bytes = bytes })
   unfolding pair_bytes
-  all_pairs [] l h e = record {
-    within = omega (arith, l.room, l.ten);
-    some = l.some refl;
-    front = sym (is_bytes_lem line h l.pairs ∙ l.front ∙ append-nil (take n bytes));
-  }
-  all_pairs (c ∷ cs) l h e = absurd (omega arith)
+  all_pairs [] {k = k} l h e q =
+      let z : k ≡ n = omega (arith, l.gone refl) in
+      rw z record {
+        within = omega (arith, l.room, l.ten);
+        some = omega (arith, l.gone refl);
+        front = sym (is_bytes_lem line h l.pairs ∙ l.front ∙ append-nil (take n bytes));
+      }
+  all_pairs (c ∷ cs) l h e q = absurd (omega arith)

@@ -18,15 +18,14 @@ pub(crate) fn read(line: &[u8]) -> Option<Pairs>
     if 29 < line.len() || line.len() % 3 != 2 {
         return None;
     }
+    let parts = line.chunks(3);
+    let count = parts.len();
     let mut bytes = [255; 10];
-    // Kept: how many bytes there are is told behind the loop, where an `enumerate` has no number any more.
-    let mut count = 0;
-    for part in line.chunks(3) {
+    for (k, part) in parts.enumerate() {
         match part {
-            [high, low] | [high, low, b' '] => bytes[count] = byte(*high, *low)?,
+            [high, low] | [high, low, b' '] => bytes[k] = byte(*high, *low)?,
             _ => return None,
         }
-        count += 1;
     }
     Some(Pairs { count, bytes })
 }
