@@ -10,12 +10,12 @@ use wire::{checksum, identifier};
 
 // Builds a protected identifier.
 pub(crate) fn pid(desk: &Desk) -> Reply {
-    Reply::made(Text::PID, identifier::build(byte(desk[NUMBERS])))
+    Reply::number(Text::PID, identifier::build(byte(desk[NUMBERS])))
 }
 
 // Reads a protected identifier.
 pub(crate) fn id(desk: &Desk) -> Reply {
-    Reply::made(Text::ID, identifier::read(byte(desk[NUMBERS])))
+    Reply::number(Text::ID, identifier::read(byte(desk[NUMBERS])))
 }
 
 // Makes the checksum of the bytes that end the line under an identifier.
@@ -25,7 +25,7 @@ pub(crate) fn sum(model: Model, line: &[u8], desk: &Desk) -> Reply {
         return Reply::malformed();
     };
     let n = within(count, &data);
-    Reply::made(
+    Reply::number(
         Text::CHECKSUM,
         checksum::of(byte(desk[NUMBERS]), model, &data[..n]),
     )

@@ -77,9 +77,9 @@ impl Reply {
     }
 
     // A call that gives a number: its text with the number, or the refusal.
-    pub(crate) fn number(text: Text, answer: Result<u16, Refusal>) -> Reply {
+    pub(crate) fn number<N: Into<u32>>(text: Text, answer: Result<N, Refusal>) -> Reply {
         match answer {
-            Ok(n) => Reply::of(text, n as u32),
+            Ok(n) => Reply::of(text, n.into()),
             Err(refusal) => Reply::refused(refusal),
         }
     }
@@ -150,14 +150,6 @@ impl Reply {
         match answer {
             Ok(None) => Reply::alone(Text::HOLDS),
             Ok(Some(e)) => Reply::of(Text::SHORT, e as u32),
-            Err(refusal) => Reply::refused(refusal),
-        }
-    }
-
-    // A byte that was made.
-    pub(crate) fn made(text: Text, answer: Result<u8, Refusal>) -> Reply {
-        match answer {
-            Ok(byte) => Reply::of(text, byte as u32),
             Err(refusal) => Reply::refused(refusal),
         }
     }

@@ -43,7 +43,7 @@ fn rows(t: Right, number: u64, text: &[u8], out: &mut [u8]) -> Written
             return reported_so_far(lines, used, put);
         }
         let verdict = of_line(t, &text[used..end]);
-        let line = std::num::wrapping_add_u64(number, lines as u64);
+        let line = number.wrapping_add(lines as u64);
         put += row::put(&mut out[put..], line, verdict);
         lines += 1;
         used = end + 1;

@@ -72,7 +72,7 @@ pub const SIGNALS: usize = 256;
 
 pub const RECEIVED: usize = 128;
 
-// Kept: the desk is an array of numbers, so that a case has its number there.
+// Kept: the desk is an array of numbers, and `take` and `put` of `state` say of each case which one it is (`state_on`, `with_state`).
 // In the place of an entry, a schedule or a placement: none; in that of a frame: nothing is open, or a transfer that is of no frame.
 pub const NONE: u32 = 65536;
 

@@ -104,14 +104,6 @@ module _ (log : Log) (text out : List ℕ) (r : Log) (text_after out_after : Lis
         came = λ n some _. absurd (none-some _ some);
       }
 
-  pub goes_over : Ends log (take log.kept text) out r out_after → Goes log (Some 0) text out r text_after out_after
-  goes_over ends =
-      record {
-        failed = λ bad. absurd (none-some _ (sym bad));
-        over = λ _. ends;
-        came = λ n some h. let z : 0 ≡ n = cc in absurd (omega arith);
-      }
-
   pub goes_on : (n : ℕ) → 1 ≤ n → log.kept ≤ length text
       → Reports log (take (log.kept + n) text) out r text_after out_after → Goes log (Some n) text out r text_after out_after
   goes_on n h within reports =

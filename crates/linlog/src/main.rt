@@ -13,8 +13,6 @@ use buslog::report;
 const TEXT_BYTES: usize = 16384;
 
 // The rows of so much text always fit: 33 characters for each of its characters.
-// Kept: text and rows as two parameters; as fields of a struct, what `self.text` is behind the loan of a part of it, in `whole_lines`, and
-// its length after a turn, in `run`, stayed open.
 const ROW_BYTES: usize = 33 * TEXT_BYTES;
 
 // How far the log was reported.
@@ -84,6 +82,8 @@ fn started() -> Log
 }
 
 // Turn after turn, from line 1 on, until one ends the log; nothing says that the input ends, and no run uses up so many turns.
+// Kept: text and rows as two parameters; as fields of a struct, what `self.text` is behind the loan of a part of it, in `whole_lines`, and
+// its length after a turn, here, stayed open.
 fn run(rt: HostRuntime, text: &mut [u8; TEXT_BYTES], out: &mut [u8; ROW_BYTES])
     ensures { Runs text.old out.old text.new out.new }
 {

@@ -5,6 +5,7 @@ ghost use Rattle.script.specs.Fields.{field_of, decimal_field, pair_field};
 use buslog::pairs;
 
 // What a field is: the word that the form has, or a number.
+// Kept: `read` answers an Option of it, and in an Option of an Option a word would be one more none.
 #[derive(Clone, Copy)]
 pub(crate) enum Field {
     Word,

@@ -53,6 +53,7 @@ pub fn read_full(rt: HostRuntime, bytes: &mut [u8]) -> usize
 }
 
 // Writes bytes to standard output, and tells whether that went well; a failure is told on standard error behind some words.
+// Kept: a bool; what failed is told here, so that an error would have nothing in it.
 pub fn write_all(rt: HostRuntime, what: &str, bytes: &[u8]) -> bool {
     match rt.write_all(bytes) {
         Ok(()) => true,

@@ -54,14 +54,6 @@ framed header m p at from n h f e q =
     rw (q, all, here, l, take-append_seam, drop-append_seam, drop-replicate, k)
     (ap (λ (ds : List ℕ). header ++ ds) (data_copied m at (8 - length header)))
 
--- one byte more is copied
-pub copy_turn : (to₀ from to : List ℕ) (i : ℕ) → i < length from → i < length to₀ → to ≡ take i from ++ drop i to₀ →
-    set to i (get_or from i 0) ≡ take (i + 1) from ++ drop (i + 1) to₀
-copy_turn to₀ from to i h h₀ q =
-    let s : set (take i from ++ (get_or to₀ i 0 ∷ drop (suc i) to₀)) i (get_or from i 0) ≡ take i from ++ (get_or from i 0 ∷ drop (suc i) to₀) =
-    set_at (take i from) (get_or to₀ i 0) (drop (suc i) to₀) (get_or from i 0) i (length-take-le i from (omega arith)) in
-    rw (q, drop-cons to₀ i 0 h₀, s, add-one, take-suc from i 0 h) (sym (append_snoc (take i from) (get_or from i 0) (drop (suc i) to₀)))
-
 -- the bytes of a list between two places
 pub part : (f : List ℕ) (from n : ℕ) → mid_of from (from + n - from) f ≡ take n (drop from f)
 part f from n = let e : from + n - from ≡ n = omega arith in rw e

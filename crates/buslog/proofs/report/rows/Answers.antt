@@ -20,7 +20,7 @@ loop-out-preserved c =
     c.find-end.ensures.index
     (omega (arith, c.find-end.ensures.at_most (omega arith)))
     (omega (arith, c.loop-out.invariant.size)) _ _ _ _ _
-    c.of_line-verdict.ensures c.wrapping_add_u64-line.ensures.value
+    c.of_line-verdict.ensures refl
     c.put-put.ensures c.put-put.auto.out refl
 
 pub returns : goal.returns
