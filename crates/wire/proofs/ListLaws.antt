@@ -12,7 +12,6 @@ use Rattle.wire.specs.Identifier.{protected_byte}
 use Rattle.wire.specs.Parts.{Listed}
 use Rattle.wire.proofs.Below.{all_below, below}
 use Rattle.wire.proofs.IdentifierExactly.{Parity, protected_exactly}
-use Rattle.wire.proofs.IdentifierLaws.{protected_identifier}
 
 -- the number at a place is the protected identifier by the formula
 unfoldable pub right_at : List ℕ → ℕ → Bool
@@ -31,18 +30,3 @@ listed_exactly list = (
   (λ l. (l.whole, (λ id h. (protected_exactly id _ h).0 (l.right id h)))),
   (λ g. record { whole = g.0; right = λ id h. (protected_exactly id _ h).1 (g.1 id h) }),
 )
-
--- ---- what a search in the list finds
-
-module _ (list : List ℕ) (l : Listed list) (k : ℕ) (h : k < 64) where
-  -- the six identifier bits of a number of the list are its place
-  place : get_or list k 0 % 64 ≡ k
-  place = rw (l.right k h) (protected_identifier k h)
-
-  -- so the number with the six bits of an identifier is its protected identifier
-  pub found : (id : ℕ) → get_or list k 0 % 64 ≡ id → get_or list k 0 ≡ protected_byte id
-  found id e = let same : k ≡ id = omega (arith, place) in rw (l.right k h, same)
-
-  -- and a number with other bits stands at another place
-  pub passed : (id : ℕ) → (get_or list k 0 % 64 ≡ id → ⊥) → k ≡ id → ⊥
-  passed id other e = other (omega (arith, place))

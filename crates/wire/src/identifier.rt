@@ -43,25 +43,13 @@ pub(crate) fn protected_byte(id: u8) -> u8
     id + 64 * p0 + 128 * p1
 }
 
-// The number of a list of protected identifiers with these six bits, searched for in both halves at once: of such a search the compiler
-// makes a table, and for an index it would copy the list at every call.
-pub(crate) fn protected_in(list: &[u8], id: u8) -> u8
+// The protected identifier of an identifier, as a list of them has it.
+pub(crate) fn protected_in(list: &[u8; 64], id: u8) -> u8
     requires listed { Listed list.now }
     requires id_bound { id < 64 }
     ensures { result ≡ protected_byte id }
 {
-    let half = list.len() / 2;
-    for i in 0..half {
-        let lower = list[i];
-        if lower % 64 == id {
-            return lower;
-        }
-        let upper = list[half + i];
-        if upper % 64 == id {
-            return upper;
-        }
-    }
-    0
+    list[id as usize]
 }
 
 // ISO 17987-3, Table A.2: the protected identifier of each identifier, which stands beside it.
