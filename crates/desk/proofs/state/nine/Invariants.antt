@@ -6,4 +6,4 @@ use Rattle.desk.specs.Taken.{byte_at, each}
 use Rattle.desk.proofs.state.nine.Given as goal
 
 abbrev pub invariant-loop-i : goal.invariant-loop-i
-invariant-loop-i l = (length l.bytes ≡ 9) × (take l.i l.bytes ≡ each (λ k. byte_at l.desk (65 + k)) l.i)
+invariant-loop-i l = (length l.place-items ≡ 9) × (take l.i l.place-items ≡ each (λ k. byte_at l.desk (65 + k)) l.i)

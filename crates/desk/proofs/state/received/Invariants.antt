@@ -12,4 +12,4 @@ abbrev pub on : List ℕ → ℕ → Reception
 on d i = reception_of (at d (128 + i))
 
 abbrev pub invariant-loop-s : goal.invariant-loop-s
-invariant-loop-s l = (length l.received ≡ 256) × (take l.s l.received ≡ each (on l.desk) l.s)
+invariant-loop-s l = (length l.reception-items ≡ 256) × (take l.s l.reception-items ≡ each (on l.desk) l.s)
