@@ -18,7 +18,8 @@ use Rattle.cluster.specs.Table.{placement_count, placement_signal, placement_fra
 use Rattle.cluster.specs.Values.{touches, first_placement, placement_in, signal_published}
 use Rattle.cluster.proofs.Accepted.{placement_right_lem, all_placed_lem}
 use Rattle.cluster.proofs.Clauses.{signal_says, frame_says, offset_says}
-use Rattle.cluster.proofs.CountingUp.{CountsUp, up_each}
+use Rattle.cluster.proofs.CountingUp.{up_each}
+use Rattle.cluster.specs.Passed.{CountsUp}
 use Rattle.cluster.proofs.EarlierPlacement.{same_test, none_earlier}
 use Rattle.cluster.proofs.FrameLaws.{frame_length_high}
 use Rattle.cluster.proofs.Searching.{first_holds, first_least}

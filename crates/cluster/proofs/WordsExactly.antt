@@ -22,7 +22,8 @@ use Rattle.cluster.specs.Table.{entry_schedule, entry_kind, entry_target, entry_
 use Rattle.cluster.proofs.Any.{none_below, any_found, any_at, any_none}
 use Rattle.cluster.proofs.ColumnsExactly.{le_exactly, lt_exactly, and_true, and_exactly, within_exactly, new_exactly, counts_exactly}
 use Rattle.cluster.proofs.ColumnsExactly.{identifier_exactly, offset_exactly, width_exactly, start_exactly, target_exactly}
-use Rattle.cluster.proofs.CountingUp.{CountsUp, up_below, up_each}
+use Rattle.cluster.proofs.CountingUp.{up_below, up_each}
+use Rattle.cluster.specs.Passed.{CountsUp}
 use Rattle.cluster.proofs.EarlierPlacement.{same_test, none_earlier}
 use Rattle.cluster.proofs.FieldLaws.{published_exactly}
 use Rattle.cluster.proofs.InWords.{F, S, M, E, P, signals_at, placements_at, members_at, entries_at, identifier_word, length_word, flags_word}

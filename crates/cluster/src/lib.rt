@@ -11,6 +11,7 @@ mod marks;
 pub mod members;
 pub mod placements;
 pub mod right;
+mod section;
 pub mod signals;
 mod table;
 pub mod values;
