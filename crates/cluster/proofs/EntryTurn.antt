@@ -68,7 +68,7 @@ module _ (t : List ℕ) (e : ℕ) (x : Passed) (p : EntriesPassed t e x) (more :
   agrees : Agrees t (entry_at t e) 0 due_seen (entry_right t e)
   unfolding entry_columns entry_right entry_schedule entry_kind entry_target entry_delay
   agrees = (
-    (λ r. omega (arith, p.few, p.entry_limit, more, follows_high x.schedules schedule_read r)),
+    (λ r. omega (arith, p.few, p.limits.entries, more, follows_high x.schedules schedule_read r)),
     (λ s. (
       rw (s, p.schedules),
       λ _. (
@@ -76,7 +76,7 @@ module _ (t : List ℕ) (e : ℕ) (x : Passed) (p : EntriesPassed t e x) (more :
         (λ k. (
           rw k,
           λ _. (
-            (λ r. target_below x.frames x.lists kind_read target_read (omega (arith, p.frames, p.frame_limit)) p.lists_high r),
+            (λ r. target_below x.frames x.lists kind_read target_read (omega (arith, p.frames, p.limits.frames)) p.lists_high r),
             (λ v. (
               rw (k, v, p.frames, p.lists),
               λ _. ((λ r. omega (arith, within_high _ 65535 delay_read r)), (λ d. (rw d, λ _. refl))),
@@ -112,11 +112,7 @@ module _ (t : List ℕ) (e : ℕ) (x : Passed) (p : EntriesPassed t e x) (more :
 
     pub passes : EntriesPassed t (e + 1) (record { first = x.first; frames = x.frames; lists = x.lists; schedules = get_or w 0 0 + 1 })
     passes = record {
-      frame_limit = p.frame_limit;
-      signal_limit = p.signal_limit;
-      placement_limit = p.placement_limit;
-      member_limit = p.member_limit;
-      entry_limit = p.entry_limit;
+      limits = p.limits;
       first = p.first;
       frames = p.frames;
       lists = p.lists;

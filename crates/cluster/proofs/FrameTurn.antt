@@ -9,16 +9,16 @@ use lib.ListN.{get_or, set, replicate}
 use Rattle.cluster.specs.Check.{fault, faults}
 use Rattle.cluster.specs.Columns.{frame_columns}
 use Rattle.cluster.specs.Passed.{FramesPassed}
-use Rattle.cluster.specs.Read.{IsRecord, due, leading}
+use Rattle.cluster.specs.Read.{InLimits, IsRecord, due, leading}
 use Rattle.cluster.specs.Right.{frame_right}
-use Rattle.cluster.specs.Table.{most_frames, identifiers, frame_count, frame_words, frame_at, word, identifier, frame_length, flags}
+use Rattle.cluster.specs.Table.{identifiers, frame_words, frame_at, word, identifier, frame_length, flags}
 use Rattle.cluster.specs.declared.frames.Passed.{Passed}
 use Rattle.cluster.proofs.Clauses.{within_high, identifier_says}
 use Rattle.cluster.proofs.Scan.{Agrees, leading_all, all_there, stops_at, goes_to}
 use Rattle.cluster.proofs.UsedMarks.{unmarked, marked}
 
-pub none_passed : (t : List ℕ) → frame_count t ≤ most_frames → FramesPassed t 0 (record { used = replicate identifiers false })
-none_passed t few = record { frames = few; used = unmarked identifiers (identifier t) }
+pub none_passed : (t : List ℕ) → InLimits t → FramesPassed t 0 (record { used = replicate identifiers false })
+none_passed t limits = record { limits = limits; used = unmarked identifiers (identifier t) }
 
 module _ (t : List ℕ) (f : ℕ) (x : Passed) (p : FramesPassed t f x) (w : List ℕ) (read : IsRecord t (frame_at f) frame_words w) where
   -- the record's words as they are read, with the identifier's mark
@@ -67,6 +67,6 @@ module _ (t : List ℕ) (f : ℕ) (x : Passed) (p : FramesPassed t f x) (w : Lis
 
     pub passes : get_or w 0 0 < identifiers → FramesPassed t (f + 1) (record { used = set x.used (get_or w 0 0) true })
     passes below = record {
-      frames = p.frames;
+      limits = p.limits;
       used = rw identifier_is (marked identifiers (identifier t) f x.used p.used (rw identifier_is at below));
     }

@@ -8,9 +8,9 @@ use lib.ListN.{get_or, set, replicate}
 use Rattle.cluster.specs.Check.{fault, faults}
 use Rattle.cluster.specs.Columns.{follows, member_columns}
 use Rattle.cluster.specs.Passed.{MembersPassed}
-use Rattle.cluster.specs.Read.{RecordsBefore, IsRecord, due, leading}
+use Rattle.cluster.specs.Read.{InLimits, RecordsBefore, IsRecord, due, leading}
 use Rattle.cluster.specs.Right.{member_right}
-use Rattle.cluster.specs.Table.{most_frames, most_members, most_placements, published, frame_count, member_count, placement_count}
+use Rattle.cluster.specs.Table.{most_frames, published, frame_count, member_count}
 use Rattle.cluster.specs.Table.{member_words, member_at, word, member_list, member_frame}
 use Rattle.cluster.specs.declared.members.Passed.{Passed}
 use Rattle.cluster.proofs.Clauses.{member_says}
@@ -18,12 +18,11 @@ use Rattle.cluster.proofs.Counting.{counted_none, counted_next, follows_high}
 use Rattle.cluster.proofs.Scan.{Agrees, leading_all, all_there, stops_at, goes_to}
 use Rattle.cluster.proofs.UsedMarks.{unmarked, marked}
 
-pub none_passed : (t : List ℕ) (first : ℕ) → RecordsBefore t → placement_count t ≤ most_placements → member_count t ≤ most_members → first ≡ member_at t 0
+pub none_passed : (t : List ℕ) (first : ℕ) → InLimits t → RecordsBefore t → first ≡ member_at t 0
     → MembersPassed t 0 (record { first = first; listed = replicate most_frames false; lists = 0 })
-none_passed t first records placements members at = record {
+none_passed t first limits records at = record {
+  limits = limits;
   records = records;
-  placements = placements;
-  members = members;
   first = at;
   listed = unmarked most_frames (member_frame t);
   lists = sym (counted_none (member_list t) 0 refl);
@@ -60,7 +59,7 @@ module _ (t : List ℕ) (m : ℕ) (x : Passed) (p : MembersPassed t m x) (more :
   agrees : Agrees t (member_at t m) 0 due_seen (member_right t m)
   unfolding member_columns member_right member_list member_frame
   agrees = (
-    (λ e. omega (arith, p.few, p.members, more, follows_high x.lists list_read e)),
+    (λ e. omega (arith, p.few, p.limits.members, more, follows_high x.lists list_read e)),
     (λ l. (
       rw (l, p.lists),
       λ _. (
@@ -98,9 +97,8 @@ module _ (t : List ℕ) (m : ℕ) (x : Passed) (p : MembersPassed t m x) (more :
     pub passes : get_or w 1 0 < frame_count t
         → MembersPassed t (m + 1) (record { first = x.first; listed = set x.listed (get_or w 1 0) true; lists = get_or w 0 0 + 1 })
     passes below = record {
+      limits = p.limits;
       records = p.records;
-      placements = p.placements;
-      members = p.members;
       first = p.first;
       listed = rw are.1 (marked most_frames (member_frame t) m x.listed p.listed (omega (arith, are.1, below, p.records.frames)));
       lists = rw are.0 (sym (counted_next (member_list t) m));

@@ -16,9 +16,9 @@ use Rattle.signal.specs.Signal.{inside}
 use Rattle.cluster.specs.Check.{fault, faults}
 use Rattle.cluster.specs.Columns.{follows, offset_right, placement_signal_right, placement_frame_right, placement_offset_right, placement_columns}
 use Rattle.cluster.specs.Passed.{unmarked, last_of, occupied_of, mixes, CountsUp, PlacementsPassed, PlacedBefore, last_in, frame_before}
-use Rattle.cluster.specs.Read.{RecordsBefore, IsRecord, due, leading, hits}
+use Rattle.cluster.specs.Read.{InLimits, RecordsBefore, IsRecord, due, leading, hits}
 use Rattle.cluster.specs.Right.{frame_bits, again, mixed, sticks_out, overlaps, placement_right, counts_up}
-use Rattle.cluster.specs.Table.{most_frames, most_placements, frame_count, frame_length, signal_count, signal_width, is_array, counted}
+use Rattle.cluster.specs.Table.{most_frames, frame_count, frame_length, signal_count, signal_width, is_array, counted}
 use Rattle.cluster.specs.Table.{placement_count, placement_words, placement_at, placement_signal, placement_frame, placement_offset, placement_width}
 use Rattle.cluster.specs.declared.placements.Mark.{Mark}
 use Rattle.cluster.specs.declared.placements.Passed.{Passed}
@@ -31,14 +31,14 @@ use Rattle.cluster.proofs.StickingOut.{out_is}
 use Rattle.cluster.proofs.UsedMarks.{get_d_same}
 use Rattle.cluster.proofs.Widths.{offset_below, width_range}
 
-pub none_passed : (t : List ℕ) (first : ℕ) → RecordsBefore t → placement_count t ≤ most_placements → first ≡ placement_at t 0
+pub none_passed : (t : List ℕ) (first : ℕ) → InLimits t → RecordsBefore t → first ≡ placement_at t 0
     → PlacementsPassed t 0 (record { first = first; marks = replicate most_frames unmarked; placed = 0; frame = 0 })
 unfolding frame_before last_in
-none_passed t first records placements at =
+none_passed t first limits records at =
     let none = get_d_same most_frames unmarked in
     record {
+      limits = limits;
       records = records;
-      placements = placements;
       first = at;
       size = length-replicate most_frames unmarked;
       bits = none_marked t _ (λ f. ap Mark.occupied (none f));
@@ -265,8 +265,8 @@ module _ (t : List ℕ) (k : ℕ) (x : Passed) (p : PlacementsPassed t k x) (mor
           → PlacementsPassed t (k + 1) next
       unfolding placement_width
       passes put = record {
+        limits = p.limits;
         records = p.records;
-        placements = p.placements;
         first = p.first;
         size = rw length-set p.size;
         bits =

@@ -91,6 +91,22 @@ all_there t at k (seen ∷ more) (right ∷ rights) a h =
     let w = due_is t (position at k) (a.0 h.0) in
     (w, all_there t at (suc k) more rights ((a.1 w).1 h.0) h.1)
 
+-- the words of a record that are all seen as right reach to its end
+reaches : (t : List ℕ) (at k : ℕ) (seen rights : List Bool) → Agrees t at k seen rights → AllTrue seen → 0 < length seen
+    → at + (k + length seen) ≤ length t
+reaches t at k [] rights a h some = absurd (omega arith)
+reaches t at k (seen ∷ more) [] a h some = absurd a
+reaches t at k (seen ∷ []) (right ∷ rights) a h some = omega (arith, position_is at k, there t (position at k) (a.0 h.0))
+reaches t at k (seen ∷ next ∷ more) (right ∷ rights) a h some =
+    let w = due_is t (position at k) (a.0 h.0) in
+    omega (arith, reaches t at (suc k) (next ∷ more) rights ((a.1 w).1 h.0) h.1 (omega arith))
+
+-- so one that is cut off has a word that is not
+pub cut_short : (t : List ℕ) (at : ℕ) (seen rights : List Bool) → Agrees t at 0 seen rights → 0 < length seen → length t < at + length seen
+    → leading seen < length seen
+cut_short t at seen rights a some short =
+    order (leading seen) (length seen) (λ l. l) (λ h. absurd (omega (arith, reaches t at 0 seen rights a (leading_all seen h) some)))
+
 module _ (t : List ℕ) (at : ℕ) (rest : List Bool) where
   forward : (k : ℕ) (right : Bool) (rights : List Bool) → due t (position at k) < 65536 → (due t (position at k) ≡ word t (position at k) → right ≡ true)
       → faults t (position at k) (right ∷ rights ++ rest) ≡ faults t (position at (suc k)) (rights ++ rest)

@@ -9,9 +9,8 @@ use Rattle.cluster.specs.declared.placements.Mark.{Mark}
 use Rattle.cluster.specs.declared.placements.Passed.{Passed}
 use Rattle.cluster.specs.declared.signals.Passed as signal
 use Rattle.cluster.specs.Places.{any_below}
-use Rattle.cluster.specs.Read.{RecordsBefore}
-use Rattle.cluster.specs.Table.{most_frames, most_signals, most_members, most_entries, most_placements, identifiers, counted, list_count}
-use Rattle.cluster.specs.Table.{frame_count, signal_count, member_count, entry_count, placement_count, signal_at, member_at, entry_at}
+use Rattle.cluster.specs.Read.{InLimits, RecordsBefore}
+use Rattle.cluster.specs.Table.{most_frames, identifiers, counted, frame_count, signal_count, list_count, signal_at, member_at, entry_at}
 use Rattle.cluster.specs.Right.{counts_up, mixed, occupied_before}
 use Rattle.cluster.specs.Table.{placement_at, published, placement_signal, placement_frame}
 use Rattle.cluster.specs.Table.{identifier, member_list, member_frame, entry_schedule}
@@ -22,20 +21,18 @@ Marks size key n marks = (length marks ≡ size) × ((x : ℕ) → get_or marks 
 
 -- the first f frames passed
 pub record FramesPassed (t : List ℕ) (f : ℕ) (x : frame.Passed) : Type 0 where
-  pub frames : frame_count t ≤ most_frames
+  pub limits : InLimits t
   pub used : Marks identifiers (identifier t) f x.used
 
 -- the first s signals passed
 pub record SignalsPassed (t : List ℕ) (s : ℕ) (x : signal.Passed) : Type 0 where
-  pub frames : frame_count t ≤ most_frames
-  pub signals : signal_count t ≤ most_signals
+  pub limits : InLimits t
   pub first : x.first ≡ signal_at t 0
 
 -- the first m members passed
 pub record MembersPassed (t : List ℕ) (m : ℕ) (x : member.Passed) : Type 0 where
+  pub limits : InLimits t
   pub records : RecordsBefore t
-  pub placements : placement_count t ≤ most_placements
-  pub members : member_count t ≤ most_members
   pub first : x.first ≡ member_at t 0
   pub listed : Marks most_frames (member_frame t) m x.listed
   pub lists : x.lists ≡ counted (member_list t) m
@@ -43,11 +40,7 @@ pub record MembersPassed (t : List ℕ) (m : ℕ) (x : member.Passed) : Type 0 w
 
 -- the first e entries passed
 pub record EntriesPassed (t : List ℕ) (e : ℕ) (x : entry.Passed) : Type 0 where
-  pub frame_limit : frame_count t ≤ most_frames
-  pub signal_limit : signal_count t ≤ most_signals
-  pub placement_limit : placement_count t ≤ most_placements
-  pub member_limit : member_count t ≤ most_members
-  pub entry_limit : entry_count t ≤ most_entries
+  pub limits : InLimits t
   pub first : x.first ≡ entry_at t 0
   pub frames : x.frames ≡ frame_count t
   pub lists : x.lists ≡ list_count t
@@ -98,8 +91,8 @@ BitMarks t n bits = (f j : ℕ) → j < 64 → bit (bits f) j ≡ occupied_befor
 
 -- the first k placements passed: their bits and signals are marked, their signals counted, and each signal has one publisher
 pub record PlacementsPassed (t : List ℕ) (k : ℕ) (x : Passed) : Type 0 where
+  pub limits : InLimits t
   pub records : RecordsBefore t
-  pub placements : placement_count t ≤ most_placements
   pub first : x.first ≡ placement_at t 0
   pub size : length x.marks ≡ most_frames
   pub bits : BitMarks t k (occupied_of x)

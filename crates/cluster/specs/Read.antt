@@ -1,7 +1,8 @@
 -- What the steps of the check read and compute; only private contracts cite this.
 use Rattle.std.specs.Prelude.{ℕ, zero, suc, ◌+◌, ◌*◌, ◌<◌, ◌≤◌, ◌≡◌, Bool, true, cond, List, [], ◌∷◌, ltb, length, get_or}
 use Rattle.wire.specs.Bits.{bit}
-use Rattle.cluster.specs.Table.{most_frames, most_signals, word, frame_count, frame_length, signal_count, signal_width, is_array, placement_at}
+use Rattle.cluster.specs.Table.{most_frames, most_signals, most_members, most_entries, most_placements, word, frame_length, signal_width, is_array, placement_at}
+use Rattle.cluster.specs.Table.{frame_count, signal_count, member_count, entry_count, placement_count}
 use Rattle.cluster.specs.Columns.{width_right}
 use Rattle.cluster.specs.Places.{any_below}
 
@@ -26,6 +27,14 @@ leading (right ∷ rest) = cond right (suc (leading rest)) 0
 -- some bit of a field is set in the number of the occupied bits
 unfoldable pub hits : ℕ → ℕ → ℕ → Bool
 hits bits offset width = any_below width (λ k. bit bits (offset + k))
+
+-- no count is above its limit
+pub record InLimits (t : List ℕ) : Type 0 where
+  pub frames : frame_count t ≤ most_frames
+  pub signals : signal_count t ≤ most_signals
+  pub members : member_count t ≤ most_members
+  pub entries : entry_count t ≤ most_entries
+  pub placements : placement_count t ≤ most_placements
 
 -- the header, the frames and the signals are there and right, as far as the records behind them go by them
 pub record RecordsBefore (t : List ℕ) : Type 0 where

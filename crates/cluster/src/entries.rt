@@ -5,12 +5,11 @@ ghost use Rattle.cluster.specs.Columns.{target_right};
 ghost use Rattle.cluster.specs.Lists.{first_entry, next_entry};
 ghost use Rattle.cluster.specs.Passed.{EntriesPassed};
 ghost use Rattle.cluster.specs.Right.{entry_right};
-ghost use Rattle.cluster.specs.Table.{most_frames, most_signals, most_members, most_entries, most_placements};
-ghost use Rattle.cluster.specs.Table.{frame_count, signal_count, member_count, entry_count, placement_count, schedule_count};
+ghost use Rattle.cluster.specs.Table.{entry_count, schedule_count};
 ghost use Rattle.cluster.specs.Table.{entry_at, entry_schedule, entry_kind, entry_target, entry_delay};
 
 use crate::section::{self, Section};
-use crate::table::{Layout, entry_at, follows, record, word};
+use crate::table::{Counted, Layout, entry_at, follows, record, word};
 use crate::{fault, frames, members};
 use refusal::Refusal;
 
@@ -86,11 +85,10 @@ pub fn next(t: &[u16], e: u16) -> u16
 }
 
 // Checks the entries' records.
-pub(crate) fn judge(t: &[u16]) -> Result<(), Refusal>
-    requires t_bound { (frame_count t.now ≤ most_frames) × (signal_count t.now ≤ most_signals) × (member_count t.now ≤ most_members) }
-    requires t_bound_2 { (entry_count t.now ≤ most_entries) × (placement_count t.now ≤ most_placements) }
-    ensures { result ≡ entry_faults t.now }
+pub(crate) fn judge(table: Counted<'_>) -> Result<(), Refusal>
+    ensures { result ≡ entry_faults table.entry.words.now }
 {
+    let t = table.words;
     let mut passed = Passed {
         first: entry_at(t, 0),
         frames: frames::count(t) as usize,

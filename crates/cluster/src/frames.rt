@@ -3,11 +3,11 @@ ghost use Rattle.std.specs.Prelude.{◌≡◌, ◌+◌, ◌*◌, ◌<◌, ◌≤
 ghost use Rattle.cluster.specs.Check.{frame_faults};
 ghost use Rattle.cluster.specs.Passed.{FramesPassed};
 ghost use Rattle.cluster.specs.Right.{frame_right};
-ghost use Rattle.cluster.specs.Table.{most_frames, identifiers, frame_at, frame_count, identifier as identifierOf, frame_length, flags as flags_of};
+ghost use Rattle.cluster.specs.Table.{frame_at, frame_count, identifier as identifierOf, frame_length, flags as flags_of};
 ghost use Rattle.cluster.specs.Table.{published as publishedOf, classic as classicOf, frame_model};
 
 use crate::section::{self, Section};
-use crate::table::{Layout, frame_at, record, word};
+use crate::table::{Counted, Layout, frame_at, record, word};
 use crate::{Limits, fault};
 use refusal::Refusal;
 use wire::checksum::Model;
@@ -85,10 +85,10 @@ pub(crate) fn room_of(t: &[u16], f: usize) -> Room
 }
 
 // Checks the frames' records.
-pub(crate) fn judge(t: &[u16]) -> Result<(), Refusal>
-    requires { frame_count t.now ≤ most_frames }
-    ensures { result ≡ frame_faults t.now }
+pub(crate) fn judge(table: Counted<'_>) -> Result<(), Refusal>
+    ensures { result ≡ frame_faults table.entry.words.now }
 {
+    let t = table.words;
     let mut passed = Passed {
         used: [false; Limits::IDENTIFIERS],
     };

@@ -3,13 +3,12 @@ ghost use Rattle.std.specs.Prelude.{◌≡◌, ◌+◌, ◌<◌, ◌≤◌, leng
 ghost use Rattle.cluster.specs.Check.{member_faults};
 ghost use Rattle.cluster.specs.Lists.{members, next_member, is_one_of, member_of};
 ghost use Rattle.cluster.specs.Passed.{MembersPassed};
-ghost use Rattle.cluster.specs.Read.{RecordsBefore};
 ghost use Rattle.cluster.specs.Right.{member_right};
-ghost use Rattle.cluster.specs.Table.{most_members, most_placements, member_at, member_count, placement_count};
+ghost use Rattle.cluster.specs.Table.{member_at, member_count};
 ghost use Rattle.cluster.specs.Table.{member_list, member_frame, list_count};
 
 use crate::section::{self, Section};
-use crate::table::{Layout, follows, member_at, record, word};
+use crate::table::{Described, Layout, follows, member_at, record, word};
 use crate::{Limits, fault, frames};
 use refusal::Refusal;
 
@@ -86,10 +85,10 @@ pub fn of_frame(t: &[u16], f: u16) -> u16
 }
 
 // Checks the members' records.
-pub(crate) fn judge(t: &[u16]) -> Result<(), Refusal>
-    requires { RecordsBefore t.now × (member_count t.now ≤ most_members) × (placement_count t.now ≤ most_placements) }
-    ensures { result ≡ member_faults t.now }
+pub(crate) fn judge(table: Described<'_>) -> Result<(), Refusal>
+    ensures { result ≡ member_faults table.entry.words.now }
 {
+    let t = table.words;
     let mut passed = Passed {
         first: member_at(t, 0),
         listed: [false; Limits::FRAMES],

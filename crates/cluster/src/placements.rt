@@ -1,20 +1,20 @@
 // The placements of the signals: their number, their fields, and the check of their records.
 ghost use Rattle.std.specs.Prelude.{◌≡◌, true, cond, ◌+◌, ◌%◌, ◌<◌, ◌≤◌, ltb, eqb};
-ghost use Rattle.cluster.specs.Check.{placement_faults, unplaced as unplacedOf};
+ghost use Rattle.cluster.specs.Check.{placement_faults, unplaced, then};
 ghost use Rattle.cluster.specs.Columns.{follows, placement_signal_right, placement_frame_right, placement_offset_right};
 ghost use Rattle.cluster.specs.Places.{place_of};
 ghost use Rattle.cluster.specs.Passed.{PlacementsPassed, PlacedBefore, last_of, mixes};
 ghost use Rattle.cluster.specs.Read.{RecordsBefore, hits};
 ghost use Rattle.cluster.specs.Right.{placement_right};
-ghost use Rattle.cluster.specs.Table.{most_placements, placement_at, frame_count, signal_count};
-ghost use Rattle.cluster.specs.Table.{placement_count, placement_signal, placement_frame, placement_offset, placed_signals};
+ghost use Rattle.cluster.specs.Table.{placement_at, frame_count, signal_count};
+ghost use Rattle.cluster.specs.Table.{placement_count, placement_signal, placement_frame, placement_offset};
 ghost use Rattle.cluster.specs.Values.{first_placement};
 
 use crate::frames::Room;
 use crate::marks::{are_free, with_bits};
 use crate::signals::Shape;
 use crate::section::{self, Section};
-use crate::table::{Layout, placement_at, record, word};
+use crate::table::{Described, Layout, placement_at, record, word};
 use crate::{Limits, fault, frames, signals};
 use refusal::Refusal;
 
@@ -67,32 +67,12 @@ pub fn first(t: &[u16], s: u16) -> u16
     n
 }
 
-// How many signals have placements.
-pub(crate) fn placed(t: &[u16]) -> usize
-    ensures { result ≡ placed_signals t.now }
+// Checks the placements' records, and tells a signal that has none directly behind the last one.
+pub(crate) fn judge(table: Described<'_>) -> Result<(), Refusal>
+    ensures { result ≡ then (placement_faults table.entry.words.now) (unplaced table.entry.words.now) }
 {
-    match count(t) {
-        0 => 0,
-        n => signal(t, n - 1) as usize + 1,
-    }
-}
-
-// A signal that has no placement is told directly behind the last placement.
-pub(crate) fn unplaced(t: &[u16]) -> Result<(), Refusal>
-    ensures { result ≡ unplacedOf t.now }
-{
-    if placed(t) < signals::count(t) as usize {
-        fault(placement_at(t, count(t) as usize))
-    } else {
-        Ok(())
-    }
-}
-
-// Checks the placements' records.
-pub(crate) fn judge(t: &[u16]) -> Result<(), Refusal>
-    requires { (placement_count t.now ≤ most_placements) × RecordsBefore t.now }
-    ensures { result ≡ placement_faults t.now }
-{
+    let t = table.words;
+    let n = count(t) as usize;
     let unmarked = Mark {
         occupied: 0,
         last: 0,
@@ -103,7 +83,12 @@ pub(crate) fn judge(t: &[u16]) -> Result<(), Refusal>
         placed: 0,
         frame: 0,
     };
-    section::judge(t, count(t) as usize, &mut passed)
+    section::judge(t, n, &mut passed)?;
+    if passed.placed < signals::count(t) as usize {
+        fault(placement_at(t, n))
+    } else {
+        Ok(())
+    }
 }
 
 // What the placements that passed left in a frame: the bits that they occupy, and one more than the signal placed there last.

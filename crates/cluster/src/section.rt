@@ -29,7 +29,8 @@ pub(crate) trait Section {
 // Checks the records of a section one after another, to the first fault.
 pub(crate) fn judge<S: Section>(t: &[u16], n: usize, section: &mut S) -> Result<(), Refusal>
     requires { (n ≡ S.count t.now) × S.known t.now 0 section.old }
-    ensures { result ≡ faults t.now (S.at t.now 0) (records 0 n (S.right t.now)) }
+    ensures told { result ≡ faults t.now (S.at t.now 0) (records 0 n (S.right t.now)) }
+    ensures passed { OnOk result (S.known t.now n section.new) }
 {
     for k in 0..n {
         section.pass(t, k)?;

@@ -5,12 +5,12 @@ ghost use Rattle.cluster.specs.Columns.{width_right, start_limit};
 ghost use Rattle.cluster.specs.Fresh.{array_length};
 ghost use Rattle.cluster.specs.Passed.{SignalsPassed};
 ghost use Rattle.cluster.specs.Right.{signal_right};
-ghost use Rattle.cluster.specs.Table.{most_frames, most_signals, signal_at, frame_count, signal_count};
+ghost use Rattle.cluster.specs.Table.{signal_at, signal_count};
 ghost use Rattle.cluster.specs.Table.{signal_kind, signal_width, signal_start, is_array};
 
 use crate::fault;
 use crate::section::{self, Section};
-use crate::table::{Layout, record, signal_at, word};
+use crate::table::{Counted, Layout, record, signal_at, word};
 use refusal::Refusal;
 
 // How many signals there are.
@@ -76,10 +76,10 @@ pub(crate) fn shape_of(t: &[u16], s: usize) -> Shape
 }
 
 // Checks the signals' records.
-pub(crate) fn judge(t: &[u16]) -> Result<(), Refusal>
-    requires { (frame_count t.now ≤ most_frames) × (signal_count t.now ≤ most_signals) }
-    ensures { result ≡ signal_faults t.now }
+pub(crate) fn judge(table: Counted<'_>) -> Result<(), Refusal>
+    ensures { result ≡ signal_faults table.entry.words.now }
 {
+    let t = table.words;
     let mut passed = Passed { first: signal_at(t, 0) };
     section::judge(t, count(t) as usize, &mut passed)
 }

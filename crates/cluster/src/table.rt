@@ -2,7 +2,7 @@
 ghost use Rattle.std.specs.Prelude.{◌≡◌, ◌≤◌, ◌<◌, ℕ, get_or};
 ghost use Rattle.cluster.specs.Check.{header_faults, surplus as surplusOf};
 ghost use Rattle.cluster.specs.Columns.{follows as followsOf};
-ghost use Rattle.cluster.specs.Read.{IsRecord, due as due_of};
+ghost use Rattle.cluster.specs.Read.{InLimits, RecordsBefore, IsRecord, due as due_of};
 ghost use Rattle.cluster.specs.Table.{word as word_of, frame_at, signal_at, placement_at, member_at, entry_at};
 
 use crate::{Limits, fault};
@@ -54,6 +54,21 @@ impl Layout {
     pub(crate) const MEMBER: usize = 2;
 
     pub(crate) const ENTRY: usize = 4;
+}
+
+// A lent table whose header the check accepts: no count in it is above its limit.
+#[derive(Clone, Copy)]
+pub(crate) struct Counted<'a> {
+    pub(crate) words: &'a [u16],
+    pub(crate) ghost limits: { InLimits words.now },
+}
+
+// One whose frames and signals it accepts too: what the records behind them go by.
+#[derive(Clone, Copy)]
+pub(crate) struct Described<'a> {
+    pub(crate) words: &'a [u16],
+    pub(crate) ghost limits: { InLimits words.now },
+    pub(crate) ghost before: { RecordsBefore words.now },
 }
 
 // Where a frame's record begins.

@@ -6,11 +6,7 @@ use Rattle.cluster.proofs.entries.judge.Goals as goal
 
 pub judge-requires : goal.judge-requires
 judge-requires c = (c.count-2.ensures, record {
-  frame_limit = c.requires.t_bound.0;
-  signal_limit = c.requires.t_bound.1;
-  placement_limit = c.requires.t_bound_2.1;
-  member_limit = c.requires.t_bound.2;
-  entry_limit = c.requires.t_bound_2.0;
+  limits = c.args.table.limits;
   first = c.entry_at.ensures.value;
   frames = c.count.ensures;
   lists = c.lists.ensures.value;
