@@ -53,24 +53,15 @@ pub fn schedules(t: &[u16]) -> usize
     ensures value { result ≡ schedule_count t.now }
     ensures upper_bound { result ≤ 65536 }
 {
-    match count(t) {
-        0 => 0,
-        n => schedule(t, n - 1) as usize + 1,
-    }
+    count(t).checked_sub(1).map_or(0, |last| schedule(t, last) as usize + 1)
 }
 
 // The first entry of a schedule; the number of entries where there is none.
-// Kept: a generic search would take the field as a closure and its promise through `F.post`, and its call is as long as this loop.
 pub fn first(t: &[u16], n: u16) -> u16
     ensures { result ≡ first_entry t.now n }
 {
     let end = count(t);
-    for e in 0..end {
-        if schedule(t, e) == n {
-            return e;
-        }
-    }
-    end
+    (0..end).find(|&e| schedule(t, e) == n).unwrap_or(end)
 }
 
 // The entry that follows an entry in its schedule, cyclically.

@@ -38,50 +38,30 @@ pub fn lists(t: &[u16]) -> usize
     ensures value { result ≡ list_count t.now }
     ensures upper_bound { result ≤ 65536 }
 {
-    match count(t) {
-        0 => 0,
-        n => list(t, n - 1) as usize + 1,
-    }
+    count(t).checked_sub(1).map_or(0, |last| list(t, last) as usize + 1)
 }
 
 // The first member of a list from member m on. Where there is none: the number of members, or m where that is more.
-// Kept: as `entries::first`.
 pub fn next(t: &[u16], l: u16, m: u16) -> u16
     ensures { result ≡ next_member t.now l m }
 {
     let n = count(t);
-    for k in m..n {
-        if list(t, k) == l {
-            return k;
-        }
-    }
-    m.max(n)
+    (m..n).find(|&k| list(t, k) == l).unwrap_or(m.max(n))
 }
 
 // Whether a frame is in a list.
 pub fn has(t: &[u16], l: u16, f: u16) -> bool
     ensures { result ≡ is_one_of f (members t.now l) }
 {
-    for m in 0..count(t) {
-        if list(t, m) == l && frame(t, m) == f {
-            return true;
-        }
-    }
-    false
+    (0..count(t)).any(|m| list(t, m) == l && frame(t, m) == f)
 }
 
 // The member that a frame is; the number of members where it is in no list.
-// Kept: as `entries::first`.
 pub fn of_frame(t: &[u16], f: u16) -> u16
     ensures { result ≡ member_of t.now f }
 {
     let n = count(t);
-    for m in 0..n {
-        if frame(t, m) == f {
-            return m;
-        }
-    }
-    n
+    (0..n).find(|&m| frame(t, m) == f).unwrap_or(n)
 }
 
 // Checks the members' records.

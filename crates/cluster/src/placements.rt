@@ -54,17 +54,11 @@ pub fn place(t: &[u16], k: u16) -> usize
 }
 
 // The first placement of a signal; where there is none, the number of placements.
-// Kept: as `entries::first`.
 pub fn first(t: &[u16], s: u16) -> u16
     ensures { result ≡ first_placement t.now s }
 {
     let n = count(t);
-    for k in 0..n {
-        if signal(t, k) == s {
-            return k;
-        }
-    }
-    n
+    (0..n).find(|&k| signal(t, k) == s).unwrap_or(n)
 }
 
 // Checks the placements' records, and tells a signal that has none directly behind the last one.

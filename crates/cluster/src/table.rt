@@ -9,11 +9,10 @@ use crate::{Limits, fault};
 use refusal::Refusal;
 
 // The word at a position, and 0 where there is none.
-// Kept: `t.get(i).copied().unwrap_or(0)` is no plainer.
 pub(crate) fn word(t: &[u16], i: usize) -> u16
     ensures { result ≡ word_of t.now i }
 {
-    if i < t.len() { t[i] } else { 0 }
+    t.get(i).copied().unwrap_or(0)
 }
 
 // The word at a position, and 65536, which no column takes, where there is none.
