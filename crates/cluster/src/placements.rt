@@ -1,5 +1,5 @@
 // The placements of the signals: their number, their fields, and the check of their records.
-ghost use Rattle.std.specs.Prelude.{◌≡◌, true, cond, ◌+◌, ◌%◌, ◌<◌, ◌≤◌, ltb, eqb};
+ghost use Rattle.std.specs.Prelude.{◌≡◌, true, not, cond, ◌&&◌, ◌+◌, ◌%◌, ◌<◌, ◌≤◌, ltb, eqb};
 ghost use Rattle.cluster.specs.Check.{placement_faults, unplaced, then};
 ghost use Rattle.cluster.specs.Columns.{follows, placement_signal_right, placement_frame_right, placement_offset_right};
 ghost use Rattle.cluster.specs.Places.{place_of};
@@ -147,25 +147,23 @@ fn signal_right(t: &[u16], placed: usize, s: usize) -> bool
 }
 
 impl Passed {
-    // Whether a placement of a signal may be in a frame: it is there and, where the signal has placements, none of them is in it and it has their publisher.
-    // Kept: one test a line, as document 01 lists them; as one expression the `||` of the first placement would stand inside an `&&` of four.
+    // Whether a placement of a signal may be in a frame: it is there, and the placement is the signal's first, or joins those before.
     fn frame_right(&self, t: &[u16], s: usize, f: usize) -> bool
         requires records_before { RecordsBefore t.now × PlacedBefore t.now self.now }
         requires s_bound { (s ≤ 65536) × (follows self.now.placed s ≡ true) }
         ensures { result ≡ placement_frame_right (frame_count t.now) (eqb (last_of self.now f) (s + 1)) (mixes t.now self.now s f) f }
     {
-        if frames::count(t) as usize <= f {
-            return false;
-        }
-        if s == self.placed {
-            return true;
-        }
-        if self.marks[f].last as usize == s + 1 {
-            return false;
-        }
-        let before = frames::room_of(t, self.frame);
-        let room = frames::room_of(t, f);
-        before.published == room.published
+        f < frames::count(t) as usize && (s == self.placed || self.joins(t, s, f))
+    }
+
+    // Whether a placement may join those of the same signal before: none of them is in its frame, and it has their publisher.
+    fn joins(&self, t: &[u16], s: usize, f: usize) -> bool
+        requires records_before { RecordsBefore t.now × PlacedBefore t.now self.now }
+        requires s_placed { (s + 1 ≡ self.now.placed) × (f < frame_count t.now) }
+        ensures { result ≡ not (eqb (last_of self.now f) (s + 1)) && not (mixes t.now self.now s f) }
+    {
+        self.marks[f].last as usize != s + 1
+            && frames::room_of(t, self.frame).published == frames::room_of(t, f).published
     }
 }
 

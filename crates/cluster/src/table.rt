@@ -15,12 +15,12 @@ pub(crate) fn word(t: &[u16], i: usize) -> u16
     t.get(i).copied().unwrap_or(0)
 }
 
-// The word at a position, and 65536, which no column takes, where there is none.
+// The word at a position; where there is none 65536, which no column takes, so that a missing word is a wrong one by the column's own test.
 pub(crate) fn due(t: &[u16], i: usize) -> usize
     ensures value { result ≡ due_of t.now i }
     ensures upper_bound { result ≤ 65536 }
 {
-    if i < t.len() { t[i] as usize } else { 65536 }
+    t.get(i).map_or(65536, |word| *word as usize)
 }
 
 // The words of a record from a position on; a missing one reads as 65536. One test is enough where the whole record is there.
