@@ -31,8 +31,8 @@ pub(crate) fn record<const N: usize>(t: &[u16], at: usize) -> [usize; N]
 {
     let mut words = [0; N];
     let whole = at + N <= t.len();
-    for j in 0..N {
-        words[j] = if whole { t[at + j] as usize } else { due(t, at + j) };
+    for (j, word) in words.iter_mut().enumerate() {
+        *word = if whole { t[at + j] as usize } else { due(t, at + j) };
     }
     words
 }

@@ -5,7 +5,7 @@ use Rattle.cluster.proofs.table.record.Given as goal
 
 abbrev pub invariant-loop-j : goal.invariant-loop-j
 invariant-loop-j g l = record {
-  size : length l.words ≡ g.row.N;
-  read : (i : ℕ) → i < l.j → get_or l.words i 0 ≡ due l.t (position l.at i);
-  high : (i : ℕ) → get_or l.words i 0 ≤ 65536;
+  size : length l.word-items ≡ g.row.N;
+  read : (i : ℕ) → i < l.j → get_or l.word-items i 0 ≡ due l.t (position l.at i);
+  high : (i : ℕ) → get_or l.word-items i 0 ≤ 65536;
 }
