@@ -26,7 +26,8 @@ none_marked t bits none f j h = rw (none f) (bit_none j)
 module _ (t : List ℕ) (s : ℕ) (bits : ℕ → ℕ) (m : BitMarks t s bits) (fits : placement_offset t s + placement_width t s ≤ 64) where
   -- one placement more, by cases of the frame asked about
   module _ (next : ℕ → ℕ) (other : (f : ℕ) → (f ≡ placement_frame t s → ⊥) → next f ≡ bits f)
-      (put : (j : ℕ) → bit (next (placement_frame t s)) j ≡ (bit (bits (placement_frame t s)) j || inside (placement_offset t s) (placement_width t s) j)) where
+      (put : (j : ℕ) → bit (next (placement_frame t s)) j ≡
+          (bit (bits (placement_frame t s)) j || inside (placement_offset t s) (placement_width t s) j)) where
     more : (f j : ℕ) → j < 64 → bit (next f) j ≡ occupied_before t (suc s) (64 * f + j)
     unfolding occupied_before any_below
     more f j h =

@@ -68,7 +68,8 @@ module _ (t : List ℕ) (n : ℕ) (up : CountsUp (placement_signal t) n) where
       ]))
       (λ z. rw (z, and-false (eqb (placement_signal t k) x)) (twice k x f (omega arith) (λ j h. low j (omega arith))))
     where
-      none : (k x f : ℕ) → suc k ≤ n → placement_signal t k < x → any_below k (λ j. eqb (placement_signal t j) x && eqb (placement_frame t j) f) ≡ false
+      none : (k x f : ℕ) → suc k ≤ n → placement_signal t k < x
+          → any_below k (λ j. eqb (placement_signal t j) x && eqb (placement_frame t j) f) ≡ false
       none k x f b l =
           any_none k (λ j. eqb (placement_signal t j) x && eqb (placement_frame t j) f)
           (λ j h. let m = up_monotone (placement_signal t) n up j k (omega arith) (omega arith) in
@@ -95,13 +96,15 @@ module _ (t : List ℕ) (n : ℕ) (up : CountsUp (placement_signal t) n) where
 
   -- the frames of a signal that had one publisher so far have two exactly where this one differs from the last one
   pub mixed_is : (k : ℕ) → k < n → ((j : ℕ) → j < k → mixed t j ≡ false)
-      → mixed t k ≡ (eqb (placement_signal t k + 1) (counted (placement_signal t) k) && not (beq (published t (frame_before t k)) (published t (placement_frame t k))))
+      → mixed t k ≡ (eqb (placement_signal t k + 1) (counted (placement_signal t) k) && not
+          (beq (published t (frame_before t k)) (published t (placement_frame t k))))
   unfolding mixed earlier_placement any_below counted frame_before
   mixed_is zero h one = rw (ne_eqb (placement_signal t 0 + 1) 0 (λ e. omega arith))
   mixed_is (suc k) h one =
       elim (ℕ_discrete (placement_signal t k) (placement_signal t (suc k))) [
         | yes e ↦
-            rw (eq-eqb (placement_signal t k) (placement_signal t (suc k)) e, eq-eqb (placement_signal t (suc k) + 1) (suc (placement_signal t k)) (omega arith))
+            rw (eq-eqb (placement_signal t k) (placement_signal t (suc k)) e,
+                eq-eqb (placement_signal t (suc k) + 1) (suc (placement_signal t k)) (omega arith))
             (whether (differs t (suc k) k)
             (λ y. rw y)
             (λ z. rw z (any_none k (other t (suc k)) (alike t k (one k (omega arith)) e z))))

@@ -173,7 +173,8 @@ module _ (t : List ℕ) (k : ℕ) (x : Passed) (p : PlacementsPassed t k x) (mor
   stops j place l b e = stops_at t (placement_at t k) due_seen (placement_right t k) agrees j place (rw same at l) b (omega (arith, here, e))
 
   pub all_right : placement_signal_right (signal_count t) (follows x.placed (get_or w 0 0)) (get_or w 0 0) ≡ true
-      → placement_frame_right (frame_count t) (eqb (last_of x (get_or w 1 0)) (get_or w 0 0 + 1)) (mixes t x (get_or w 0 0) (get_or w 1 0)) (get_or w 1 0) ≡ true
+      → placement_frame_right (frame_count t) (eqb (last_of x (get_or w 1 0)) (get_or w 0 0 + 1)) (mixes t x (get_or w 0 0) (get_or w 1 0))
+          (get_or w 1 0) ≡ true
       → placement_offset_right (is_array t (get_or w 0 0)) (8 * frame_length t (get_or w 1 0))
       (ltb (8 * frame_length t (get_or w 1 0)) (get_or w 2 0 + signal_width t (get_or w 0 0)))
       (hits (occupied_of x (get_or w 1 0)) (get_or w 2 0) (signal_width t (get_or w 0 0))) (get_or w 2 0)

@@ -108,7 +108,8 @@ cut_short t at seen rights a some short =
     order (leading seen) (length seen) (λ l. l) (λ h. absurd (omega (arith, reaches t at 0 seen rights a (leading_all seen h) some)))
 
 module _ (t : List ℕ) (at : ℕ) (rest : List Bool) where
-  forward : (k : ℕ) (right : Bool) (rights : List Bool) → due t (position at k) < 65536 → (due t (position at k) ≡ word t (position at k) → right ≡ true)
+  forward : (k : ℕ) (right : Bool) (rights : List Bool) → due t (position at k) < 65536
+      → (due t (position at k) ≡ word t (position at k) → right ≡ true)
       → faults t (position at k) (right ∷ rights ++ rest) ≡ faults t (position at (suc k)) (rights ++ rest)
   forward k right rights = pass t (position at k) (position at (suc k)) right (rights ++ rest) (omega (arith, position_is at k))
 
@@ -146,7 +147,8 @@ module _ (t : List ℕ) (at : ℕ) (seen rights : List Bool) (a : Agrees t at 0 
       let here : at + (0 + leading seen) ≡ place = omega arith in
       rw here at (halts t at rest 0 seen rights a (omega arith))
 
-  pub goes_to : (next : ℕ) → leading seen ≡ length seen → at + length seen ≡ next → (rest : List Bool) → faults t at (rights ++ rest) ≡ faults t next rest
+  pub goes_to : (next : ℕ) → leading seen ≡ length seen → at + length seen ≡ next → (rest : List Bool)
+      → faults t at (rights ++ rest) ≡ faults t next rest
   goes_to next l e rest =
       let here : at + (0 + length seen) ≡ next = omega arith in
       rw here at (goes_on t at rest 0 seen rights a (omega arith))

@@ -17,7 +17,8 @@ use Rattle.cluster.specs.declared.signals.Passed.{Passed}
 use Rattle.cluster.proofs.Scan.{Agrees, stops_at, goes_to}
 use Rattle.cluster.proofs.Widths.{width_range, start_limit_high}
 
-module _ (t : List ℕ) (s : ℕ) (x : Passed) (p : SignalsPassed t s x) (w : List ℕ) (read_at : IsRecord t (x.first + signal_words * s) signal_words w) where
+module _ (t : List ℕ) (s : ℕ) (x : Passed) (p : SignalsPassed t s x) (w : List ℕ)
+    (read_at : IsRecord t (x.first + signal_words * s) signal_words w) where
   here : x.first + signal_words * s ≡ signal_at t s
   here = omega (arith, p.first)
 
@@ -69,6 +70,7 @@ module _ (t : List ℕ) (s : ℕ) (x : Passed) (p : SignalsPassed t s x) (w : Li
   stops j place l b e = stops_at t (signal_at t s) due_seen (signal_right t s) agrees j place (rw same at l) b (omega (arith, here, e))
 
   -- all words are right
-  pub goes_on : leading seen ≡ signal_words → (rest : List Bool) → faults t (signal_at t s) (signal_right t s ++ rest) ≡ faults t (signal_at t (s + 1)) rest
+  pub goes_on : leading seen ≡ signal_words → (rest : List Bool)
+      → faults t (signal_at t s) (signal_right t s ++ rest) ≡ faults t (signal_at t (s + 1)) rest
   unfolding signal_columns
   goes_on right = goes_to t (signal_at t s) due_seen (signal_right t s) agrees (signal_at t (s + 1)) (rw same at right) (omega arith)

@@ -1,7 +1,8 @@
 -- What the steps of the check read and compute; only private contracts cite this.
 use Rattle.std.specs.Prelude.{ℕ, zero, suc, ◌+◌, ◌*◌, ◌<◌, ◌≤◌, ◌≡◌, Bool, true, cond, List, [], ◌∷◌, ltb, length, get_or}
 use Rattle.wire.specs.Bits.{bit}
-use Rattle.cluster.specs.Table.{most_frames, most_signals, most_members, most_entries, most_placements, word, frame_length, signal_width, is_array, placement_at}
+use Rattle.cluster.specs.Table.{most_frames, most_signals, most_members, most_entries, most_placements, word, frame_length, signal_width}
+use Rattle.cluster.specs.Table.{is_array, placement_at}
 use Rattle.cluster.specs.Table.{frame_count, signal_count, member_count, entry_count, placement_count}
 use Rattle.cluster.specs.Columns.{width_right}
 use Rattle.cluster.specs.Places.{any_below}

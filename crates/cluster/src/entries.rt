@@ -49,14 +49,18 @@ pub fn delay(t: &[u16], e: u16) -> u16
 }
 
 // How many schedules there are.
+// Kept: a twin of `members::lists`, one chain each: a function for both would take the field as a closure, and be as long as both.
 pub fn schedules(t: &[u16]) -> usize
     ensures value { result ≡ schedule_count t.now }
     ensures upper_bound { result ≤ 65536 }
 {
-    count(t).checked_sub(1).map_or(0, |last| schedule(t, last) as usize + 1)
+    count(t)
+        .checked_sub(1)
+        .map_or(0, |last| schedule(t, last) as usize + 1)
 }
 
 // The first entry of a schedule; the number of entries where there is none.
+// Kept: a number where there is none, since its clause `first_entry` has it so.
 pub fn first(t: &[u16], n: u16) -> u16
     ensures { result ≡ first_entry t.now n }
 {

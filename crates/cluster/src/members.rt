@@ -38,10 +38,13 @@ pub fn lists(t: &[u16]) -> usize
     ensures value { result ≡ list_count t.now }
     ensures upper_bound { result ≤ 65536 }
 {
-    count(t).checked_sub(1).map_or(0, |last| list(t, last) as usize + 1)
+    count(t)
+        .checked_sub(1)
+        .map_or(0, |last| list(t, last) as usize + 1)
 }
 
 // The first member of a list from member m on. Where there is none: the number of members, or m where that is more.
+// Kept: a number where there is none, since its clause `next_member` has it so.
 pub fn next(t: &[u16], l: u16, m: u16) -> u16
     ensures { result ≡ next_member t.now l m }
 {
@@ -57,6 +60,7 @@ pub fn has(t: &[u16], l: u16, f: u16) -> bool
 }
 
 // The member that a frame is; the number of members where it is in no list.
+// Kept: a number where there is none, since its clause `member_of` has it so.
 pub fn of_frame(t: &[u16], f: u16) -> u16
     ensures { result ≡ member_of t.now f }
 {
@@ -100,7 +104,10 @@ impl Section for Passed {
         if !follows(self.lists, list) {
             return fault(at);
         }
-        if frames::count(t) as usize <= frame || self.listed[frame] || !frames::room_of(t, frame).published {
+        if frames::count(t) as usize <= frame
+            || self.listed[frame]
+            || !frames::room_of(t, frame).published
+        {
             return fault(at + 1);
         }
         self.listed[frame] = true;

@@ -12,8 +12,8 @@ ghost use Rattle.cluster.specs.Values.{first_placement};
 
 use crate::frames::Room;
 use crate::marks::{are_free, with_bits};
-use crate::signals::Shape;
 use crate::section::{self, Section};
+use crate::signals::Shape;
 use crate::table::{Described, Layout, placement_at, record, word};
 use crate::{Limits, fault, frames, signals};
 use refusal::Refusal;
@@ -54,6 +54,7 @@ pub fn place(t: &[u16], k: u16) -> usize
 }
 
 // The first placement of a signal; where there is none, the number of placements.
+// Kept: a number where there is none, since its clause `first_placement` has it so.
 pub fn first(t: &[u16], s: u16) -> u16
     ensures { result ≡ first_placement t.now s }
 {
@@ -89,10 +90,11 @@ pub(crate) fn judge(table: Described<'_>) -> Result<(), Refusal>
 #[derive(Clone, Copy)]
 struct Mark {
     occupied: u64,
-    last: u16,
+    last: usize,
 }
 
-// The placements that passed the check: where the first one begins, what they left in each frame, how many signals they are of, and the frame of the last one.
+// The placements that passed the check: where the first one begins, what they left in each frame, how many signals they are of, and
+// the frame of the last one.
 #[derive(Clone, Copy)]
 struct Passed {
     first: usize,
@@ -126,7 +128,7 @@ impl Section for Passed {
         }
         self.marks[frame] = Mark {
             occupied: with_bits(occupied, offset, shape.width),
-            last: (signal + 1) as u16,
+            last: signal + 1,
         };
         self.placed = signal + 1;
         self.frame = frame;
@@ -162,7 +164,7 @@ impl Passed {
         requires s_placed { (s + 1 ≡ self.now.placed) × (f < frame_count t.now) }
         ensures { result ≡ not (eqb (last_of self.now f) (s + 1)) && not (mixes t.now self.now s f) }
     {
-        self.marks[f].last as usize != s + 1
+        self.marks[f].last != s + 1
             && frames::room_of(t, self.frame).published == frames::room_of(t, f).published
     }
 }

@@ -80,7 +80,9 @@ pub(crate) fn judge(table: Counted<'_>) -> Result<(), Refusal>
     ensures { result ≡ signal_faults table.entry.words.now }
 {
     let t = table.words;
-    let mut passed = Passed { first: signal_at(t, 0) };
+    let mut passed = Passed {
+        first: signal_at(t, 0),
+    };
     section::judge(t, count(t) as usize, &mut passed)
 }
 

@@ -9,13 +9,15 @@ use crate::{Limits, fault};
 use refusal::Refusal;
 
 // The word at a position, and 0 where there is none.
+// Kept: 0 for none, since the clause of every public field is its `word` (specs/Table).
 pub(crate) fn word(t: &[u16], i: usize) -> u16
     ensures { result ≡ word_of t.now i }
 {
     t.get(i).copied().unwrap_or(0)
 }
 
-// The word at a position; where there is none 65536, which no column takes, so that a missing word is a wrong one by the column's own test.
+// The word at a position; 65536 where there is none.
+// Kept: a number for a missing word: each column's test refuses it by itself, so that no column asks whether its word is there.
 pub(crate) fn due(t: &[u16], i: usize) -> usize
     ensures value { result ≡ due_of t.now i }
     ensures upper_bound { result ≤ 65536 }
@@ -32,7 +34,11 @@ pub(crate) fn record<const N: usize>(t: &[u16], at: usize) -> [usize; N]
     let mut words = [0; N];
     let whole = at + N <= t.len();
     for (j, word) in words.iter_mut().enumerate() {
-        *word = if whole { t[at + j] as usize } else { due(t, at + j) };
+        *word = if whole {
+            t[at + j] as usize
+        } else {
+            due(t, at + j)
+        };
     }
     words
 }

@@ -1,7 +1,8 @@
 -- `cluster::check`: the sections are judged one after another, and the first that refuses is the answer.
 use Rattle.std.proofs.Common.{sym, ◌∙◌}
 use Rattle.cluster.proofs.CheckTold.{answered, refused}
-use Rattle.cluster.proofs.Sections.{judged_sections, after_header, after_frames, after_signals, after_placements, after_members, after_entries, header_passed, records_passed}
+use Rattle.cluster.proofs.Sections.{judged_sections, after_header, after_frames, after_signals, after_placements, after_members}
+use Rattle.cluster.proofs.Sections.{after_entries, header_passed, records_passed}
 use Rattle.cluster.proofs.check.Goals as goal
 
 pub returns-in_err-judge : goal.returns-in_err-judge

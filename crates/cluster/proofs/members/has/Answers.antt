@@ -21,7 +21,8 @@ module _ (t : List ℕ) (l f n : ℕ) (all : n ≡ member_count t) where
   number : (m : ℕ) → m < n → get_or (range_with_len 0 n) m 0 ≡ m
   number m h = omega (arith, get_or-range_with_len 0 n m 0 h)
 
-  has_is : (r : Bool) → MatchBool r ((m : ℕ) × (m < length (range_with_len 0 n)) × HoldsAt Is (range_with_len 0 n) m) (AllWithin IsNot (range_with_len 0 n) 0 (length (range_with_len 0 n)))
+  has_is : (r : Bool) → MatchBool r ((m : ℕ) × (m < length (range_with_len 0 n)) × HoldsAt Is (range_with_len 0 n) m)
+      (AllWithin IsNot (range_with_len 0 n) 0 (length (range_with_len 0 n)))
       → r ≡ is_one_of f (members t l)
   has_is true found =
       let below : found.0 < n = omega (arith, found.1, length-range_with_len 0 n) in
@@ -40,5 +41,6 @@ pub returns : goal.returns
 returns c =
     let a = c.args in
     has_is a.t.now a.l a.f c.count.result c.count.ensures c.any.result
-    (cases_from_any _ _ c.any.result (Is a.t.now a.l a.f c.count.result c.count.ensures) (IsNot a.t.now a.l a.f c.count.result c.count.ensures) c.any.ensures.ran
+    (cases_from_any _ _ c.any.result (Is a.t.now a.l a.f c.count.result c.count.ensures)
+        (IsNot a.t.now a.l a.f c.count.result c.count.ensures) c.any.ensures.ran
     (YieldsList-from_range 0 c.count.result c.count.result refl (omega arith)) (λ x q k. search (rules, tests)) (λ x q k. search (rules, tests)))

@@ -8,4 +8,5 @@ pub returns-clause-value : goal.returns-clause-value
 unfolding list_count
 returns-clause-value c =
     rw (← c.count.ensures)
-    (counted_by (member_list c.args.t.now) c.count.result c.map_or.result c.checked_sub.result _ c.checked_sub.ensures c.map_or.ensures (λ k h. search rules))
+    (counted_by (member_list c.args.t.now) c.count.result c.map_or.result c.checked_sub.result _ c.checked_sub.ensures c.map_or.ensures
+        (λ k h. search rules))

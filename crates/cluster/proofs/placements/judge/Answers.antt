@@ -22,7 +22,8 @@ returns-then-passed-count c =
     let t = c.args.table.words.now in
     let counts : c.judge.new.section.placed ≡ placed_signals t = rw c.count-n.ensures at c.in_ok-judge.ensures.passed.counts in
     let few = lt-leb (signal_count t) (placed_signals t) (omega (arith, c.if-passed-count.true, counts)) in
-    behind (rw c.count-n.ensures at c.in_ok-judge.ensures.told) (c.fault.ensures ∙ rw (few, c.placement_at-then-passed-count.ensures.value, c.count-n.ensures))
+    behind (rw c.count-n.ensures at c.in_ok-judge.ensures.told)
+        (c.fault.ensures ∙ rw (few, c.placement_at-then-passed-count.ensures.value, c.count-n.ensures))
 
 pub returns-else-passed-count : goal.returns-else-passed-count
 unfolding unplaced all_placed placed_signals

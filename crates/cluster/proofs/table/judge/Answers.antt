@@ -26,7 +26,8 @@ returns-then-members-gt-MEMBERS c =
     let frames = le-leb _ _ c.if-frames-gt-FRAMES.false in
     let signals = le-leb _ _ c.if-signals-gt-SIGNALS.false in
     c.fault-then-members-gt-MEMBERS.ensures
-    ∙ sym (stops c.args.t.now c.record.result c.record.ensures.words 2 (simp (frames, signals, lt-leb _ _ c.if-members-gt-MEMBERS.true)) (omega arith))
+    ∙ sym (stops c.args.t.now c.record.result c.record.ensures.words 2 (simp (frames, signals, lt-leb _ _ c.if-members-gt-MEMBERS.true))
+        (omega arith))
 
 pub returns-then-entries-gt-ENTRIES : goal.returns-then-entries-gt-ENTRIES
 unfolding header_columns leading
@@ -35,7 +36,8 @@ returns-then-entries-gt-ENTRIES c =
     let signals = le-leb _ _ c.if-signals-gt-SIGNALS.false in
     let members = le-leb _ _ c.if-members-gt-MEMBERS.false in
     c.fault-then-entries-gt-ENTRIES.ensures
-    ∙ sym (stops c.args.t.now c.record.result c.record.ensures.words 3 (simp (frames, signals, members, lt-leb _ _ c.if-entries-gt-ENTRIES.true)) (omega arith))
+    ∙ sym (stops c.args.t.now c.record.result c.record.ensures.words 3 (simp (frames, signals, members, lt-leb _ _ c.if-entries-gt-ENTRIES.true))
+        (omega arith))
 
 pub returns-then-placements-gt-PLACEMENTS : goal.returns-then-placements-gt-PLACEMENTS
 unfolding header_columns leading
@@ -55,4 +57,5 @@ returns c =
     let signals = le-leb _ _ c.if-signals-gt-SIGNALS.false in
     let members = le-leb _ _ c.if-members-gt-MEMBERS.false in
     let entries = le-leb _ _ c.if-entries-gt-ENTRIES.false in
-    sym (goes_on c.args.t.now c.record.result c.record.ensures.words (simp (frames, signals, members, entries, le-leb _ _ c.if-placements-gt-PLACEMENTS.false)))
+    sym (goes_on c.args.t.now c.record.result c.record.ensures.words
+        (simp (frames, signals, members, entries, le-leb _ _ c.if-placements-gt-PLACEMENTS.false)))

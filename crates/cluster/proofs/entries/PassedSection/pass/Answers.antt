@@ -45,7 +45,8 @@ returns-then-delay-lt1-clause-told c rest =
     (stops c.args.t.now c.args.e c.args.self.now c.requires.1 c.requires.0 c.record.result c.record.ensures.words 3 _
     (elim c.then-delay-lt1.branch [
       | then-delay-lt1-via-then-delay-lt1 w ↦ simp (up, le-leb _ _ c.if-kind-gt3.false, target, lt-leb _ _ w.if-delay-lt1.true)
-      | then-delay-lt1-via-else-delay-lt1+then-delay-gt65535 w ↦ simp (up, le-leb _ _ c.if-kind-gt3.false, target, lt-leb _ _ w.if-delay-gt65535.true, and-false)
+      | then-delay-lt1-via-else-delay-lt1+then-delay-gt65535 w ↦ simp
+          (up, le-leb _ _ c.if-kind-gt3.false, target, lt-leb _ _ w.if-delay-gt65535.true, and-false)
     ]) (omega arith) (omega arith) rest)
 
 pub overflow_add-self : goal.overflow_add-self
@@ -56,7 +57,8 @@ unfolding entry_columns leading
 returns c =
     let target = sym c.target_right.ensures ∙ c.if-not-target_right.false in
     let right : leading (seen c.args.t.now c.args.e c.args.self.now c.requires.1 c.requires.0 c.record.result c.record.ensures.words) ≡ entry_words =
-    simp (sym c.follows.ensures ∙ c.if-not-follows.false, le-leb _ _ c.if-kind-gt3.false, target, le-leb _ _ c.if-delay-lt1.false, le-leb _ _ c.if-delay-gt65535.false) in
+    simp (sym c.follows.ensures ∙ c.if-not-follows.false, le-leb _ _ c.if-kind-gt3.false, target, le-leb _ _ c.if-delay-lt1.false,
+        le-leb _ _ c.if-delay-gt65535.false) in
     record {
       told = goes_on c.args.t.now c.args.e c.args.self.now c.requires.1 c.requires.0 c.record.result c.record.ensures.words right;
       passed = passes c.args.t.now c.args.e c.args.self.now c.requires.1 c.requires.0 c.record.result c.record.ensures.words right;

@@ -8,7 +8,8 @@ use Rattle.cluster.specs.Read.{leading}
 use Rattle.cluster.specs.Table.{frame_words}
 use Rattle.cluster.proofs.FrameTurn.{seen, stops, goes_on, passes}
 use Rattle.cluster.proofs.frames.PassedSection.pass.Goals as goal
-use Rattle.cluster.proofs.frames.PassedSection.pass.Goals.{then-id-ge-IDENTIFIERS-via-then-id-ge-IDENTIFIERS, then-id-ge-IDENTIFIERS-via-else-id-ge-IDENTIFIERS+then-self-id}
+use Rattle.cluster.proofs.frames.PassedSection.pass.Goals.{then-id-ge-IDENTIFIERS-via-then-id-ge-IDENTIFIERS}
+use Rattle.cluster.proofs.frames.PassedSection.pass.Goals.{then-id-ge-IDENTIFIERS-via-else-id-ge-IDENTIFIERS+then-self-id}
 use Rattle.cluster.proofs.frames.PassedSection.pass.Goals.{then-bytes-lt1-via-then-bytes-lt1, then-bytes-lt1-via-else-bytes-lt1+then-bytes-gt8}
 
 pub returns-then-id-ge-IDENTIFIERS-clause-told : goal.returns-then-id-ge-IDENTIFIERS-clause-told

@@ -9,7 +9,8 @@ use Rattle.cluster.specs.Read.{leading}
 use Rattle.cluster.specs.Table.{frame_count, member_words}
 use Rattle.cluster.proofs.MemberTurn.{seen, stops, goes_on, passes}
 use Rattle.cluster.proofs.members.PassedSection.pass.Goals as goal
-use Rattle.cluster.proofs.members.PassedSection.pass.Goals.{then-count-frame-via-then-count-frame, then-count-frame-via-else-count-frame+then-self-frame}
+use Rattle.cluster.proofs.members.PassedSection.pass.Goals.{then-count-frame-via-then-count-frame}
+use Rattle.cluster.proofs.members.PassedSection.pass.Goals.{then-count-frame-via-else-count-frame+then-self-frame}
 use Rattle.cluster.proofs.members.PassedSection.pass.Goals.{then-count-frame-via-else-count-frame+else-self-frame+then-not-room_of}
 
 pub follows-requires : goal.follows-requires

@@ -51,21 +51,27 @@ returns-then-not-offset_free-clause-told c rest =
 
 pub with_bits-requires-clause-le_width : goal.with_bits-requires-clause-le_width
 with_bits-requires-clause-le_width c =
+    let a = c.args in
     let signal = sym c.signal_right.ensures ∙ c.if-not-signal_right.false in
     let frame = sym c.frame_right.ensures ∙ c.if-not-frame_right.false in
     let offset = rw (c.shape_of-shape.ensures.0, c.shape_of-shape.ensures.1, c.room_of.ensures.0) at c.offset_free.ensures in
-    let right = all_right c.args.t.now c.args.k c.args.self.now c.requires.1 c.requires.0 c.record.result c.record.ensures.words signal frame (sym offset ∙ c.if-not-offset_free.false) in
-    (is_free c.args.t.now c.args.k c.args.self.now c.requires.1 c.requires.0 c.record.result c.record.ensures.words right _ c.shape_of-shape.ensures.1).0
+    let right =
+    all_right a.t.now a.k a.self.now c.requires.1 c.requires.0 c.record.result c.record.ensures.words signal frame
+        (sym offset ∙ c.if-not-offset_free.false) in
+    (is_free a.t.now a.k a.self.now c.requires.1 c.requires.0 c.record.result c.record.ensures.words right _ c.shape_of-shape.ensures.1).0
 
 pub returns : goal.returns
 returns c =
+    let a = c.args in
     let signal = sym c.signal_right.ensures ∙ c.if-not-signal_right.false in
     let frame = sym c.frame_right.ensures ∙ c.if-not-frame_right.false in
     let offset = rw (c.shape_of-shape.ensures.0, c.shape_of-shape.ensures.1, c.room_of.ensures.0) at c.offset_free.ensures in
-    let right = all_right c.args.t.now c.args.k c.args.self.now c.requires.1 c.requires.0 c.record.result c.record.ensures.words signal frame (sym offset ∙ c.if-not-offset_free.false) in
+    let right =
+    all_right a.t.now a.k a.self.now c.requires.1 c.requires.0 c.record.result c.record.ensures.words signal frame
+        (sym offset ∙ c.if-not-offset_free.false) in
     record {
-      told = goes_on c.args.t.now c.args.k c.args.self.now c.requires.1 c.requires.0 c.record.result c.record.ensures.words right;
+      told = goes_on a.t.now a.k a.self.now c.requires.1 c.requires.0 c.record.result c.record.ensures.words right;
       passed =
-          passes c.args.t.now c.args.k c.args.self.now c.requires.1 c.requires.0 c.record.result c.record.ensures.words right c.with_bits.result
+          passes a.t.now a.k a.self.now c.requires.1 c.requires.0 c.record.result c.record.ensures.words right c.with_bits.result
           (rw c.shape_of-shape.ensures.1 at c.with_bits.ensures);
     }
