@@ -6,67 +6,62 @@ use mathlib.Core.List.{List}
 use native.Mathlib.Decide.{ℕ_discrete}
 use native.Mathlib.Numerals.{add-one}
 use native.Mathlib.Omega.{arith}
-use lib.ListN.{length, get_or, set, replicate, length-set}
-use lib.Seq.{get_or-set_same, get_or-set_other}
 use Rattle.wire.specs.Bits.{bit}
 use Rattle.wire.proofs.Tests.{whether}
 use Rattle.signal.specs.Signal.{inside}
 use Rattle.signal.proofs.Inside.{inside_true}
 use Rattle.signal.proofs.Numbers.{bit_none}
 use Rattle.cluster.specs.Places.{any_below, place_of, covers}
+use Rattle.cluster.specs.Passed.{BitMarks}
 use Rattle.cluster.specs.Read.{hits}
 use Rattle.cluster.specs.Right.{occupied_before, overlaps}
-use Rattle.cluster.specs.Table.{most_frames, frame_count, placement_frame, placement_offset, placement_width}
+use Rattle.cluster.specs.Table.{frame_count, placement_frame, placement_offset, placement_width}
 use Rattle.cluster.proofs.Any.{none_below, any_found, any_at, any_none}
 use Rattle.cluster.proofs.Occupied.{covered_from, covers_own, covers_other}
-use Rattle.cluster.proofs.UsedMarks.{get_d_same}
 
--- bit j of the number of frame f says whether bit j of the frame belongs to one of the first n placements
-abbrev pub BitMarks : List ℕ → ℕ → List ℕ → Type 0
-BitMarks t n marks = (length marks ≡ most_frames) × ((f j : ℕ) → j < 64 → bit (get_or marks f 0) j ≡ occupied_before t n (64 * f + j))
-
-pub none_marked : (t : List ℕ) → BitMarks t 0 (replicate most_frames 0)
+pub none_marked : (t : List ℕ) (bits : ℕ → ℕ) → ((f : ℕ) → bits f ≡ 0) → BitMarks t 0 bits
 unfolding occupied_before any_below
-none_marked t = (refl, λ f j h. rw (get_d_same {A = ℕ} most_frames 0 f) (bit_none j))
+none_marked t bits none f j h = rw (none f) (bit_none j)
 
-module _ (t : List ℕ) (s : ℕ) (marks : List ℕ) (m : BitMarks t s marks) (fits : placement_offset t s + placement_width t s ≤ 64) where
+module _ (t : List ℕ) (s : ℕ) (bits : ℕ → ℕ) (m : BitMarks t s bits) (fits : placement_offset t s + placement_width t s ≤ 64) where
   -- one placement more, by cases of the frame asked about
-  module _ (below : placement_frame t s < most_frames) (r : ℕ)
-      (put : (j : ℕ) → bit r j ≡ (bit (get_or marks (placement_frame t s) 0) j || inside (placement_offset t s) (placement_width t s) j)) where
-    more : (f j : ℕ) → j < 64 → bit (get_or (set marks (placement_frame t s) r) f 0) j ≡ occupied_before t (suc s) (64 * f + j)
+  module _ (next : ℕ → ℕ) (other : (f : ℕ) → (f ≡ placement_frame t s → ⊥) → next f ≡ bits f)
+      (put : (j : ℕ) → bit (next (placement_frame t s)) j ≡
+          (bit (bits (placement_frame t s)) j || inside (placement_offset t s) (placement_width t s) j)) where
+    more : (f j : ℕ) → j < 64 → bit (next f) j ≡ occupied_before t (suc s) (64 * f + j)
     unfolding occupied_before any_below
     more f j h =
         elim (ℕ_discrete f (placement_frame t s)) [
-          | yes p ↦ rw (p, get_or-set_same marks (placement_frame t s) r 0 (omega (arith, m.0)), put j, m.1 (placement_frame t s) j h, covers_own t s j)
+          | yes p ↦ rw (p, put j, m (placement_frame t s) j h, covers_own t s j)
               (or_comm (occupied_before t s (64 * placement_frame t s + j)) (inside (placement_offset t s) (placement_width t s) j))
-          | no d ↦ rw (get_or-set_other marks (placement_frame t s) f r 0 d, covers_other t s fits f j h d) (m.1 f j h)
+          | no d ↦ rw (other f d, covers_other t s fits f j h d) (m f j h)
         ]
 
-    pub bits_marked : BitMarks t (s + 1) (set marks (placement_frame t s) r)
-    bits_marked = (simp length-set m.0, λ f j h. rw (add-one s) (more f j h))
+    pub bits_marked : BitMarks t (s + 1) next
+    bits_marked f j h = rw (add-one s) (more f j h)
 
   -- the bits that are not marked
   free : (j : ℕ) → (place_of t s ≤ j) × (j < place_of t s + placement_width t s)
-      → bit (get_or marks (placement_frame t s) 0) (placement_offset t s + (j - place_of t s)) ≡ false → occupied_before t s j ≡ false
+      → bit (bits (placement_frame t s)) (placement_offset t s + (j - place_of t s)) ≡ false → occupied_before t s j ≡ false
   unfolding place_of
   free j at h =
       let k = placement_offset t s + (j - place_of t s) in
       let e : 64 * placement_frame t s + k ≡ j = omega arith in
-      rw e at (sym (m.1 (placement_frame t s) k (omega arith)) ∙ h)
+      rw e at (sym (m (placement_frame t s) k (omega arith)) ∙ h)
 
   -- a placement overlaps an earlier one exactly where one of its bits is marked
-  pub overlap_is : placement_frame t s < frame_count t → overlaps t s ≡ hits (get_or marks (placement_frame t s) 0) (placement_offset t s) (placement_width t s)
+  pub overlap_is : placement_frame t s < frame_count t → overlaps t s ≡ hits (bits (placement_frame t s)) (placement_offset t s) (placement_width t s)
   unfolding overlaps hits
   overlap_is b =
       let f = 64 * placement_frame t s in
       let o = placement_offset t s in
       let both : ℕ → Bool = (λ j. covers t s j && occupied_before t s j) in
-      let marked : ℕ → Bool = (λ k. bit (get_or marks (placement_frame t s) 0) (o + k)) in
+      let marked : ℕ → Bool = (λ k. bit (bits (placement_frame t s)) (o + k)) in
       whether (any_below (placement_width t s) marked)
       (λ a. let found = any_found (placement_width t s) marked a in
       let k = found.0 in
       let own = covers_own t s (o + k) ∙ inside_true o (placement_width t s) (o + k) (omega arith) (omega (arith, found.1)) in
-      let earlier = sym (m.1 (placement_frame t s) (o + k) (omega (arith, found.1))) ∙ found.2 in
+      let earlier = sym (m (placement_frame t s) (o + k) (omega (arith, found.1))) ∙ found.2 in
       any_at (64 * frame_count t) both (f + (o + k)) (omega (arith, found.1)) (rw own earlier) ∙ sym a)
       (λ a. any_none (64 * frame_count t) both (λ j h. whether (covers t s j)
       (λ q. let k = j - place_of t s in

@@ -1,6 +1,6 @@
 -- What the table check tells: 1 and the number of words that are right before the first that is wrong, missing or surplus, or nothing.
 use Prim.Native.Nat.{ℕ, suc, ◌+◌, ◌≤◌}
-use mathlib.Core.Path.{◌≡◌, refl, ◌∙◌}
+use mathlib.Core.Path.{◌≡◌, refl, sym, ◌∙◌}
 use mathlib.Core.Bool.{Bool, cond, ◌&&◌}
 use mathlib.Core.List.{List, [], ◌∷◌}
 use native.Mathlib.Omega.{arith}
@@ -15,7 +15,10 @@ use Rattle.cluster.specs.Right.{words_right}
 use Rattle.cluster.specs.Check.{fault, faults, surplus, judged, taken_of}
 use Rattle.cluster.specs.Answers.{verdict_told, right_from, right_words, check_told}
 use Rattle.cluster.proofs.Accepted.{words, faults_length, none_missing}
-use Rattle.std.specs.Prelude.{Ok}
+use Rattle.std.specs.Prelude.{Ok, Err}
+use Rattle.std.specs.Result.{IsErrAnd}
+use Rattle.refusal.specs.declared.Refusal.{Refusal}
+use Rattle.refusal.proofs.PassedOn.{passed_on}
 use Rattle.cluster.specs.Check.{Verdict}
 
 -- the first fault of some words stands behind those that are right
@@ -52,11 +55,18 @@ judged_told_lem t =
     (λ b. rw (a, y, le-ltb (size t) (length t) b, eq-eqb (length t) (size t) (omega arith))))
     (λ n. let a : faults t 0 rights ≡ fault k = f ∙ rw n in rw (a, n))
 
--- the clause of the table check, from its answer
-pub check_told_lem : (t : List ℕ) (r : Verdict) → r ≡ judged t → (r ≡ judged t) × (verdict_told r ≡ check_told t)
-check_told_lem t r e = (e, rw e (judged_told_lem t))
+-- the clauses of the table check
+abbrev pub Answered : List ℕ → Verdict → Type 0
+Answered t r = record { value : r ≡ judged t; told : verdict_told r ≡ check_told t }
 
--- and that of the table that a call takes
+pub answered : (t : List ℕ) (r : Verdict) → r ≡ judged t → Answered t r
+answered t r e = record { value = e; told = rw e (judged_told_lem t) }
+
+-- what a `?` hands on is the refusal of the section that it met
+pub refused : (t : List ℕ) (r : Verdict) (e : Refusal) → IsErrAnd r (λ y. y ≡ e) → judged t ≡ Err e → Answered t r
+refused t r e handed is = answered t r (passed_on r e handed ∙ sym is)
+
+-- and those of the table that a call takes
 pub taken_told : (t : List ℕ) (r : Verdict) → r ≡ taken_of t → (r ≡ taken_of t) × (verdict_told r ≡ check_told t)
 unfolding taken_of
 taken_told t r e = (e, rw e (judged_told_lem t))

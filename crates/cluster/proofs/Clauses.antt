@@ -5,7 +5,8 @@ use mathlib.Core.Bool.{Bool, true, false, not, ◌&&◌}
 use borrow.Author.Tests.{ltb-true, leb-true, not-true}
 use lib.Dec.{ltb, leb}
 use Rattle.wire.proofs.Tests.{and_left, and_right}
-use Rattle.cluster.specs.Columns.{within, identifier_right, placement_signal_right, placement_frame_right, offset_right, placement_offset_right, member_frame_right}
+use Rattle.cluster.specs.Columns.{within, identifier_right, placement_signal_right, placement_frame_right, offset_right}
+use Rattle.cluster.specs.Columns.{placement_offset_right, member_frame_right}
 use Rattle.cluster.specs.Table.{identifiers}
 
 pub within_low : (a b x : ℕ) → within a b x ≡ true → a ≤ x

@@ -7,6 +7,8 @@ use native.Mathlib.Omega.{arith}
 use borrow.Author.Tests.{eqb-true, eq-eqb, ne_eqb}
 use lib.Dec.{eqb, eqb-suc-suc}
 use Rattle.wire.proofs.Tests.{whether}
+use Rattle.std.specs.Prelude.{Option, Some, None}
+use Rattle.std.specs.Option.{MatchOption, SomeIff}
 use Rattle.cluster.specs.Columns.{follows}
 use Rattle.cluster.specs.Table.{counted}
 
@@ -19,6 +21,14 @@ pub counted_last : (number : ℕ → ℕ) (n : ℕ) → (n ≡ 0 → ⊥) → co
 unfolding counted
 counted_last number zero h = absurd (h refl)
 counted_last number (suc n) h = let e : suc n - 1 ≡ n = omega arith in rw (e, add-one (number n))
+
+-- where the last one is read, if there is one
+pub counted_by : (number : ℕ → ℕ) (n r : ℕ) (last : Option ℕ) (P : ℕ → Type 0) → SomeIff last (1 ≤ n) (n - 1) → MatchOption last (r ≡ 0) P
+    → ((k : ℕ) → P k → r ≡ number k + 1) → r ≡ counted number n
+counted_by number n r None P some none read = none ∙ sym (counted_none number n (omega (arith, some)))
+counted_by number n r (Some k) P some is read =
+    let last : k ≡ n - 1 = omega (arith, some) in
+    read k is ∙ rw last (sym (counted_last number n (λ e. omega (arith, some, e))))
 
 pub counted_next : (number : ℕ → ℕ) (k : ℕ) → counted number (k + 1) ≡ number k + 1
 unfolding counted

@@ -9,12 +9,8 @@ use borrow.Author.Tests.{eqb-true}
 use lib.Dec.{eqb}
 use Rattle.wire.proofs.Tests.{whether}
 use Rattle.cluster.specs.Columns.{follows}
-use Rattle.cluster.specs.Right.{counts_up}
+use Rattle.cluster.specs.Passed.{CountsUp}
 use Rattle.cluster.specs.Table.{counted}
-
--- each of the first n numbers counts up
-abbrev pub CountsUp : (ℕ → ℕ) → ℕ → Type 0
-CountsUp number n = (k : ℕ) → k < n → counts_up number k ≡ true
 
 module _ (number : ℕ → ℕ) where
   pub up_first : (n : ℕ) → CountsUp number n → 0 < n → number 0 ≡ 0

@@ -13,7 +13,8 @@ use Rattle.cluster.specs.Table.{frame_count, list_count, entry_count, schedule_c
 use Rattle.cluster.specs.Table.{entry_schedule, entry_kind, entry_target, entry_delay}
 use Rattle.cluster.proofs.Accepted.{entry_right_lem}
 use Rattle.cluster.proofs.Clauses.{within_low, within_high}
-use Rattle.cluster.proofs.CountingUp.{CountsUp, up_first, up_step, up_monotone, up_below, up_count, up_each}
+use Rattle.cluster.proofs.CountingUp.{up_first, up_step, up_monotone, up_below, up_count, up_each}
+use Rattle.cluster.specs.Passed.{CountsUp}
 
 no_target : (frames lists kind target : ℕ) → 2 ≤ kind → target_right frames lists kind target ≡ true → target ≡ 0
 unfolding target_right

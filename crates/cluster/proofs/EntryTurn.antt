@@ -1,24 +1,23 @@
 -- The check of the entries: the words read are the fields.
-use Prim.Native.Nat.{ℕ, zero, suc, ◌+◌, ◌-◌, ◌≤◌, ◌<◌}
-use mathlib.Core.Path.{◌≡◌, refl, sym, ◌∙◌}
+use Prim.Native.Nat.{ℕ, zero, suc, ◌+◌, ◌*◌, ◌≤◌, ◌<◌}
+use mathlib.Core.Path.{◌≡◌, refl, sym}
 use mathlib.Core.Bool.{Bool, true}
-use mathlib.Core.List.{List}
-use native.Mathlib.Nat.{sub-zero}
+use mathlib.Core.List.{List, ◌++◌}
 use native.Mathlib.Omega.{arith}
 use borrow.Author.Tests.{ltb-true, leb-true, eqb-true}
 use lib.Dec.{eqb}
-use lib.ListN.{length}
-use Rattle.cluster.specs.Check.{fault, faults, entry_faults}
+use lib.ListN.{get_or}
+use Rattle.cluster.specs.Check.{fault, faults}
 use Rattle.cluster.specs.Columns.{follows, target_right, entry_columns}
-use Rattle.cluster.specs.Read.{EntryRead, due, leading}
-use Rattle.cluster.specs.Right.{entry_right, records}
-use Rattle.cluster.specs.Table.{most_frames, most_entries, counted, frame_count, list_count, entry_count, entry_words, entry_at}
+use Rattle.cluster.specs.Passed.{EntriesPassed}
+use Rattle.cluster.specs.Read.{IsRecord, due, leading}
+use Rattle.cluster.specs.Right.{entry_right}
+use Rattle.cluster.specs.Table.{entry_count, entry_words, entry_at}
 use Rattle.cluster.specs.Table.{entry_schedule, entry_kind, entry_target, entry_delay}
-use Rattle.cluster.specs.declared.entries.Words.{Words}
+use Rattle.cluster.specs.declared.entries.Passed.{Passed}
 use Rattle.cluster.proofs.Clauses.{within_high}
-use Rattle.cluster.proofs.Counting.{counted_none, counted_next, follows_high}
-use Rattle.cluster.proofs.Scan.{Agrees, cut_short, leading_all, all_there, halt_record, next_record, no_record}
-use Rattle.std.specs.Prelude.{Ok}
+use Rattle.cluster.proofs.Counting.{counted_next, follows_high}
+use Rattle.cluster.proofs.Scan.{Agrees, leading_all, all_there, stops_at, goes_to}
 
 -- a target is below what its kind allows
 target_below : (frames lists kind target : ℕ) → frames ≤ 60 → lists ≤ 65536 → target_right frames lists kind target ≡ true → target < 65536
@@ -33,26 +32,20 @@ other_kind frames lists zero target h k = absurd (h refl)
 other_kind frames lists (suc zero) target h k = absurd (k refl)
 other_kind frames lists (suc (suc kind)) target h k = refl
 
--- the entries before entry e are passed, and their schedules counted
-abbrev pub Passed : List ℕ → ℕ → ℕ → Type 0
-Passed t e schedules = (e ≤ entry_count t)
-    × (schedules ≡ counted (entry_schedule t) e)
-    × (schedules ≤ e)
-    × (entry_faults t ≡ faults t (entry_at t e) (records e (entry_count t - e) (entry_right t)))
+module _ (t : List ℕ) (e : ℕ) (x : Passed) (p : EntriesPassed t e x) (more : e < entry_count t) (w : List ℕ)
+    (read_at : IsRecord t (x.first + entry_words * e) entry_words w) where
+  here : x.first + entry_words * e ≡ entry_at t e
+  here = omega (arith, p.first)
 
--- what is known where entry e is judged
-abbrev pub Turn : List ℕ → ℕ → ℕ → Type 0
-Turn t e schedules =
-    Passed t e schedules × (e < entry_count t) × (frame_count t ≤ most_frames) × (entry_count t ≤ most_entries) × (list_count t ≤ 65536)
+  read : IsRecord t (entry_at t e) entry_words w
+  read = rw here at read_at
 
-pub none_passed : (t : List ℕ) → Passed t 0 0
-none_passed t = (omega arith, sym (counted_none (entry_schedule t) 0 refl), omega arith, rw sub-zero)
+  abbrev columns : ℕ → ℕ → ℕ → ℕ → List Bool
+  columns schedule kind target delay = entry_columns x.frames x.lists (follows x.schedules schedule) kind target delay
 
-pub all_passed : (t : List ℕ) (e schedules : ℕ) → Passed t e schedules → entry_count t ≤ e → Ok tt ≡ entry_faults t
-all_passed t e schedules p h = sym (p.3 ∙ no_record t (entry_at t e) (entry_right t) e (entry_count t) h)
-
-module _ (t : List ℕ) (e schedules : ℕ) where
   -- the record's words as they are read
+  abbrev pub seen : List Bool
+  seen = columns (get_or w 0 0) (get_or w 1 0) (get_or w 2 0) (get_or w 3 0)
 
   abbrev schedule_read : ℕ
   schedule_read = due t (entry_at t e)
@@ -66,60 +59,64 @@ module _ (t : List ℕ) (e schedules : ℕ) where
   abbrev delay_read : ℕ
   delay_read = due t (entry_at t e + 3)
 
-  abbrev pub entry_read : List Bool
-  entry_read = entry_columns (frame_count t) (list_count t) (follows schedules schedule_read) kind_read target_read delay_read
+  abbrev due_seen : List Bool
+  due_seen = columns schedule_read kind_read target_read delay_read
 
-  -- what the check computes of the words read is that list
-  pub seen_read : (w : Words) → EntryRead t (entry_at t e) w → (frames lists : ℕ) → frames ≡ frame_count t → lists ≡ list_count t
-      → entry_columns frames lists (follows schedules w.schedule) w.kind w.target w.delay ≡ entry_read
-  seen_read w read frames lists ef el = rw (ef, el, read.schedule_is, read.kind_is, read.target_is, read.delay_is)
+  same : seen ≡ due_seen
+  same = rw (read 0 (omega arith), read 1 (omega arith), read 2 (omega arith), read 3 (omega arith))
 
-  module _ (turn : Turn t e schedules) where
-    agrees : Agrees t (entry_at t e) 0 entry_read (entry_right t e)
-    unfolding entry_columns entry_right entry_schedule entry_kind entry_target entry_delay
-    agrees = (
-      (λ r. omega (arith, follows_high schedules schedule_read r)),
-      (λ s. (
-        rw (s, turn.0.1),
-        λ _. (
-          (λ r. omega (arith, leb-true kind_read 3 r)),
-          (λ k. (
-            rw k,
-            λ _. (
-              (λ r. target_below (frame_count t) (list_count t) kind_read target_read turn.2 turn.4 r),
-              (λ w. (rw (k, w), λ _. ((λ r. omega (arith, within_high _ 65535 delay_read r)), (λ d. (rw d, λ _. refl))))),
-            ),
-          )),
-        ),
-      )),
-    )
+  agrees : Agrees t (entry_at t e) 0 due_seen (entry_right t e)
+  unfolding entry_columns entry_right entry_schedule entry_kind entry_target entry_delay
+  agrees = (
+    (λ r. omega (arith, p.few, p.limits.entries, more, follows_high x.schedules schedule_read r)),
+    (λ s. (
+      rw (s, p.schedules),
+      λ _. (
+        (λ r. omega (arith, leb-true kind_read 3 r)),
+        (λ k. (
+          rw k,
+          λ _. (
+            (λ r. target_below x.frames x.lists kind_read target_read (omega (arith, p.frames, p.limits.frames)) p.lists_high r),
+            (λ v. (
+              rw (k, v, p.frames, p.lists),
+              λ _. ((λ r. omega (arith, within_high _ 65535 delay_read r)), (λ d. (rw d, λ _. refl))),
+            )),
+          ),
+        )),
+      ),
+    )),
+  )
 
-    -- a record that is cut off
-    pub cut_off : length t < entry_at t e + entry_words → leading entry_read < entry_words
+  -- a word is not right
+  pub stops : (j place : ℕ) → leading seen ≡ j → j < entry_words → x.first + entry_words * e + j ≡ place
+      → (rest : List Bool) → faults t (entry_at t e) (entry_right t e ++ rest) ≡ fault place
+  unfolding entry_columns
+  stops j place l b is = stops_at t (entry_at t e) due_seen (entry_right t e) agrees j place (rw same at l) b (omega (arith, here, is))
+
+  -- all words are right: the schedule read is the last so far
+  module _ (right : leading seen ≡ entry_words) where
+    pub goes_on : (rest : List Bool) → faults t (entry_at t e) (entry_right t e ++ rest) ≡ faults t (entry_at t (e + 1)) rest
     unfolding entry_columns
-    cut_off = cut_short t (entry_at t e) entry_read (entry_right t e) agrees (omega arith)
+    goes_on = goes_to t (entry_at t e) due_seen (entry_right t e) agrees (entry_at t (e + 1)) (rw same at right) (omega arith)
 
-    -- a word is not right
-    pub stops : leading entry_read < entry_words → (place : ℕ) → entry_at t e + leading entry_read ≡ place → fault place ≡ entry_faults t
+    all : entry_words ≤ leading due_seen
+    all = omega (arith, rw same at right)
+
+    schedule_is : get_or w 0 0 ≡ entry_schedule t e
+    unfolding entry_columns entry_schedule
+    schedule_is = rw (read 0 (omega arith)) (all_there t (entry_at t e) 0 due_seen (entry_right t e) agrees (leading_all due_seen all)).0
+
+    schedule_high : schedule_read ≤ x.schedules
     unfolding entry_columns
-    stops l place is =
-        sym (turn.0.3 ∙ halt_record t (entry_right t) e (entry_count t) (entry_at t e) entry_read place turn.1 agrees l is)
+    schedule_high = follows_high x.schedules schedule_read (leading_all due_seen all).0
 
-    -- all words are right: the schedule read is the last so far
-    module _ (right : entry_words ≤ leading entry_read) where
-      schedule_is : schedule_read ≡ entry_schedule t e
-      unfolding entry_columns entry_schedule
-      schedule_is = (all_there t (entry_at t e) 0 entry_read (entry_right t e) agrees (leading_all entry_read right)).0
-
-      schedule_high : schedule_read ≤ schedules
-      unfolding entry_columns
-      schedule_high = follows_high schedules schedule_read (leading_all entry_read right).0
-
-      pub passes : Passed t (e + 1) (schedule_read + 1)
-      unfolding entry_columns
-      passes = (
-        omega arith,
-        rw schedule_is (sym (counted_next (entry_schedule t) e)),
-        omega (arith, schedule_high),
-        turn.0.3 ∙ next_record t (entry_right t) e (entry_count t) (entry_at t e) entry_read (entry_at t (e + 1)) turn.1 agrees right (omega arith),
-      )
+    pub passes : EntriesPassed t (e + 1) (record { first = x.first; frames = x.frames; lists = x.lists; schedules = get_or w 0 0 + 1 })
+    passes = record {
+      limits = p.limits;
+      first = p.first;
+      frames = p.frames;
+      lists = p.lists;
+      lists_high = p.lists_high;
+      schedules = rw schedule_is (sym (counted_next (entry_schedule t) e));
+      few = omega (arith, read 0 (omega arith), schedule_high, p.few);
+    }

@@ -50,9 +50,11 @@ unfolding filled
 filled_turn t size n old bytes eo e = e ∙ rw (eo, add-one n)
 
 -- as many bytes as before
-pub filled_same : (t : List ℕ) (n size : ℕ) (first bytes : List ℕ) → first ≡ replicate size 255 → bytes ≡ filled t (length first) n → length bytes ≡ size
+pub filled_same : (t : List ℕ) (n size : ℕ) (first bytes : List ℕ) → first ≡ replicate size 255 → bytes ≡ filled t (length first) n
+    → length bytes ≡ size
 filled_same t n size first bytes ef e = ap length e ∙ filled_length t (length first) n ∙ ap length ef ∙ length-replicate size 255
 
-pub filled_all : (t : List ℕ) (n size : ℕ) (first bytes : List ℕ) → n ≡ placement_count t → first ≡ replicate size 255 → bytes ≡ filled t (length first) n
+pub filled_all : (t : List ℕ) (n size : ℕ) (first bytes : List ℕ) → n ≡ placement_count t → first ≡ replicate size 255
+    → bytes ≡ filled t (length first) n
     → bytes ≡ filled t size (placement_count t)
 filled_all t n size first bytes en ef e = let d : length first ≡ size = ap length ef ∙ length-replicate size 255 in rw (d, en) at e

@@ -120,7 +120,8 @@ module _ (t : List ℕ) (ok : RightTable t) where
         ∙ ap (number (signal_width t s)) (scalar_start_bit t s a)
         ∙ number_bits (signal_width t s) (signal_start t s) (scalar_start_below t ok s own_signal a))
 
-    pub fresh_array : is_array t s ≡ true → get_array (fresh_bytes t) (place_of t k) (array_length t s) ≡ replicate (array_length t s) (signal_start t s)
+    pub fresh_array : is_array t s ≡ true → get_array (fresh_bytes t) (place_of t k) (array_length t s) ≡ replicate (array_length t s)
+        (signal_start t s)
     unfolding get_array start_bytes
     fresh_array a =
         let vs = start_bytes t s in

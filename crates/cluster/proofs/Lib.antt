@@ -52,7 +52,6 @@ pub mod UsedMarks
 pub mod ValueLaws
 pub mod ValueSteps
 pub mod ValuesExactly
-pub mod Whole
 pub mod Widths
 pub mod WordTests
 pub mod WordsExactly

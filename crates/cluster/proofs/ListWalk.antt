@@ -78,30 +78,3 @@ module _ (t : List ℕ) (l : ℕ) where
   pub left_none : (m : ℕ) → member_count t ≤ next_member t l m → left_from t l m ≡ []
   unfolding left_from next_member
   left_none m h = none m (member_count t - m) (omega (arith, next_member_from m))
-
-  -- the first frame left is that of a member of the list, and of any other member none is left
-  left_here : (m : ℕ) → m < member_count t → member_list t m ≡ l → left_from t l m ≡ member_frame t m ∷ left_from t l (suc m)
-  unfolding left_from
-  left_here m h e = let n : member_count t - m ≡ suc (member_count t - suc m) = omega arith in rw n (turn_in m (member_count t - suc m) e)
-
-  left_other : (m : ℕ) → m < member_count t → (member_list t m ≡ l → ⊥) → left_from t l m ≡ left_from t l (suc m)
-  unfolding left_from
-  left_other m h d = let n : member_count t - m ≡ suc (member_count t - suc m) = omega arith in rw n (turn_out m (member_count t - suc m) d)
-
-  -- a frame is one of those left where it is that of this member, or one of those left behind it
-  pub one_of_here : (f m : ℕ) → m < member_count t → member_list t m ≡ l → member_frame t m ≡ f → is_one_of f (left_from t l m) ≡ true
-  unfolding is_one_of
-  one_of_here f m h e q = rw (left_here m h e, eq-eqb (member_frame t m) f q)
-
-  pub one_of_later : (f m : ℕ) → m < member_count t → member_list t m ≡ l → (member_frame t m ≡ f → ⊥)
-      → is_one_of f (left_from t l m) ≡ is_one_of f (left_from t l (m + 1))
-  unfolding is_one_of
-  one_of_later f m h e d = rw (add-one m, left_here m h e, ne_eqb (member_frame t m) f d)
-
-  pub one_of_other : (f m : ℕ) → m < member_count t → (member_list t m ≡ l → ⊥)
-      → is_one_of f (left_from t l m) ≡ is_one_of f (left_from t l (m + 1))
-  one_of_other f m h d = rw (add-one m, left_other m h d)
-
-  pub one_of_none : (f m : ℕ) → member_count t ≤ m → is_one_of f (left_from t l m) ≡ false
-  unfolding is_one_of left_from members_from
-  one_of_none f m h = let n : member_count t - m ≡ 0 = omega arith in rw n

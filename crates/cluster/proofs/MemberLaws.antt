@@ -10,7 +10,8 @@ use Rattle.cluster.specs.Right.{earlier, member_right}
 use Rattle.cluster.specs.Table.{frame_count, published, member_count, member_list, member_frame, list_count}
 use Rattle.cluster.proofs.Accepted.{member_right_lem}
 use Rattle.cluster.proofs.Clauses.{member_says}
-use Rattle.cluster.proofs.CountingUp.{CountsUp, up_first, up_step, up_monotone, up_below, up_count, up_each}
+use Rattle.cluster.proofs.CountingUp.{up_first, up_step, up_monotone, up_below, up_count, up_each}
+use Rattle.cluster.specs.Passed.{CountsUp}
 use Rattle.cluster.proofs.Earlier.{distinct}
 
 module _ (t : List ℕ) (ok : RightTable t) where

@@ -49,7 +49,8 @@ module _ (t : List ℕ) (k : ℕ) where
       (λ b. inside_high (f + o) w (f + j) (omega arith) ∙ sym (inside_high o w j b)))
 
   -- a placement that ends inside its 64 bits has no bit of another frame
-  pub covers_other : placement_offset t k + placement_width t k ≤ 64 → (f j : ℕ) → j < 64 → (f ≡ placement_frame t k → ⊥) → covers t k (64 * f + j) ≡ false
+  pub covers_other : placement_offset t k + placement_width t k ≤ 64 → (f j : ℕ) → j < 64 → (f ≡ placement_frame t k → ⊥)
+      → covers t k (64 * f + j) ≡ false
   unfolding covers place_of
   covers_other e f j b d =
       let o = 64 * placement_frame t k + placement_offset t k in

@@ -12,7 +12,8 @@ use lib.Dec.{eqb}
 use lib.ListN.{length, get_or}
 use Rattle.signal.proofs.Inside.{order}
 use Rattle.cluster.specs.Lists.{first_from, first_entry, next_entry, members_from, members, next_member}
-use Rattle.cluster.specs.Table.{placement_count, word, frame_count, signal_count, member_count, member_list, member_frame, entry_count, entry_schedule}
+use Rattle.cluster.specs.Table.{placement_count, word, frame_count, signal_count, member_count, member_list, member_frame, entry_count}
+use Rattle.cluster.specs.Table.{entry_schedule}
 use Rattle.cluster.proofs.InWords.{M, E, list_word, member_word, schedule_word}
 use Rattle.cluster.proofs.ListLaws.{Each, each}
 use Rattle.cluster.proofs.ListWalk.{turn_in, turn_out}
@@ -34,7 +35,8 @@ found_exactly number x k n d b =
       (λ w.
           let high : first_from test k n ≤ d = first_least test k n d w.0 (eq-eqb (number d) x w.1) in
           order (first_from test k n) d
-          (λ c. absurd (w.2 (first_from test k n) (first_from_lem test k n) c (eqb-true (number (first_from test k n)) x (first_holds test k n (omega arith)))))
+          (λ c. absurd (w.2 (first_from test k n) (first_from_lem test k n) c
+              (eqb-true (number (first_from test k n)) x (first_holds test k n (omega arith)))))
           (λ c. omega arith)),
     )
 
@@ -142,7 +144,8 @@ module _ (t : List ℕ) where
     abbrev AllOrdered : ℕ → ℕ → List ℕ → Type 0
     AllOrdered m n xs = (i j : ℕ) → i < j → j < length xs → Ordered l m n (get_or xs i 0) (get_or xs j 0)
 
-    one_more : (m n : ℕ) (xs : List ℕ) → member_list t m ≡ l → Each t l (suc m) n xs → AllOrdered (suc m) n xs → AllOrdered m n (member_frame t m ∷ xs)
+    one_more : (m n : ℕ) (xs : List ℕ) → member_list t m ≡ l → Each t l (suc m) n xs → AllOrdered (suc m) n xs
+        → AllOrdered m n (member_frame t m ∷ xs)
     one_more m n xs p e all i zero b h = absurd (omega arith)
     one_more m n xs p e all zero (suc j) b h =
         let w = e j (omega arith) in (m, w.member, omega arith, w.from, w.below, p, w.list, refl, w.same)

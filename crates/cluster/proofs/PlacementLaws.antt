@@ -18,7 +18,8 @@ use Rattle.cluster.specs.Table.{placement_count, placement_signal, placement_fra
 use Rattle.cluster.specs.Values.{touches, first_placement, placement_in, signal_published}
 use Rattle.cluster.proofs.Accepted.{placement_right_lem, all_placed_lem}
 use Rattle.cluster.proofs.Clauses.{signal_says, frame_says, offset_says}
-use Rattle.cluster.proofs.CountingUp.{CountsUp, up_each}
+use Rattle.cluster.proofs.CountingUp.{up_each}
+use Rattle.cluster.specs.Passed.{CountsUp}
 use Rattle.cluster.proofs.EarlierPlacement.{same_test, none_earlier}
 use Rattle.cluster.proofs.FrameLaws.{frame_length_high}
 use Rattle.cluster.proofs.Searching.{first_holds, first_least}
@@ -75,7 +76,8 @@ module _ (t : List ℕ) (ok : RightTable t) where
     pub array_offset : is_array t (placement_signal t k) ≡ true → placement_offset t k % 8 ≡ 0
     unfolding offset_right
     array_offset a =
-        let w = and_right (ltb (placement_offset t k) (frame_bits t k)) (cond (is_array t (placement_signal t k)) (eqb (placement_offset t k % 8) 0) true) offset_column.0 in
+        let w = and_right (ltb (placement_offset t k) (frame_bits t k))
+            (cond (is_array t (placement_signal t k)) (eqb (placement_offset t k % 8) 0) true) offset_column.0 in
         eqb-true (placement_offset t k % 8) 0 (rw a at w)
 
     -- a placement ends inside the frame buffer

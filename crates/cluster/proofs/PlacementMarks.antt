@@ -9,56 +9,29 @@ use native.Mathlib.Numerals.{add-one}
 use native.Mathlib.Omega.{arith}
 use borrow.Author.Tests.{eq-eqb, ne_eqb, eqb-true}
 use lib.Dec.{eqb}
-use lib.ListN.{length, get_or, set, replicate, length-set, length-replicate}
-use lib.Seq.{get_or-set_same, get_or-set_other}
 use Rattle.wire.proofs.Tests.{whether}
 use Rattle.cluster.specs.Places.{any_below, places}
 use Rattle.cluster.specs.Right.{earlier_placement, again, mixed}
-use Rattle.cluster.specs.Table.{most_frames, counted, published, placement_signal, placement_frame}
+use Rattle.cluster.specs.Table.{counted, published, placement_signal, placement_frame}
 use Rattle.cluster.proofs.Any.{any_none}
-use Rattle.cluster.proofs.CountingUp.{CountsUp, up_monotone}
+use Rattle.cluster.proofs.CountingUp.{up_monotone}
+use Rattle.cluster.specs.Passed.{CountsUp, last_in, frame_before}
 use Rattle.cluster.proofs.EarlierPlacement.{same_test, none_earlier}
-use Rattle.cluster.proofs.UsedMarks.{get_d_same}
-
--- one more than the signal of the last of the first k placements that is in frame f; 0 where none is
-unfoldable pub last_in : List ℕ → ℕ → ℕ → ℕ
-last_in t zero f = 0
-last_in t (suc k) f = cond (eqb (placement_frame t k) f) (suc (placement_signal t k)) (last_in t k f)
-
--- the frame of the placement before placement k
-unfoldable pub frame_before : List ℕ → ℕ → ℕ
-frame_before t zero = 0
-frame_before t (suc k) = placement_frame t k
 
 pub frame_next : (t : List ℕ) (k : ℕ) → frame_before t (k + 1) ≡ placement_frame t k
 unfolding frame_before
 frame_next t k = rw (add-one k)
 
-abbrev pub LastMarks : List ℕ → ℕ → List ℕ → Type 0
-LastMarks t k marks = (length marks ≡ most_frames) × ((f : ℕ) → get_or marks f 0 ≡ last_in t k f)
-
-pub no_last : (t : List ℕ) → LastMarks t 0 (replicate most_frames 0)
+-- one placement more, by cases of the frame asked about
+pub last_marked : (t : List ℕ) (k : ℕ) (last next : ℕ → ℕ) → ((f : ℕ) → last f ≡ last_in t k f)
+    → next (placement_frame t k) ≡ placement_signal t k + 1 → ((f : ℕ) → (f ≡ placement_frame t k → ⊥) → next f ≡ last f)
+    → (f : ℕ) → next f ≡ last_in t (k + 1) f
 unfolding last_in
-no_last t = (length-replicate {A = ℕ} most_frames 0, get_d_same {A = ℕ} most_frames 0)
-
-module _ (t : List ℕ) (k : ℕ) (marks : List ℕ) (m : LastMarks t k marks) (below : placement_frame t k < most_frames) where
-  last_more : (f : ℕ) → get_or (set marks (placement_frame t k) (suc (placement_signal t k))) f 0 ≡ last_in t (suc k) f
-  unfolding last_in
-  last_more f =
-      elim (ℕ_discrete f (placement_frame t k)) [
-        | yes p ↦ rw (
-          p,
-          get_or-set_same marks (placement_frame t k) (suc (placement_signal t k)) 0 (omega (arith, m.0)),
-          eq-eqb (placement_frame t k) (placement_frame t k) refl,
-        )
-        | no d ↦ rw (
-          get_or-set_other marks (placement_frame t k) f (suc (placement_signal t k)) 0 d,
-          ne_eqb (placement_frame t k) f (λ p. d (sym p)),
-        ) (m.1 f)
-      ]
-
-  pub last_marked : LastMarks t (k + 1) (set marks (placement_frame t k) (placement_signal t k + 1))
-  last_marked = (simp length-set m.0, λ f. rw (add-one k, add-one (placement_signal t k)) (last_more f))
+last_marked t k last next m here other f =
+    elim (ℕ_discrete f (placement_frame t k)) [
+      | yes p ↦ rw (p, here, add-one k, eq-eqb (placement_frame t k) (placement_frame t k) refl) (add-one (placement_signal t k))
+      | no d ↦ rw (other f d, add-one k, ne_eqb (placement_frame t k) f (λ p. d (sym p))) (m f)
+    ]
 
 -- placement j is one of the signal of placement k, and its frame has the other publisher
 abbrev differs : List ℕ → ℕ → ℕ → Bool
@@ -95,7 +68,8 @@ module _ (t : List ℕ) (n : ℕ) (up : CountsUp (placement_signal t) n) where
       ]))
       (λ z. rw (z, and-false (eqb (placement_signal t k) x)) (twice k x f (omega arith) (λ j h. low j (omega arith))))
     where
-      none : (k x f : ℕ) → suc k ≤ n → placement_signal t k < x → any_below k (λ j. eqb (placement_signal t j) x && eqb (placement_frame t j) f) ≡ false
+      none : (k x f : ℕ) → suc k ≤ n → placement_signal t k < x
+          → any_below k (λ j. eqb (placement_signal t j) x && eqb (placement_frame t j) f) ≡ false
       none k x f b l =
           any_none k (λ j. eqb (placement_signal t j) x && eqb (placement_frame t j) f)
           (λ j h. let m = up_monotone (placement_signal t) n up j k (omega arith) (omega arith) in
@@ -122,13 +96,15 @@ module _ (t : List ℕ) (n : ℕ) (up : CountsUp (placement_signal t) n) where
 
   -- the frames of a signal that had one publisher so far have two exactly where this one differs from the last one
   pub mixed_is : (k : ℕ) → k < n → ((j : ℕ) → j < k → mixed t j ≡ false)
-      → mixed t k ≡ (eqb (placement_signal t k + 1) (counted (placement_signal t) k) && not (beq (published t (frame_before t k)) (published t (placement_frame t k))))
+      → mixed t k ≡ (eqb (placement_signal t k + 1) (counted (placement_signal t) k) && not
+          (beq (published t (frame_before t k)) (published t (placement_frame t k))))
   unfolding mixed earlier_placement any_below counted frame_before
   mixed_is zero h one = rw (ne_eqb (placement_signal t 0 + 1) 0 (λ e. omega arith))
   mixed_is (suc k) h one =
       elim (ℕ_discrete (placement_signal t k) (placement_signal t (suc k))) [
         | yes e ↦
-            rw (eq-eqb (placement_signal t k) (placement_signal t (suc k)) e, eq-eqb (placement_signal t (suc k) + 1) (suc (placement_signal t k)) (omega arith))
+            rw (eq-eqb (placement_signal t k) (placement_signal t (suc k)) e,
+                eq-eqb (placement_signal t (suc k) + 1) (suc (placement_signal t k)) (omega arith))
             (whether (differs t (suc k) k)
             (λ y. rw y)
             (λ z. rw z (any_none k (other t (suc k)) (alike t k (one k (omega arith)) e z))))

@@ -1,4 +1,5 @@
--- The table check in the papers' words (proofs/InWords): it accepts exactly the tables of the right length of which every word is right and every signal
+-- The table check in the papers' words (proofs/InWords): it accepts exactly the tables of the right length of which every word is
+-- right and every signal
 -- has a placement, and
 -- refuses at exactly the first position at which a word is wrong, missing or surplus.
 use Prim.Native.Nat.{ℕ, zero, suc, ◌+◌, ◌-◌, ◌*◌, ◌/◌, ◌%◌, ◌≤◌, ◌<◌}
@@ -20,8 +21,10 @@ use Rattle.cluster.proofs.FirstFault.{FirstFault, AtFault, first_fault, words_ri
 use Rattle.cluster.proofs.InWords.{F, S, M, E, P, signals_at, placements_at, members_at, entries_at, words_due}
 use Rattle.cluster.proofs.InWords.{SignalSays, EachPlaced, RightAt, Wrong, Missing, Surplus, Unplaced, FirstWrong}
 use Rattle.cluster.proofs.WordsExactly.{Before}
-use Rattle.cluster.proofs.WordsExactly.{frames_word, signals_word, members_word, entries_word, placements_word, identifier_word_lem, length_word_lem, flags_word_lem}
-use Rattle.cluster.proofs.WordsExactly.{kind_word_lem, width_word_lem, start_word_lem, signal_word_lem, frame_word_lem, offset_word_lem, placed_exactly, unplaced_word, list_word_lem, member_word_lem}
+use Rattle.cluster.proofs.WordsExactly.{frames_word, signals_word, members_word, entries_word, placements_word, identifier_word_lem}
+use Rattle.cluster.proofs.WordsExactly.{length_word_lem, flags_word_lem}
+use Rattle.cluster.proofs.WordsExactly.{kind_word_lem, width_word_lem, start_word_lem, signal_word_lem, frame_word_lem, offset_word_lem}
+use Rattle.cluster.proofs.WordsExactly.{placed_exactly, unplaced_word, list_word_lem, member_word_lem}
 use Rattle.cluster.proofs.WordsExactly.{schedule_word_lem, entry_kind_word_lem, target_word_lem, delay_word_lem}
 use Rattle.std.specs.Prelude.{Ok, Err}
 use Rattle.cluster.specs.Check.{Verdict}

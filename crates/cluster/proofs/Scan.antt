@@ -9,9 +9,9 @@ use borrow.Author.Tests.{lt-ltb, le-ltb}
 use lib.ListN.{length}
 use Rattle.wire.proofs.Tests.{whether}
 use Rattle.signal.proofs.Inside.{order}
-use Rattle.cluster.specs.Check.{fault, faults}
+use Rattle.cluster.specs.Check.{Verdict, fault, faults, then}
 use Rattle.cluster.specs.Right.{records}
-use Rattle.cluster.specs.Read.{due, leading}
+use Rattle.cluster.specs.Read.{due, leading, position}
 use Rattle.cluster.specs.Table.{word}
 use Rattle.cluster.proofs.Accepted.{AllTrue}
 use Rattle.std.specs.Prelude.{Ok}
@@ -50,12 +50,7 @@ stop t i right rest wrong =
 
 -- ---- the words of a record
 
--- the position of word k of those from at on
-abbrev pub position : ℕ → ℕ → ℕ
-position at zero = at
-position at (suc k) = at + suc k
-
-position_is : (at k : ℕ) → position at k ≡ at + k
+pub position_is : (at k : ℕ) → position at k ≡ at + k
 position_is at zero = omega arith
 position_is at (suc k) = refl
 
@@ -113,7 +108,8 @@ cut_short t at seen rights a some short =
     order (leading seen) (length seen) (λ l. l) (λ h. absurd (omega (arith, reaches t at 0 seen rights a (leading_all seen h) some)))
 
 module _ (t : List ℕ) (at : ℕ) (rest : List Bool) where
-  forward : (k : ℕ) (right : Bool) (rights : List Bool) → due t (position at k) < 65536 → (due t (position at k) ≡ word t (position at k) → right ≡ true)
+  forward : (k : ℕ) (right : Bool) (rights : List Bool) → due t (position at k) < 65536
+      → (due t (position at k) ≡ word t (position at k) → right ≡ true)
       → faults t (position at k) (right ∷ rights ++ rest) ≡ faults t (position at (suc k)) (rights ++ rest)
   forward k right rights = pass t (position at k) (position at (suc k)) right (rights ++ rest) (omega (arith, position_is at k))
 
@@ -144,17 +140,18 @@ module _ (t : List ℕ) (at : ℕ) (rest : List Bool) where
       ∙ rw here at (goes_on (suc k) more rights ((a.1 (due_is t (position at k) d)).1 e) (omega (arith, leading_right seen more e))))
       (λ e. absurd (omega (arith, leading_wrong seen more e)))
 
--- words alone, with no record behind them
-pub halt_words : (t : List ℕ) (at : ℕ) (seen rights : List Bool) (place : ℕ) → Agrees t at 0 seen rights
-    → leading seen < length seen → at + leading seen ≡ place → faults t at rights ≡ fault place
-halt_words t at seen rights place a l e =
-    let here : at + (0 + leading seen) ≡ place = omega arith in
-    rw (append-nil, here) at (halts t at [] 0 seen rights a l)
+-- the words of a record, of which j are seen as right before the first that is not; and where all are
+module _ (t : List ℕ) (at : ℕ) (seen rights : List Bool) (a : Agrees t at 0 seen rights) where
+  pub stops_at : (j place : ℕ) → leading seen ≡ j → j < length seen → at + j ≡ place → (rest : List Bool) → faults t at (rights ++ rest) ≡ fault place
+  stops_at j place l b e rest =
+      let here : at + (0 + leading seen) ≡ place = omega arith in
+      rw here at (halts t at rest 0 seen rights a (omega arith))
 
-pub pass_words : (t : List ℕ) (at : ℕ) (seen rights : List Bool) → Agrees t at 0 seen rights → length seen ≤ leading seen
-    → faults t at rights ≡ Ok tt
-unfolding faults
-pass_words t at seen rights a h = rw append-nil at (goes_on t at [] 0 seen rights a h)
+  pub goes_to : (next : ℕ) → leading seen ≡ length seen → at + length seen ≡ next → (rest : List Bool)
+      → faults t at (rights ++ rest) ≡ faults t next rest
+  goes_to next l e rest =
+      let here : at + (0 + length seen) ≡ next = omega arith in
+      rw here at (goes_on t at rest 0 seen rights a (omega arith))
 
 -- ---- records
 
@@ -162,20 +159,11 @@ turn : (right : ℕ → List Bool) (k n : ℕ) → k < n → records k (n - k) r
 unfolding records
 turn right k n h = let e : n - k ≡ suc (n - (k + 1)) = omega arith in rw (e, add-one k)
 
-module _ (t : List ℕ) (right : ℕ → List Bool) (k n at : ℕ) (seen : List Bool) where
-  -- record k of n has a word that is not right
-  pub halt_record : (place : ℕ) → k < n → Agrees t at 0 seen (right k) → leading seen < length seen → at + leading seen ≡ place
-      → faults t at (records k (n - k) right) ≡ fault place
-  halt_record place h a l e =
-      let here : at + (0 + leading seen) ≡ place = omega arith in
-      rw (turn right k n h) (rw here at (halts t at (records (k + 1) (n - (k + 1)) right) 0 seen (right k) a l))
-
-  -- record k of n is right
-  pub next_record : (next : ℕ) → k < n → Agrees t at 0 seen (right k) → length seen ≤ leading seen → at + length seen ≡ next
-      → faults t at (records k (n - k) right) ≡ faults t next (records (k + 1) (n - (k + 1)) right)
-  next_record next h a l e =
-      let here : at + (0 + length seen) ≡ next = omega arith in
-      rw (turn right k n h) (rw here at (goes_on t at (records (k + 1) (n - (k + 1)) right) 0 seen (right k) a l))
+-- what record k of n tells, whatever is behind it, is what the records from there on tell
+pub next_record : (t : List ℕ) (at next : ℕ) (right : ℕ → List Bool) (k n : ℕ) (v : Verdict) → k < n
+    → ((rest : List Bool) → faults t at (right k ++ rest) ≡ then v (faults t next rest))
+    → faults t at (records k (n - k) right) ≡ then v (faults t next (records (k + 1) (n - (k + 1)) right))
+next_record t at next right k n v h told = rw (turn right k n h) (told (records (k + 1) (n - (k + 1)) right))
 
 pub no_record : (t : List ℕ) (at : ℕ) (right : ℕ → List Bool) (k n : ℕ) → n ≤ k → faults t at (records k (n - k) right) ≡ Ok tt
 unfolding records faults

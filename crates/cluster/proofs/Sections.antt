@@ -8,13 +8,15 @@ use native.Mathlib.Omega.{arith}
 use lib.Dec.{ltb}
 use lib.ListN.{length, length-append}
 use Rattle.wire.proofs.Tests.{whether}
-use Rattle.cluster.specs.Check.{fault, faults, header_faults, frame_faults, signal_faults, placement_faults, unplaced, member_faults, entry_faults, then}
+use Rattle.cluster.specs.Check.{fault, faults, header_faults, frame_faults, signal_faults, placement_faults, unplaced, member_faults}
+use Rattle.cluster.specs.Check.{entry_faults, then}
 use Rattle.cluster.specs.Check.{surplus, judged}
 use Rattle.cluster.specs.Columns.{header_columns, frame_columns, signal_columns, placement_columns, member_columns, width_right}
-use Rattle.cluster.specs.Read.{RecordsBefore}
+use Rattle.cluster.specs.Read.{InLimits, RecordsBefore}
 use Rattle.cluster.specs.Right.{records, header_right, frame_right, signal_right, placement_right, all_placed, member_right, entry_right}
 use Rattle.cluster.specs.Right.{front_right, back_right, words_right}
-use Rattle.cluster.specs.Table.{most_frames, most_signals, most_members, most_entries, most_placements, header_words, frame_words, signal_words, member_words}
+use Rattle.cluster.specs.Table.{most_frames, most_signals, most_members, most_entries, most_placements, header_words, frame_words}
+use Rattle.cluster.specs.Table.{signal_words, member_words}
 use Rattle.cluster.specs.Table.{frame_count, signal_count, placement_count, member_count, entry_count, frame_length, is_array, signal_width}
 use Rattle.cluster.specs.Table.{frame_at, signal_at, placement_at, member_at, entry_at}
 use Rattle.cluster.proofs.Accepted.{all_records, length_records, faults_true, faults_length, front_words, placed_words, unplaced_words}
@@ -94,11 +96,8 @@ module _ (t : List ℕ) where
   abbrev pub from_members : Verdict
   from_members = then (member_faults t) from_entries
 
-  abbrev pub from_unplaced : Verdict
-  from_unplaced = then (unplaced t) from_members
-
   abbrev pub from_placements : Verdict
-  from_placements = then (placement_faults t) from_unplaced
+  from_placements = then (then (placement_faults t) (unplaced t)) from_members
 
   abbrev pub from_signals : Verdict
   from_signals = then (signal_faults t) from_placements
@@ -110,23 +109,46 @@ module _ (t : List ℕ) where
   unfolding judged
   judged_sections = rw (all_faults, front_faults, back_faults) (simp then_then)
 
+  -- where the sections before accept, the answer is that of those from the next one on
+
+  pub after_header : header_faults t ≡ Ok tt → judged t ≡ from_frames
+  after_header h = judged_sections ∙ rw h
+
+  pub after_frames : header_faults t ≡ Ok tt → frame_faults t ≡ Ok tt → judged t ≡ from_signals
+  after_frames h f = after_header h ∙ rw f
+
+  pub after_signals : header_faults t ≡ Ok tt → frame_faults t ≡ Ok tt → signal_faults t ≡ Ok tt → judged t ≡ from_placements
+  after_signals h f s = after_frames h f ∙ rw s
+
+  pub after_placements : header_faults t ≡ Ok tt → frame_faults t ≡ Ok tt → signal_faults t ≡ Ok tt → then (placement_faults t) (unplaced t) ≡ Ok tt
+      → judged t ≡ from_members
+  after_placements h f s p = after_signals h f s ∙ rw p
+
+  pub after_members : judged t ≡ from_members → member_faults t ≡ Ok tt → judged t ≡ from_entries
+  after_members before m = before ∙ rw m
+
+  pub after_entries : judged t ≡ from_entries → entry_faults t ≡ Ok tt → judged t ≡ surplus t
+  after_entries before e = before ∙ rw e
+
   -- ---- what each section leaves to the next
 
-  pub header_passed : header_faults t ≡ Ok tt
-      → (frame_count t ≤ most_frames) × (signal_count t ≤ most_signals) × (member_count t ≤ most_members) × (entry_count t ≤ most_entries)
-      × (placement_count t ≤ most_placements)
-  header_passed h = header_counts t (faults_true t 0 (header_right t) h)
+  pub header_passed : header_faults t ≡ Ok tt → InLimits t
+  header_passed h =
+      let counts = header_counts t (faults_true t 0 (header_right t) h) in
+      record { frames = counts.0; signals = counts.1; members = counts.2; entries = counts.3; placements = counts.4 }
 
   frames_passed : frame_faults t ≡ Ok tt → (f : ℕ) → f < frame_count t → frame_length t f ≤ 8
   unfolding frame_right frame_columns
   frames_passed h f b =
       within_high 1 8 (frame_length t f)
-      (all_records (frame_right t) 0 (frame_count t) (faults_true t (frame_at 0) (records 0 (frame_count t) (frame_right t)) h) f (omega arith) (omega arith)).1.0
+      (all_records (frame_right t) 0 (frame_count t) (faults_true t (frame_at 0) (records 0 (frame_count t) (frame_right t)) h) f (omega arith)
+          (omega arith)).1.0
 
   signals_passed : signal_faults t ≡ Ok tt → (s : ℕ) → s < signal_count t → width_right (is_array t s) (signal_width t s) ≡ true
   unfolding signal_right signal_columns is_array
   signals_passed h s b =
-      (all_records (signal_right t) 0 (signal_count t) (faults_true t (signal_at t 0) (records 0 (signal_count t) (signal_right t)) h) s (omega arith) (omega arith)).1.0
+      (all_records (signal_right t) 0 (signal_count t) (faults_true t (signal_at t 0) (records 0 (signal_count t) (signal_right t)) h) s
+          (omega arith) (omega arith)).1.0
 
   -- where a section accepts, its words are there
   words_there : header_faults t ≡ Ok tt → frame_faults t ≡ Ok tt → signal_faults t ≡ Ok tt → placement_at t 0 ≤ length t
@@ -148,8 +170,8 @@ module _ (t : List ℕ) where
   pub records_passed : header_faults t ≡ Ok tt → frame_faults t ≡ Ok tt → signal_faults t ≡ Ok tt → RecordsBefore t
   records_passed h f s = record {
     all = words_there h f s;
-    frames = (header_passed h).0;
-    signals = (header_passed h).1;
+    frames = (header_passed h).frames;
+    signals = (header_passed h).signals;
     short = frames_passed f;
     widths = signals_passed s;
   }

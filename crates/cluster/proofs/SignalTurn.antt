@@ -1,34 +1,30 @@
 -- The check of the signals: the words read are the fields.
-use Prim.Native.Nat.{ℕ, ◌+◌, ◌-◌, ◌≤◌, ◌<◌}
-use mathlib.Core.Path.{◌≡◌, refl, sym, ◌∙◌}
+use Prim.Native.Nat.{ℕ, ◌+◌, ◌*◌, ◌<◌}
+use mathlib.Core.Path.{◌≡◌, refl}
 use mathlib.Core.Bool.{Bool}
-use mathlib.Core.List.{List}
-use native.Mathlib.Nat.{sub-zero}
+use mathlib.Core.List.{List, ◌++◌}
 use native.Mathlib.Omega.{arith}
 use borrow.Author.Tests.{ltb-true, leb-true}
 use lib.Dec.{eqb}
-use lib.ListN.{length}
-use Rattle.cluster.specs.Check.{fault, faults, signal_faults}
+use lib.ListN.{get_or}
+use Rattle.cluster.specs.Check.{fault, faults}
 use Rattle.cluster.specs.Columns.{start_limit, signal_columns}
-use Rattle.cluster.specs.Read.{SignalRead, due, leading}
-use Rattle.cluster.specs.Right.{signal_right, records}
-use Rattle.cluster.specs.Table.{signal_count, signal_words, signal_at, signal_kind, signal_width, signal_start}
-use Rattle.cluster.specs.declared.signals.Words.{Words}
-use Rattle.cluster.proofs.Scan.{Agrees, cut_short, halt_record, next_record, no_record}
+use Rattle.cluster.specs.Passed.{SignalsPassed}
+use Rattle.cluster.specs.Read.{IsRecord, due, leading}
+use Rattle.cluster.specs.Right.{signal_right}
+use Rattle.cluster.specs.Table.{signal_words, signal_at, signal_kind, signal_width, signal_start}
+use Rattle.cluster.specs.declared.signals.Passed.{Passed}
+use Rattle.cluster.proofs.Scan.{Agrees, stops_at, goes_to}
 use Rattle.cluster.proofs.Widths.{width_range, start_limit_high}
-use Rattle.std.specs.Prelude.{Ok}
 
--- the signals before signal s are passed
-abbrev pub Passed : List ℕ → ℕ → Type 0
-Passed t s = (s ≤ signal_count t) × (signal_faults t ≡ faults t (signal_at t s) (records s (signal_count t - s) (signal_right t)))
+module _ (t : List ℕ) (s : ℕ) (x : Passed) (p : SignalsPassed t s x) (w : List ℕ)
+    (read_at : IsRecord t (x.first + signal_words * s) signal_words w) where
+  here : x.first + signal_words * s ≡ signal_at t s
+  here = omega (arith, p.first)
 
-pub none_passed : (t : List ℕ) → Passed t 0
-none_passed t = (omega arith, rw sub-zero)
+  read : IsRecord t (signal_at t s) signal_words w
+  read = rw here at read_at
 
-pub all_passed : (t : List ℕ) (s : ℕ) → Passed t s → signal_count t ≤ s → Ok tt ≡ signal_faults t
-all_passed t s p h = sym (p.1 ∙ no_record t (signal_at t s) (signal_right t) s (signal_count t) h)
-
-module _ (t : List ℕ) (s : ℕ) where
   abbrev kind_read : ℕ
   kind_read = due t (signal_at t s)
 
@@ -39,14 +35,16 @@ module _ (t : List ℕ) (s : ℕ) where
   start_read = due t (signal_at t s + 2)
 
   -- the record's words as they are read
-  abbrev pub signal_read : List Bool
-  signal_read = signal_columns kind_read width_read start_read
+  abbrev pub seen : List Bool
+  seen = signal_columns (get_or w 0 0) (get_or w 1 0) (get_or w 2 0)
 
-  -- what the check computes of the words read is that list
-  pub seen_read : (w : Words) → SignalRead t (signal_at t s) w → signal_columns w.kind w.width w.start ≡ signal_read
-  seen_read w read = rw (read.kind_is, read.width_is, read.start_is)
+  abbrev due_seen : List Bool
+  due_seen = signal_columns kind_read width_read start_read
 
-  agrees : Agrees t (signal_at t s) 0 signal_read (signal_right t s)
+  same : seen ≡ due_seen
+  same = rw (read 0 (omega arith), read 1 (omega arith), read 2 (omega arith))
+
+  agrees : Agrees t (signal_at t s) 0 due_seen (signal_right t s)
   unfolding signal_columns signal_right signal_kind signal_width signal_start
   agrees = (
     (λ e. omega (arith, leb-true kind_read 1 e)),
@@ -65,22 +63,14 @@ module _ (t : List ℕ) (s : ℕ) where
     )),
   )
 
-  -- a record that is cut off
-  pub cut_off : length t < signal_at t s + signal_words → leading signal_read < signal_words
+  -- a word is not right
+  pub stops : (j place : ℕ) → leading seen ≡ j → j < signal_words → x.first + signal_words * s + j ≡ place
+      → (rest : List Bool) → faults t (signal_at t s) (signal_right t s ++ rest) ≡ fault place
   unfolding signal_columns
-  cut_off = cut_short t (signal_at t s) signal_read (signal_right t s) agrees (omega arith)
+  stops j place l b e = stops_at t (signal_at t s) due_seen (signal_right t s) agrees j place (rw same at l) b (omega (arith, here, e))
 
-  module _ (p : Passed t s) (h : s < signal_count t) where
-    -- a word is not right
-    pub stops : leading signal_read < signal_words → (place : ℕ) → signal_at t s + leading signal_read ≡ place → fault place ≡ signal_faults t
-    unfolding signal_columns
-    stops l place e =
-        sym (p.1 ∙ halt_record t (signal_right t) s (signal_count t) (signal_at t s) signal_read place h agrees l e)
-
-    -- all words are right
-    pub passes : signal_words ≤ leading signal_read → Passed t (s + 1)
-    unfolding signal_columns
-    passes right = (
-      omega arith,
-      p.1 ∙ next_record t (signal_right t) s (signal_count t) (signal_at t s) signal_read (signal_at t (s + 1)) h agrees right (omega arith),
-    )
+  -- all words are right
+  pub goes_on : leading seen ≡ signal_words → (rest : List Bool)
+      → faults t (signal_at t s) (signal_right t s ++ rest) ≡ faults t (signal_at t (s + 1)) rest
+  unfolding signal_columns
+  goes_on right = goes_to t (signal_at t s) due_seen (signal_right t s) agrees (signal_at t (s + 1)) (rw same at right) (omega arith)

@@ -47,7 +47,8 @@ module _ (t : List ℕ) (s : ℕ) where
   unfolding first_placement
   first_is below = record {
     there = below;
-    is = eqb-true (placement_signal t (first_from (places t s) 0 (placement_count t))) s (first_holds (places t s) 0 (placement_count t) (omega arith));
+    is = eqb-true (placement_signal t (first_from (places t s) 0 (placement_count t))) s
+        (first_holds (places t s) 0 (placement_count t) (omega arith));
   }
 
   -- where the signal has a placement, the first one is one of its placements, and none of them stands before it

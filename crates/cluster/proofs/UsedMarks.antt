@@ -11,6 +11,7 @@ use lib.Dec.{eqb}
 use lib.ListN.{length, get_or, set, replicate, get_or-replicate, length-replicate, length-set, get_or-eq_default}
 use lib.Seq.{get_or-set_same, get_or-set_other}
 use Rattle.signal.proofs.Inside.{order}
+use Rattle.cluster.specs.Passed.{Marks}
 use Rattle.cluster.specs.Places.{any_below}
 
 -- an array of one value reads as that value, there and behind
@@ -19,10 +20,6 @@ get_d_same n v i =
     order i n
     (λ h. get_or-replicate n i v v h)
     (λ h. get_or-eq_default (replicate n v) v (omega (arith, length-replicate n v)))
-
--- the marks say of each number whether one of the first n records has it
-abbrev pub Marks : ℕ → (ℕ → ℕ) → ℕ → List Bool → Type 0
-Marks size key n marks = (length marks ≡ size) × ((x : ℕ) → get_or marks x false ≡ any_below n (λ k. eqb (key k) x))
 
 pub unmarked : (size : ℕ) (key : ℕ → ℕ) → Marks size key 0 (replicate size false)
 unfolding any_below

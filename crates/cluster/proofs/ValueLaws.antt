@@ -123,7 +123,8 @@ placement_bit t s k o j = some_at t s (λ i. covers t i j) k o
 -- ---- what a write leaves as it was
 
 -- a signal has no bit of a frame that it does not touch
-untouched_bit : (t : List ℕ) → RightTable t → (s f : ℕ) → touches t s f ≡ false → (i : ℕ) → i < 64 → (k : ℕ) → Of t s k → covers t k (64 * f + i) ≡ false
+untouched_bit : (t : List ℕ) → RightTable t → (s f : ℕ) → touches t s f ≡ false → (i : ℕ) → i < 64 → (k : ℕ) → Of t s k
+    → covers t k (64 * f + i) ≡ false
 unfolding touches
 untouched_bit t ok s f h i b k o =
     covers_other t k (placement_end_high t ok k o.there) f i b
@@ -155,7 +156,8 @@ module _ (t bs : List ℕ) (s : ℕ) (after : List ℕ) (w : Write t bs s after)
         ∙ number_ext 8 (λ i. bit_at after (8 * m + i)) (λ i. bit_at bs (8 * m + i)) (same f h k b)
         ∙ byte_is bs m hb
       where
-        same : (f : ℕ) → touches t s f ≡ false → (k : ℕ) → k < 8 → (i : ℕ) → i < 8 → bit_at after (8 * (8 * f + k) + i) ≡ bit_at bs (8 * (8 * f + k) + i)
+        same : (f : ℕ) → touches t s f ≡ false → (k : ℕ) → k < 8 → (i : ℕ) → i < 8
+            → bit_at after (8 * (8 * f + k) + i) ≡ bit_at bs (8 * (8 * f + k) + i)
         same f h k b i l =
             let at : 64 * f + (8 * k + i) ≡ 8 * (8 * f + k) + i = omega arith in
             free (8 * (8 * f + k) + i) (λ m o. rw at at (untouched_bit t ok s f h (8 * k + i) (omega arith) m o))
@@ -185,7 +187,8 @@ pub scalar_put_bit : (t bs : List ℕ) (s v : ℕ) → RightTable t → length b
 unfolding scalar_write
 scalar_put_bit t bs s v = written_bit t bs s (with_scalar t bs s v) (scalar_write t bs s v)
 
-pub array_put_bit : (t bs : List ℕ) (s : ℕ) (vs : List ℕ) → array_fits t s vs ≡ true → RightTable t → length bs ≡ 8 * frame_count t → (k : ℕ) → Of t s k
+pub array_put_bit : (t bs : List ℕ) (s : ℕ) (vs : List ℕ) → array_fits t s vs ≡ true → RightTable t → length bs ≡ 8 * frame_count t → (k : ℕ)
+    → Of t s k
     → (i : ℕ) → i < 8 * length vs → bit_at (with_array t bs s vs) (place_of t k + i) ≡ bit_at vs i
 unfolding array_write
 array_put_bit t bs s vs h = written_bit t bs s (with_array t bs s vs) (array_write t bs s vs h)
@@ -227,7 +230,8 @@ module _ (t : List ℕ) (ok : RightTable t) where
     unfolding value_fits scalar_at get_scalar
     read_scalar_at a bs l v b k o =
         let w : scalar_width (signal_width t s) ≡ signal_width t s = omega (arith, scalar_width_high t ok s h a) in
-        number_ext (scalar_width (signal_width t s)) (λ i. bit_at (with_scalar t bs s v) (place_of t k + i)) (bit v) (scalar_put_bit t bs s v ok l k o)
+        number_ext (scalar_width (signal_width t s)) (λ i. bit_at (with_scalar t bs s v) (place_of t k + i)) (bit v)
+            (scalar_put_bit t bs s v ok l k o)
         ∙ number_mod (scalar_width (signal_width t s)) v
         ∙ mod-eq_of_lt (rw w (ltb-true v (2 ^ signal_width t s) b))
 

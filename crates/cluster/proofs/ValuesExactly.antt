@@ -1,4 +1,5 @@
--- Where a signal's value lies in the frame buffer of an accepted table, in numbers: in each of its placements bit i of a scalar is data bit offset + i
+-- Where a signal's value lies in the frame buffer of an accepted table, in numbers: in each of its placements bit i of a scalar is
+-- data bit offset + i
 -- of the frame, and byte i of an array is data byte offset / 8 + i; what a write leaves there, and what a fresh call leaves.
 use Prim.Native.Nat.{ℕ, ◌+◌, ◌-◌, ◌*◌, ◌/◌, ◌%◌, ◌^◌, ◌≤◌, ◌<◌}
 use mathlib.Core.Path.{◌≡◌, refl, sym, ◌∙◌, ap}
@@ -237,7 +238,8 @@ module _ (t : List ℕ) (ok : RightTable t) (s k : ℕ) (there : k < P t) (its :
         start_bytes_lem = fresh_array t ok s k of is_array_lem
 
 -- "255 everywhere": each bit of no placement is 1
-pub fresh_other_bit : (t : List ℕ) → RightTable t → (f j : ℕ) → f < F t → j < 64 → ((k : ℕ) → k < P t → Beside t k f j) → data_bit (fresh_bytes t) f j ≡ true
+pub fresh_other_bit : (t : List ℕ) → RightTable t → (f j : ℕ) → f < F t → j < 64 → ((k : ℕ) → k < P t → Beside t k f j)
+    → data_bit (fresh_bytes t) f j ≡ true
 unfolding placement_count signal_count frame_count word
 fresh_other_bit t ok f j h b out =
     data_bit_lem (fresh_bytes t) f j ∙ fresh_free t (64 * f + j) (omega arith) (λ k hk. beside t ok k f j hk b (out k hk))

@@ -13,16 +13,19 @@ use Rattle.signal.proofs.Inside.{order}
 use Rattle.cluster.specs.Columns.{header_columns, frame_columns, signal_columns, placement_columns, member_columns, entry_columns}
 use Rattle.cluster.specs.Columns.{offset_right}
 use Rattle.cluster.specs.Places.{place_of, places, covers}
-use Rattle.cluster.specs.Right.{words_right, header_right, frame_right, signal_right, placement_right, all_placed, member_right, entry_right, earlier, counts_up}
+use Rattle.cluster.specs.Right.{words_right, header_right, frame_right, signal_right, placement_right, all_placed, member_right}
+use Rattle.cluster.specs.Right.{entry_right, earlier, counts_up}
 use Rattle.cluster.specs.Right.{earlier_placement, again, mixed, sticks_out, occupied_before, overlaps}
-use Rattle.cluster.specs.Table.{word, frame_count, signal_count, placement_count, member_count, entry_count, identifier, frame_length, flags, published}
+use Rattle.cluster.specs.Table.{word, frame_count, signal_count, placement_count, member_count, entry_count, identifier, frame_length}
+use Rattle.cluster.specs.Table.{flags, published}
 use Rattle.cluster.specs.Table.{signal_kind, signal_width, signal_start, is_array, placed_signals, member_list, member_frame, list_count, counted}
 use Rattle.cluster.specs.Table.{placement_signal, placement_frame, placement_offset, placement_width}
 use Rattle.cluster.specs.Table.{entry_schedule, entry_kind, entry_target, entry_delay}
 use Rattle.cluster.proofs.Any.{none_below, any_found, any_at, any_none}
 use Rattle.cluster.proofs.ColumnsExactly.{le_exactly, lt_exactly, and_true, and_exactly, within_exactly, new_exactly, counts_exactly}
 use Rattle.cluster.proofs.ColumnsExactly.{identifier_exactly, offset_exactly, width_exactly, start_exactly, target_exactly}
-use Rattle.cluster.proofs.CountingUp.{CountsUp, up_below, up_each}
+use Rattle.cluster.proofs.CountingUp.{up_below, up_each}
+use Rattle.cluster.specs.Passed.{CountsUp}
 use Rattle.cluster.proofs.EarlierPlacement.{same_test, none_earlier}
 use Rattle.cluster.proofs.FieldLaws.{published_exactly}
 use Rattle.cluster.proofs.InWords.{F, S, M, E, P, signals_at, placements_at, members_at, entries_at, identifier_word, length_word, flags_word}
@@ -144,7 +147,8 @@ module _ (t : List ℕ) (d : Bool) where
     unfolding placement_right placement_columns frame_count signal_count placement_count placement_signal word
     signal_word_lem p e =
         by_test (placement_test d t k 0 p h (omega arith) (omega arith))
-        (and_exactly (counts_up (signal_word t) k) (ltb (signal_word t k) (S t)) (counts_exactly (signal_word t) k) (lt_exactly (signal_word t k) (S t)))
+        (and_exactly (counts_up (signal_word t) k) (ltb (signal_word t k) (S t)) (counts_exactly (signal_word t) k)
+            (lt_exactly (signal_word t k) (S t)))
 
     -- no earlier placement of the signal has a property
     none_exactly : (test : ℕ → Bool) → (not (earlier_placement t k test) ≡ true) ↔ ((j : ℕ) → EarlierOf t k j → test j ≡ false)

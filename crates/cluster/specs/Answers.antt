@@ -26,7 +26,8 @@ right_from t i (right ∷ rest) = cond (ltb i (length t) && right) (suc (right_f
 unfoldable pub right_words : List ℕ → ℕ
 right_words t = right_from t 0 (words_right t)
 
--- "The table check accepts" where all words are there and right and there are no more of them, "or gives the position of the first word that is wrong,
+-- "The table check accepts" where all words are there and right and there are no more of them, "or gives the position of the first
+-- word that is wrong,
 -- missing or surplus": as many as are right before it
 unfoldable pub check_told : List ℕ → Told
 check_told t = cond (eqb (right_words t) (length (words_right t)) && eqb (length t) (size t)) (gives []) (refuses (refused_at 1 (right_words t)))

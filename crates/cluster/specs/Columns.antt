@@ -1,4 +1,5 @@
--- Document 01, "The cluster table", and document 02, Req 03: the columns of each record, over its words and what is known of the words before. What is right
+-- Document 01, "The cluster table", and document 02, Req 03: the columns of each record, over its words and what is known of the
+-- words before. What is right
 -- (specs/Right) takes them over the fields of a table, and the check over the words that it reads, with its marks.
 use Rattle.std.specs.Prelude.{ℕ, zero, suc, ◌%◌, ◌^◌, Bool, true, not, cond, ◌&&◌, ◌||◌, List, [], ◌∷◌, ltb, leb, eqb}
 use Rattle.cluster.specs.Table.{most_frames, most_signals, most_members, most_entries, most_placements, identifiers}

@@ -9,3 +9,4 @@ pub mod Lists
 pub mod Fresh
 pub mod Values
 pub mod Read
+pub mod Passed

@@ -1,4 +1,5 @@
--- Document 01, "The cluster table", and document 02, Req 03: which words are right, "every word judged by itself and the words before it". The columns of each
+-- Document 01, "The cluster table", and document 02, Req 03: which words are right, "every word judged by itself and the words
+-- before it". The columns of each
 -- record, and the list of all of them in the paper's order: element i says whether the word at position i is right.
 use Rattle.std.specs.Prelude.{ℕ, zero, suc, ◌+◌, ◌*◌, Bool, false, not, cond, ◌&&◌, List, [], ◌∷◌, ◌++◌, leb, eqb}
 use Rattle.std.specs.Bool.{beq}

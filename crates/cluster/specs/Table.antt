@@ -1,4 +1,5 @@
--- Document 01, "The cluster table", and document 02, Req 03: where each word stands, and every field by its name. A word that is not there reads as 0.
+-- Document 01, "The cluster table", and document 02, Req 03: where each word stands, and every field by its name. A word that is
+-- not there reads as 0.
 use Rattle.std.specs.Prelude.{ℕ, zero, suc, ◌+◌, ◌*◌, Bool, cond, List, eqb, get_or}
 use Rattle.wire.specs.Bits.{bit}
 use Rattle.wire.specs.declared.checksum.Model.{Model}
@@ -160,7 +161,8 @@ entry_target t e = word t (entry_at t e + 2)
 unfoldable pub entry_delay : List ℕ → ℕ → ℕ
 entry_delay t e = word t (entry_at t e + 3)
 
--- ---- how many signals have placements, and how many lists and schedules there are: one more than the last record's number, and none without a record
+-- ---- how many signals have placements, and how many lists and schedules there are: one more than the last record's number, and
+-- none without a record
 
 unfoldable pub counted : (ℕ → ℕ) → ℕ → ℕ
 counted number zero = 0

@@ -1,15 +1,16 @@
 // The schedule entries of the table: their number, their fields, the schedules, and the check of their records.
 ghost use Rattle.std.specs.Prelude.{◌≡◌, ◌+◌, ◌<◌, ◌≤◌, length};
 ghost use Rattle.cluster.specs.Check.{entry_faults};
-ghost use Rattle.cluster.specs.Columns.{follows as followsOf, target_right, entry_columns};
+ghost use Rattle.cluster.specs.Columns.{target_right};
 ghost use Rattle.cluster.specs.Kinds.{kind_of};
 ghost use Rattle.cluster.specs.Lists.{first_entry, next_entry};
-ghost use Rattle.cluster.specs.Read.{EntryRead, leading};
-ghost use Rattle.cluster.specs.Table.{most_frames, most_signals, most_members, most_entries, most_placements};
-ghost use Rattle.cluster.specs.Table.{frame_count, signal_count, member_count, entry_count, placement_count, schedule_count};
-ghost use Rattle.cluster.specs.Table.{entry_schedule, entry_kind, entry_target, entry_delay};
+ghost use Rattle.cluster.specs.Passed.{EntriesPassed};
+ghost use Rattle.cluster.specs.Right.{entry_right};
+ghost use Rattle.cluster.specs.Table.{entry_count, schedule_count};
+ghost use Rattle.cluster.specs.Table.{entry_at, entry_schedule, entry_kind, entry_target, entry_delay};
 
-use crate::table::{Layout, due, entry_at, follows, whole_records, word};
+use crate::section::{self, Section};
+use crate::table::{Counted, Layout, entry_at, follows, record, word};
 use crate::{fault, frames, members};
 use refusal::Refusal;
 
@@ -81,28 +82,23 @@ pub fn delay(t: &[u16], e: u16) -> u16
 }
 
 // How many schedules there are.
+// Kept: a twin of `members::lists`, one chain each: a function for both would take the field as a closure, and be as long as both.
 pub fn schedules(t: &[u16]) -> usize
     ensures value { result ≡ schedule_count t.now }
     ensures upper_bound { result ≤ 65536 }
 {
-    match count(t) {
-        0 => 0,
-        n => schedule(t, n - 1) as usize + 1,
-    }
+    count(t)
+        .checked_sub(1)
+        .map_or(0, |last| schedule(t, last) as usize + 1)
 }
 
 // The first entry of a schedule; the number of entries where there is none.
-// Kept: a generic search would take the field as a closure and its promise through `F.post`, and its call is as long as this loop.
+// Kept: a number where there is none, since its clause `first_entry` has it so.
 pub fn first(t: &[u16], n: u16) -> u16
     ensures { result ≡ first_entry t.now n }
 {
     let end = count(t);
-    for e in 0..end {
-        if schedule(t, e) == n {
-            return e;
-        }
-    }
-    end
+    (0..end).find(|&e| schedule(t, e) == n).unwrap_or(end)
 }
 
 // The entry that follows an entry in its schedule, cyclically.
@@ -116,87 +112,56 @@ pub fn next(t: &[u16], e: u16) -> u16
     first(t, n)
 }
 
-// Checks the entries' records: those that are there in whole, and then one that is cut off.
-pub(crate) fn judge(t: &[u16]) -> Result<(), Refusal>
-    requires t_bound { (frame_count t.now ≤ most_frames) × (signal_count t.now ≤ most_signals) × (member_count t.now ≤ most_members) }
-    requires t_bound_2 { (entry_count t.now ≤ most_entries) × (placement_count t.now ≤ most_placements) }
-    ensures { result ≡ entry_faults t.now }
+// Checks the entries' records.
+pub(crate) fn judge(table: Counted<'_>) -> Result<(), Refusal>
+    ensures { result ≡ entry_faults table.entry.words.now }
 {
-    let lists = members::lists(t);
-    let first = entry_at(t, 0);
-    let n = count(t) as usize;
-    let whole = whole_records(t, first, Layout::ENTRY, n);
-    let mut schedules: usize = 0;
-    for e in 0..whole {
-        let at = first + Layout::ENTRY * e;
-        let words = read(t, at);
-        let right = right_words(frames::count(t) as usize, lists, schedules, words);
-        if right < Layout::ENTRY {
-            return fault(at + right);
-        }
-        schedules = words.schedule + 1;
-    }
-    if whole < n {
-        let at = first + Layout::ENTRY * whole;
-        let right = right_words(frames::count(t) as usize, lists, schedules, read_due(t, at));
-        return fault(at + right);
-    }
-    Ok(())
+    let t = table.words;
+    let mut passed = Passed {
+        first: entry_at(t, 0),
+        frames: frames::count(t) as usize,
+        lists: members::lists(t),
+        schedules: 0,
+    };
+    section::judge(t, count(t) as usize, &mut passed)
 }
 
-// An entry's record as it was read.
+// The entries that passed the check: where the first one begins, what may be their target, and how many schedules they are of.
 #[derive(Clone, Copy)]
-struct Words {
-    schedule: usize,
-    kind: usize,
-    target: usize,
-    delay: usize,
+struct Passed {
+    first: usize,
+    frames: usize,
+    lists: usize,
+    schedules: usize,
 }
 
-// Reads an entry's record that is there in whole.
-fn read(t: &[u16], at: usize) -> Words
-    requires { at + 4 ≤ length t.now }
-    ensures { EntryRead t.now at result }
-{
-    Words {
-        schedule: t[at] as usize,
-        kind: t[at + 1] as usize,
-        target: t[at + 2] as usize,
-        delay: t[at + 3] as usize,
-    }
-}
+impl Section for Passed {
+    ghost count = { entry_count };
 
-// Reads an entry's record; a missing word reads as 65536.
-fn read_due(t: &[u16], at: usize) -> Words
-    requires { at < 100000 }
-    ensures { EntryRead t.now at result }
-{
-    Words {
-        schedule: due(t, at),
-        kind: due(t, at + 1),
-        target: due(t, at + 2),
-        delay: due(t, at + 3),
-    }
-}
+    ghost at = { entry_at };
 
-// How many words of an entry's record are right before the first that is not, behind entries of so many schedules.
-fn right_words(frames: usize, lists: usize, schedules: usize, words: Words) -> usize
-    requires { words.schedule ≤ 65536 }
-    ensures { result ≡ leading (entry_columns frames lists (followsOf schedules words.schedule) words.kind words.target words.delay) }
-{
-    if !follows(schedules, words.schedule) {
-        return 0;
+    ghost right = { entry_right };
+
+    ghost known = { EntriesPassed };
+
+    fn pass(&mut self, t: &[u16], e: usize) -> Result<(), Refusal> {
+        let at = self.first + Layout::ENTRY * e;
+        let [schedule, kind, target, delay] = record::<{ Layout::ENTRY }>(t, at);
+        if !follows(self.schedules, schedule) {
+            return fault(at);
+        }
+        if 3 < kind {
+            return fault(at + 1);
+        }
+        if !target_right(self.frames, self.lists, kind, target) {
+            return fault(at + 2);
+        }
+        if delay < 1 || 65535 < delay {
+            return fault(at + 3);
+        }
+        self.schedules = schedule + 1;
+        Ok(())
     }
-    if 3 < words.kind {
-        return 1;
-    }
-    if !target_right(frames, lists, words.kind, words.target) {
-        return 2;
-    }
-    if words.delay < 1 {
-        return 3;
-    }
-    if words.delay <= 65535 { 4 } else { 3 }
 }
 
 // Whether an entry of a kind may have a target.

@@ -1,11 +1,13 @@
 // The frames of the table: their number, their fields, and the check of their records.
 ghost use Rattle.std.specs.Prelude.{◌≡◌, ◌+◌, ◌*◌, ◌<◌, ◌≤◌, length};
 ghost use Rattle.cluster.specs.Check.{frame_faults};
-ghost use Rattle.cluster.specs.Read.{FrameRead, leading, frame_seen};
-ghost use Rattle.cluster.specs.Table.{most_frames, identifiers, frame_at, frame_count, identifier as identifierOf, frame_length, flags as flags_of};
+ghost use Rattle.cluster.specs.Passed.{FramesPassed};
+ghost use Rattle.cluster.specs.Right.{frame_right};
+ghost use Rattle.cluster.specs.Table.{frame_at, frame_count, identifier as identifierOf, frame_length, flags as flags_of};
 ghost use Rattle.cluster.specs.Table.{published as publishedOf, classic as classicOf, frame_model};
 
-use crate::table::{Layout, due, frame_at, whole_records, word};
+use crate::section::{self, Section};
+use crate::table::{Counted, Layout, frame_at, record, word};
 use crate::{Limits, fault};
 use refusal::Refusal;
 use wire::checksum::Model;
@@ -82,74 +84,45 @@ pub(crate) fn room_of(t: &[u16], f: usize) -> Room
     }
 }
 
-// Checks the frames' records, those that are there in whole, and then one that is cut off; the identifiers used so far are marked.
-pub(crate) fn judge(t: &[u16]) -> Result<(), Refusal>
-    requires { frame_count t.now ≤ most_frames }
-    ensures { result ≡ frame_faults t.now }
+// Checks the frames' records.
+pub(crate) fn judge(table: Counted<'_>) -> Result<(), Refusal>
+    ensures { result ≡ frame_faults table.entry.words.now }
 {
-    let mut used = [false; Limits::IDENTIFIERS];
-    let n = count(t) as usize;
-    let whole = whole_records(t, Layout::HEADER, Layout::FRAME, n);
-    for f in 0..whole {
-        let at = frame_at(f);
-        let words = read(t, at);
-        let id = words.identifier;
-        let right = right_words(&used, words);
-        if right < Layout::FRAME {
-            return fault(at + right);
-        }
-        used[id] = true;
-    }
-    if whole < n {
-        let at = frame_at(whole);
-        return fault(at + right_words(&used, read_due(t, at)));
-    }
-    Ok(())
+    let t = table.words;
+    let mut passed = Passed {
+        used: [false; Limits::IDENTIFIERS],
+    };
+    section::judge(t, count(t) as usize, &mut passed)
 }
 
-// A frame's record as it was read.
+// The frames that passed the check: the identifiers that they have are marked.
 #[derive(Clone, Copy)]
-struct Words {
-    identifier: usize,
-    bytes: usize,
-    flags: usize,
+struct Passed {
+    used: [bool; Limits::IDENTIFIERS],
 }
 
-// Reads a frame's record that is there in whole.
-fn read(t: &[u16], at: usize) -> Words
-    requires { at + 3 ≤ length t.now }
-    ensures { FrameRead t.now at result }
-{
-    Words {
-        identifier: t[at] as usize,
-        bytes: t[at + 1] as usize,
-        flags: t[at + 2] as usize,
-    }
-}
+impl Section for Passed {
+    ghost count = { frame_count };
 
-// Reads a frame's record; a missing word reads as 65536.
-fn read_due(t: &[u16], at: usize) -> Words
-    requires { at < 100000 }
-    ensures { FrameRead t.now at result }
-{
-    Words {
-        identifier: due(t, at),
-        bytes: due(t, at + 1),
-        flags: due(t, at + 2),
-    }
-}
+    ghost at = { λ t f. frame_at f };
 
-// How many words of a frame's record are right before the first that is not.
-fn right_words(used: &[bool], words: Words) -> usize
-    requires { length used.now ≡ identifiers }
-    ensures { result ≡ leading (frame_seen used.now words) }
-{
-    let id = words.identifier;
-    if Limits::IDENTIFIERS <= id || used[id] {
-        return 0;
+    ghost right = { frame_right };
+
+    ghost known = { FramesPassed };
+
+    fn pass(&mut self, t: &[u16], f: usize) -> Result<(), Refusal> {
+        let at = frame_at(f);
+        let [id, bytes, flags] = record::<{ Layout::FRAME }>(t, at);
+        if Limits::IDENTIFIERS <= id || self.used[id] {
+            return fault(at);
+        }
+        if bytes < 1 || 8 < bytes {
+            return fault(at + 1);
+        }
+        if 3 < flags {
+            return fault(at + 2);
+        }
+        self.used[id] = true;
+        Ok(())
     }
-    if words.bytes < 1 || 8 < words.bytes {
-        return 1;
-    }
-    if words.flags <= 3 { 3 } else { 2 }
 }

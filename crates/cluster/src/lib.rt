@@ -2,6 +2,7 @@
 // leaves. Every call accepts every slice and every number. The crates above use these names and never the layout.
 #![tactic(auto)]
 
+use crate::table::{Counted, Described};
 use refusal::Refusal;
 
 pub mod entries;
@@ -11,6 +12,7 @@ mod marks;
 pub mod members;
 pub mod placements;
 pub mod right;
+mod section;
 pub mod signals;
 mod table;
 pub mod values;
@@ -43,12 +45,13 @@ pub fn check(t: &[u16]) -> Result<(), Refusal>
     ensures told { verdict_told result ≡ check_told t.now }
 {
     table::judge(t)?;
-    frames::judge(t)?;
-    signals::judge(t)?;
-    placements::judge(t)?;
-    placements::unplaced(t)?;
-    members::judge(t)?;
-    entries::judge(t)?;
+    let counted = Counted { words: t };
+    frames::judge(counted)?;
+    signals::judge(counted)?;
+    let described = Described { words: t };
+    placements::judge(described)?;
+    members::judge(described)?;
+    entries::judge(counted)?;
     table::surplus(t)
 }
 

@@ -1,14 +1,16 @@
 // The signals of the table: their number, their fields, and the check of their records.
 ghost use Rattle.std.specs.Prelude.{◌≡◌, true, ◌+◌, ◌<◌, ◌≤◌, length};
 ghost use Rattle.cluster.specs.Check.{signal_faults};
-ghost use Rattle.cluster.specs.Columns.{width_right, start_limit, signal_columns};
+ghost use Rattle.cluster.specs.Columns.{width_right, start_limit};
 ghost use Rattle.cluster.specs.Fresh.{array_length};
-ghost use Rattle.cluster.specs.Read.{SignalRead, leading};
-ghost use Rattle.cluster.specs.Table.{most_frames, most_signals, signal_at, frame_count, signal_count};
+ghost use Rattle.cluster.specs.Passed.{SignalsPassed};
+ghost use Rattle.cluster.specs.Right.{signal_right};
+ghost use Rattle.cluster.specs.Table.{signal_at, signal_count};
 ghost use Rattle.cluster.specs.Table.{signal_kind, signal_width, signal_start, is_array};
 
 use crate::fault;
-use crate::table::{Layout, due, signal_at, whole_records, word};
+use crate::section::{self, Section};
+use crate::table::{Counted, Layout, record, signal_at, word};
 use refusal::Refusal;
 
 // How many signals there are.
@@ -73,75 +75,46 @@ pub(crate) fn shape_of(t: &[u16], s: usize) -> Shape
     }
 }
 
-// Checks the signals' records: those that are there in whole, and then one that is cut off.
-pub(crate) fn judge(t: &[u16]) -> Result<(), Refusal>
-    requires { (frame_count t.now ≤ most_frames) × (signal_count t.now ≤ most_signals) }
-    ensures { result ≡ signal_faults t.now }
+// Checks the signals' records.
+pub(crate) fn judge(table: Counted<'_>) -> Result<(), Refusal>
+    ensures { result ≡ signal_faults table.entry.words.now }
 {
-    let first = signal_at(t, 0);
-    let n = count(t) as usize;
-    let whole = whole_records(t, first, Layout::SIGNAL, n);
-    for s in 0..whole {
-        let at = first + Layout::SIGNAL * s;
-        let right = right_words(read(t, at));
-        if right < Layout::SIGNAL {
-            return fault(at + right);
-        }
-    }
-    if whole < n {
-        let at = first + Layout::SIGNAL * whole;
-        return fault(at + right_words(read_due(t, at)));
-    }
-    Ok(())
+    let t = table.words;
+    let mut passed = Passed {
+        first: signal_at(t, 0),
+    };
+    section::judge(t, count(t) as usize, &mut passed)
 }
 
-// A signal's record as it was read.
+// The signals that passed the check: where the first one begins.
 #[derive(Clone, Copy)]
-struct Words {
-    kind: usize,
-    width: usize,
-    start: usize,
+struct Passed {
+    first: usize,
 }
 
-// Reads a signal's record that is there in whole.
-fn read(t: &[u16], at: usize) -> Words
-    requires { at + 3 ≤ length t.now }
-    ensures { SignalRead t.now at result }
-{
-    Words {
-        kind: t[at] as usize,
-        width: t[at + 1] as usize,
-        start: t[at + 2] as usize,
-    }
-}
+impl Section for Passed {
+    ghost count = { signal_count };
 
-// Reads a signal's record; a missing word reads as 65536.
-fn read_due(t: &[u16], at: usize) -> Words
-    requires { at < 100000 }
-    ensures { SignalRead t.now at result }
-{
-    Words {
-        kind: due(t, at),
-        width: due(t, at + 1),
-        start: due(t, at + 2),
-    }
-}
+    ghost at = { signal_at };
 
-// How many words of a signal's record are right before the first that is not.
-fn right_words(words: Words) -> usize
-    ensures { result ≡ leading (signal_columns words.kind words.width words.start) }
-{
-    if 1 < words.kind {
-        return 0;
-    }
-    let array = words.kind == 1;
-    if !width_right(array, words.width) {
-        return 1;
-    }
-    if words.start < start_limit(array, words.width) {
-        3
-    } else {
-        2
+    ghost right = { signal_right };
+
+    ghost known = { SignalsPassed };
+
+    fn pass(&mut self, t: &[u16], s: usize) -> Result<(), Refusal> {
+        let at = self.first + Layout::SIGNAL * s;
+        let [kind, width, start] = record::<{ Layout::SIGNAL }>(t, at);
+        let array = kind == 1;
+        if 1 < kind {
+            return fault(at);
+        }
+        if !width_right(array, width) {
+            return fault(at + 1);
+        }
+        if start_limit(array, width) <= start {
+            return fault(at + 2);
+        }
+        Ok(())
     }
 }
 

@@ -1,41 +1,46 @@
 // The words of the table, where the records stand, and the header.
-ghost use Rattle.std.specs.Prelude.{◌≡◌, ◌≤◌, ◌<◌};
+ghost use Rattle.std.specs.Prelude.{◌≡◌, ◌≤◌, ◌<◌, ℕ, get_or};
 ghost use Rattle.cluster.specs.Check.{header_faults, surplus as surplusOf};
-ghost use Rattle.cluster.specs.Columns.{follows as followsOf, header_columns};
-ghost use Rattle.cluster.specs.Read.{WholeRecords, due as due_of, leading};
+ghost use Rattle.cluster.specs.Columns.{follows as followsOf};
+ghost use Rattle.cluster.specs.Read.{InLimits, RecordsBefore, IsRecord, due as due_of};
 ghost use Rattle.cluster.specs.Table.{word as word_of, frame_at, signal_at, placement_at, member_at, entry_at};
 
 use crate::{Limits, fault};
 use refusal::Refusal;
 
 // The word at a position, and 0 where there is none.
-// Kept: `t.get(i).copied().unwrap_or(0)` is no plainer.
+// Kept: 0 for none, since the clause of every public field is its `word` (specs/Table).
 pub(crate) fn word(t: &[u16], i: usize) -> u16
     ensures { result ≡ word_of t.now i }
 {
-    if i < t.len() { t[i] } else { 0 }
+    t.get(i).copied().unwrap_or(0)
 }
 
-// The word at a position, and 65536, which no column takes, where there is none.
+// The word at a position; 65536 where there is none.
+// Kept: a number for a missing word: each column's test refuses it by itself, so that no column asks whether its word is there.
 pub(crate) fn due(t: &[u16], i: usize) -> usize
     ensures value { result ≡ due_of t.now i }
     ensures upper_bound { result ≤ 65536 }
 {
-    if i < t.len() { t[i] as usize } else { 65536 }
+    t.get(i).map_or(65536, |word| *word as usize)
 }
 
-// How many of n records from a position on are there in whole.
-pub(crate) fn whole_records(t: &[u16], first: usize, words: usize, n: usize) -> usize
-    requires { (1 ≤ words) × (words ≤ 4) × (first < 100000) × (n ≤ 65536) }
-    ensures { WholeRecords t.now first words n result }
+// The words of a record from a position on; a missing one reads as 65536. One test is enough where the whole record is there.
+pub(crate) fn record<const N: usize>(t: &[u16], at: usize) -> [usize; N]
+    requires { (N ≤ 8) × (at < 4000000) }
+    ensures words { IsRecord t.now at N result }
+    ensures upper_bound { (j : ℕ) → get_or result j 0 ≤ 65536 }
 {
-    if first + words * n <= t.len() {
-        return n;
+    let mut words = [0; N];
+    let whole = at + N <= t.len();
+    for (j, word) in words.iter_mut().enumerate() {
+        *word = if whole {
+            t[at + j] as usize
+        } else {
+            due(t, at + j)
+        };
     }
-    if t.len() <= first {
-        return 0;
-    }
-    (t.len() - first) / words
+    words
 }
 
 // The words of the header and of each record.
@@ -54,6 +59,21 @@ impl Layout {
     pub(crate) const MEMBER: usize = 2;
 
     pub(crate) const ENTRY: usize = 4;
+}
+
+// A lent table whose header the check accepts: no count in it is above its limit.
+#[derive(Clone, Copy)]
+pub(crate) struct Counted<'a> {
+    pub(crate) words: &'a [u16],
+    pub(crate) ghost limits: { InLimits words.now },
+}
+
+// One whose frames and signals it accepts too: what the records behind them go by.
+#[derive(Clone, Copy)]
+pub(crate) struct Described<'a> {
+    pub(crate) words: &'a [u16],
+    pub(crate) ghost limits: { InLimits words.now },
+    pub(crate) ghost before: { RecordsBefore words.now },
 }
 
 // Where a frame's record begins.
@@ -104,41 +124,23 @@ pub(crate) fn entry_at(t: &[u16], e: usize) -> usize
 pub(crate) fn judge(t: &[u16]) -> Result<(), Refusal>
     ensures { result ≡ header_faults t.now }
 {
-    let right = right_words(due(t, 0), due(t, 1), due(t, 2), due(t, 3), due(t, 4));
-    if right < Layout::HEADER {
-        fault(right)
-    } else {
-        Ok(())
-    }
-}
-
-// How many words of the header are right before the first that is not.
-fn right_words(
-    frames: usize,
-    signals: usize,
-    members: usize,
-    entries: usize,
-    placements: usize,
-) -> usize
-    ensures { result ≡ leading (header_columns frames signals members entries placements) }
-{
+    let [frames, signals, members, entries, placements] = record::<{ Layout::HEADER }>(t, 0);
     if Limits::FRAMES < frames {
-        return 0;
+        return fault(0);
     }
     if Limits::SIGNALS < signals {
-        return 1;
+        return fault(1);
     }
     if Limits::MEMBERS < members {
-        return 2;
+        return fault(2);
     }
     if Limits::ENTRIES < entries {
-        return 3;
+        return fault(3);
     }
-    if placements <= Limits::PLACEMENTS {
-        5
-    } else {
-        4
+    if Limits::PLACEMENTS < placements {
+        return fault(4);
     }
+    Ok(())
 }
 
 // A word behind the last record.

@@ -1,28 +1,18 @@
--- An entry that is passed is not the one, and the first that is the one is the answer.
-use Rattle.std.proofs.Common.{◌<◌, ◌≤◌, sym, ◌∙◌, arith}
+-- The first entry that is of the schedule, or the number behind them.
+use Rattle.std.proofs.Common.{◌≡◌, ◌∙◌, ℕ, Bool, true, false, arith, rules, eqb}
+use Rattle.std.proofs.lemmas.Iterator.{first_from_Range}
 use native.Mathlib.Nat.{sub-zero}
-use borrow.Author.Tests.{eq-eqb, ne_eqb}
-use Rattle.cluster.proofs.Searching.{right, wrong, ended}
+use borrow.Author.Tests.{tests}
 use Rattle.cluster.specs.Lists.{first_entry}
-use Rattle.cluster.specs.Table.{entry_count}
+use Rattle.cluster.specs.Table.{entry_schedule}
+use Rattle.cluster.proofs.Searching.{Search, searched}
 use Rattle.cluster.proofs.entries.first.Goals as goal
 
-pub loop-e-init : goal.loop-e-init
-unfolding first_entry
-loop-e-init c = rw sub-zero
-
-pub returns-then-schedule-n : goal.returns-then-schedule-n
-returns-then-schedule-n c =
-    let there : c.loop-e.e < entry_count c.args.t.now = omega (arith, c.count-end.ensures, c.loop-e-test.true) in
-    sym (c.loop-e.invariant ∙ right _ _ _ there (eq-eqb _ _ (sym c.schedule.ensures ∙ c.if-schedule-n.true)))
-
-pub loop-e-preserved : goal.loop-e-preserved
-loop-e-preserved c =
-    let there : c.loop-e.e < entry_count c.args.t.now = omega (arith, c.count-end.ensures, c.loop-e-test.true) in
-    c.loop-e.invariant ∙ wrong _ _ _ there (ne_eqb _ _ (λ e. c.if-schedule-n.false (c.schedule.ensures ∙ e)))
-
 pub returns : goal.returns
+unfolding first_entry
 returns c =
-    let passed : entry_count c.args.t.now ≤ c.loop-e.e = omega (arith, c.count-end.ensures, c.loop-e-test.false) in
-    let none = c.loop-e.invariant ∙ ended _ _ _ passed in
-    omega (arith, c.count-end.ensures, c.loop-e.auto.e-end, none)
+    let test : ℕ → Bool = (λ j. eqb (entry_schedule c.args.t.now j) c.args.n) in
+    let found : Search test 0 c.count-end.result c.find.result =
+    first_from_Range _ _ _ c.find.result (λ j. test j ≡ true) (λ j. test j ≡ false) c.find.ensures.ran (λ x q k. search (rules, tests))
+        (λ x q k. search (rules, tests)) in
+    c.unwrap_or.ensures ∙ searched test 0 c.count-end.result c.count-end.result c.find.result found (omega arith) ∙ rw (sub-zero, c.count-end.ensures)

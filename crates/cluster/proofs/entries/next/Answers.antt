@@ -5,7 +5,8 @@ use native.Mathlib.Omega.{arith}
 use Rattle.cluster.specs.Lists.{first_entry}
 use Rattle.cluster.specs.Table.{entry_schedule}
 use Rattle.cluster.proofs.NextEntry.{next_behind, next_first}
-use Rattle.cluster.proofs.entries.next.Goals.{else-e-count-via-then-e-count+then-e-count-2+else-schedule-n, else-e-count-via-then-e-count+else-e-count-2, else-e-count-via-else-e-count}
+use Rattle.cluster.proofs.entries.next.Goals.{else-e-count-via-then-e-count+then-e-count-2+else-schedule-n}
+use Rattle.cluster.proofs.entries.next.Goals.{else-e-count-via-then-e-count+else-e-count-2, else-e-count-via-else-e-count}
 use Rattle.cluster.proofs.entries.next.Goals as goal
 
 pub returns-then-schedule-n : goal.returns-then-schedule-n

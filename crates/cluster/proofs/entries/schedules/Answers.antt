@@ -1,17 +1,12 @@
--- One more than the last record's number.
-use Rattle.cluster.proofs.Counting.{counted_none, counted_last}
-use mathlib.Core.Path.{sym, ◌∙◌}
-use native.Mathlib.Omega.{arith}
+-- One more than the last record's number, where there is one.
+use Rattle.std.proofs.Common.{◌∙◌, rules}
+use Rattle.cluster.proofs.Counting.{counted_by}
 use Rattle.cluster.specs.Table.{schedule_count, entry_count, entry_schedule}
 use Rattle.cluster.proofs.entries.schedules.Goals as goal
 
-pub returns-in-0-clause-value : goal.returns-in-0-clause-value
+pub returns-clause-value : goal.returns-clause-value
 unfolding schedule_count
-returns-in-0-clause-value c = sym (counted_none _ _ (sym c.count.ensures ∙ c.in-0.is))
-
-pub returns-in_default-clause-value : goal.returns-in_default-clause-value
-unfolding schedule_count
-returns-in_default-clause-value c =
-    let t = c.args.t.now in
-    let last = counted_last (entry_schedule t) (entry_count t) (λ e. omega (arith, c.count.ensures, e)) in
-    rw (last, ← c.count.ensures, c.schedule.ensures)
+returns-clause-value c =
+    rw (← c.count.ensures)
+    (counted_by (entry_schedule c.args.t.now) c.count.result c.map_or.result c.checked_sub.result _ c.checked_sub.ensures c.map_or.ensures
+        (λ k h. search rules))

@@ -1,28 +1,18 @@
--- A placement that is passed is not the one, and the first that is the one is the answer.
-use Rattle.std.proofs.Common.{◌<◌, ◌≤◌, sym, ◌∙◌, arith}
+-- The first placement that is of the signal, or the number behind them.
+use Rattle.std.proofs.Common.{◌≡◌, ◌∙◌, ℕ, Bool, true, false, arith, rules, eqb}
+use Rattle.std.proofs.lemmas.Iterator.{first_from_Range}
 use native.Mathlib.Nat.{sub-zero}
-use borrow.Author.Tests.{eq-eqb, ne_eqb}
-use Rattle.cluster.proofs.Searching.{right, wrong, ended}
+use borrow.Author.Tests.{tests}
 use Rattle.cluster.specs.Values.{first_placement}
-use Rattle.cluster.specs.Table.{placement_count}
+use Rattle.cluster.specs.Table.{placement_signal}
+use Rattle.cluster.proofs.Searching.{Search, searched}
 use Rattle.cluster.proofs.placements.first.Goals as goal
 
-pub loop-k-init : goal.loop-k-init
-unfolding first_placement
-loop-k-init c = rw sub-zero
-
-pub returns-then-signal-s : goal.returns-then-signal-s
-returns-then-signal-s c =
-    let there : c.loop-k.k < placement_count c.args.t.now = omega (arith, c.count-n.ensures, c.loop-k-test.true) in
-    sym (c.loop-k.invariant ∙ right _ _ _ there (eq-eqb _ _ (sym c.signal.ensures ∙ c.if-signal-s.true)))
-
-pub loop-k-preserved : goal.loop-k-preserved
-loop-k-preserved c =
-    let there : c.loop-k.k < placement_count c.args.t.now = omega (arith, c.count-n.ensures, c.loop-k-test.true) in
-    c.loop-k.invariant ∙ wrong _ _ _ there (ne_eqb _ _ (λ e. c.if-signal-s.false (c.signal.ensures ∙ e)))
-
 pub returns : goal.returns
+unfolding first_placement
 returns c =
-    let passed : placement_count c.args.t.now ≤ c.loop-k.k = omega (arith, c.count-n.ensures, c.loop-k-test.false) in
-    let none = c.loop-k.invariant ∙ ended _ _ _ passed in
-    omega (arith, c.count-n.ensures, c.loop-k.auto.k-end, none)
+    let test : ℕ → Bool = (λ j. eqb (placement_signal c.args.t.now j) c.args.s) in
+    let found : Search test 0 c.count-n.result c.find.result =
+    first_from_Range _ _ _ c.find.result (λ j. test j ≡ true) (λ j. test j ≡ false) c.find.ensures.ran (λ x q k. search (rules, tests))
+        (λ x q k. search (rules, tests)) in
+    c.unwrap_or.ensures ∙ searched test 0 c.count-n.result c.count-n.result c.find.result found (omega arith) ∙ rw (sub-zero, c.count-n.ensures)

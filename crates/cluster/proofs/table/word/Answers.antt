@@ -1,13 +1,8 @@
--- Behind the last word `get_or` is its default.
-use lib.ListN.{get_or-eq_default}
-use mathlib.Core.Path.{refl, sym}
+-- What is read is the element, and the default behind the last one.
+use Rattle.std.proofs.Common.{◌∙◌, arith}
 use Rattle.cluster.specs.Table.{word}
 use Rattle.cluster.proofs.table.word.Goals as goal
 
-pub returns-then-i-t : goal.returns-then-i-t
+pub returns : goal.returns
 unfolding word
-returns-then-i-t c = refl
-
-pub returns-else-i-t : goal.returns-else-i-t
-unfolding word
-returns-else-i-t c = sym (get_or-eq_default c.args.t.now 0 c.if-i-t.false)
+returns c = c.unwrap_or.ensures ∙ rw c.copied.ensures (c.get.ensures.lookup.4 (omega arith) 0)

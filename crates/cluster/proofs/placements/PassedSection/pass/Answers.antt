@@ -1,0 +1,77 @@
+-- Each way out has the tests that led there.
+use Prim.Native.Nat.{◌<◌}
+use mathlib.Core.Path.{◌≡◌, sym, ◌∙◌}
+use native.Mathlib.Omega.{arith}
+use lib.ListN.{get_or}
+use Rattle.cluster.specs.Columns.{placement_columns}
+use Rattle.cluster.specs.Read.{leading}
+use Rattle.cluster.specs.Table.{signal_count, frame_count}
+use Rattle.cluster.proofs.Clauses.{signal_says, frame_says}
+use Rattle.cluster.proofs.PlacementTurn.{stops, all_right, goes_on, is_free, passes}
+use Rattle.cluster.proofs.Widths.{width_range}
+use Rattle.cluster.proofs.placements.PassedSection.pass.Goals as goal
+
+pub returns-then-not-signal_right-clause-told : goal.returns-then-not-signal_right-clause-told
+unfolding placement_columns leading
+returns-then-not-signal_right-clause-told c rest =
+    rw c.fault.ensures
+    (stops c.args.t.now c.args.k c.args.self.now c.requires.1 c.requires.0 c.record.result c.record.ensures.words 0 _
+    (simp (sym c.signal_right.ensures ∙ c.if-not-signal_right.true)) (omega arith) (omega arith) rest)
+
+pub returns-then-not-frame_right-clause-told : goal.returns-then-not-frame_right-clause-told
+unfolding placement_columns leading
+returns-then-not-frame_right-clause-told c rest =
+    let signal = sym c.signal_right.ensures ∙ c.if-not-signal_right.false in
+    rw c.fault-then-not-frame_right.ensures
+    (stops c.args.t.now c.args.k c.args.self.now c.requires.1 c.requires.0 c.record.result c.record.ensures.words 1 _
+    (simp (signal, sym c.frame_right.ensures ∙ c.if-not-frame_right.true)) (omega arith) (omega arith) rest)
+
+pub offset_free-requires : goal.offset_free-requires
+offset_free-requires c =
+    let records = c.requires.1.records in
+    let signal = signal_says _ _ _ (sym c.signal_right.ensures ∙ c.if-not-signal_right.false) in
+    let frame = frame_says _ _ _ _ (sym c.frame_right.ensures ∙ c.if-not-frame_right.false) in
+    let width = width_range _ _ (records.widths (get_or c.record.result 0 0) signal.1) in
+    let short = records.short (get_or c.record.result 1 0) frame.0 in (
+      c.record.ensures.upper_bound 2,
+      omega (arith, c.shape_of-shape.ensures.1, width.0),
+      omega (arith, c.shape_of-shape.ensures.1, width.1),
+      omega (arith, c.room_of.ensures.0, short),
+    )
+
+pub returns-then-not-offset_free-clause-told : goal.returns-then-not-offset_free-clause-told
+unfolding placement_columns leading
+returns-then-not-offset_free-clause-told c rest =
+    let signal = sym c.signal_right.ensures ∙ c.if-not-signal_right.false in
+    let frame = sym c.frame_right.ensures ∙ c.if-not-frame_right.false in
+    let offset = rw (c.shape_of-shape.ensures.0, c.shape_of-shape.ensures.1, c.room_of.ensures.0) at c.offset_free.ensures in
+    rw c.fault-then-not-offset_free.ensures
+    (stops c.args.t.now c.args.k c.args.self.now c.requires.1 c.requires.0 c.record.result c.record.ensures.words 2 _
+    (simp (signal, frame, sym offset ∙ c.if-not-offset_free.true)) (omega arith) (omega arith) rest)
+
+pub with_bits-requires-clause-le_width : goal.with_bits-requires-clause-le_width
+with_bits-requires-clause-le_width c =
+    let a = c.args in
+    let signal = sym c.signal_right.ensures ∙ c.if-not-signal_right.false in
+    let frame = sym c.frame_right.ensures ∙ c.if-not-frame_right.false in
+    let offset = rw (c.shape_of-shape.ensures.0, c.shape_of-shape.ensures.1, c.room_of.ensures.0) at c.offset_free.ensures in
+    let right =
+    all_right a.t.now a.k a.self.now c.requires.1 c.requires.0 c.record.result c.record.ensures.words signal frame
+        (sym offset ∙ c.if-not-offset_free.false) in
+    (is_free a.t.now a.k a.self.now c.requires.1 c.requires.0 c.record.result c.record.ensures.words right _ c.shape_of-shape.ensures.1).0
+
+pub returns : goal.returns
+returns c =
+    let a = c.args in
+    let signal = sym c.signal_right.ensures ∙ c.if-not-signal_right.false in
+    let frame = sym c.frame_right.ensures ∙ c.if-not-frame_right.false in
+    let offset = rw (c.shape_of-shape.ensures.0, c.shape_of-shape.ensures.1, c.room_of.ensures.0) at c.offset_free.ensures in
+    let right =
+    all_right a.t.now a.k a.self.now c.requires.1 c.requires.0 c.record.result c.record.ensures.words signal frame
+        (sym offset ∙ c.if-not-offset_free.false) in
+    record {
+      told = goes_on a.t.now a.k a.self.now c.requires.1 c.requires.0 c.record.result c.record.ensures.words right;
+      passed =
+          passes a.t.now a.k a.self.now c.requires.1 c.requires.0 c.record.result c.record.ensures.words right c.with_bits.result
+          (rw c.shape_of-shape.ensures.1 at c.with_bits.ensures);
+    }
