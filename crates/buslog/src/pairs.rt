@@ -52,7 +52,7 @@ fn digit(c: u8) -> Option<u8>
 }
 
 // The pair of a byte.
-// Kept: as `row::decimal`, by which `{:02X}` would be dearer still.
+// Kept: as `decimal` (row): each row of a log has one.
 pub fn pair(byte: u8) -> [u8; 2]
     ensures { result ≡ pair_of byte }
 {
