@@ -31,6 +31,7 @@ pub(crate) fn read(line: &[u8]) -> Option<Pairs>
 }
 
 // The byte that two characters are the pair of, if they are one.
+// Kept: `u8::from_str_radix` reads lower-case digits and a sign too.
 pub fn byte(high: u8, low: u8) -> Option<u8>
     ensures { result ≡ byte_of high low }
 {
@@ -51,6 +52,7 @@ fn digit(c: u8) -> Option<u8>
 }
 
 // The pair of a byte.
+// Kept: as `decimal` (row): each row of a log has one.
 pub fn pair(byte: u8) -> [u8; 2]
     ensures { result ≡ pair_of byte }
 {

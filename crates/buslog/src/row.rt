@@ -27,6 +27,8 @@ fn put_decimal(out: &mut [u8], number: u64) -> usize
 }
 
 // The decimal digits of a number at the end of an array, zeros before them, and where the digits begin.
+// Kept: tried, `InlineText::<20>::of(number)`, which prints by `Display`: 227 instructions for six digits, and 46 here, so that a line of a
+// log would be at 1.78 times plain C, and the bar is 1.25.
 pub fn decimal(number: u64) -> ([u8; 20], usize)
     ensures digits { result.0 ≡ replicate (20 - length (decimal_of number)) 0 ++ decimal_of number }
     ensures first { result.1 ≡ 20 - length (decimal_of number) }

@@ -32,6 +32,7 @@ pub(crate) fn read(field: &[u8], form: &[u8]) -> Option<Field>
 }
 
 // Reads one decimal digit or more, up to a limit.
+// Kept: `str::parse` reads a sign too, and asks for a text where a field is bytes.
 pub(crate) fn decimal(field: &[u8], limit: u32) -> Option<u32>
     ensures { result ≡ decimal_field limit field.now }
 {
