@@ -148,7 +148,7 @@ module _ (t : List ℕ) (d : Bool) where
     signal_word_lem p e =
         by_test (placement_test d t k 0 p h (omega arith) (omega arith))
         (and_exactly (counts_up (signal_word t) k) (ltb (signal_word t k) (S t)) (counts_exactly (signal_word t) k)
-            (lt_exactly (signal_word t k) (S t)))
+        (lt_exactly (signal_word t k) (S t)))
 
     -- no earlier placement of the signal has a property
     none_exactly : (test : ℕ → Bool) → (not (earlier_placement t k test) ≡ true) ↔ ((j : ℕ) → EarlierOf t k j → test j ≡ false)

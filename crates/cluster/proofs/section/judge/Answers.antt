@@ -24,4 +24,4 @@ pub returns-clause-told : goal.returns-clause-told
 returns-clause-told g c =
     let s = g.S.Section in
     sym (c.loop-k.invariant.left ∙ no_record c.args.t.now (s.at c.args.t.now c.loop-k.k)
-        (s.right c.args.t.now) c.loop-k.k c.args.n c.loop-k-test.false)
+    (s.right c.args.t.now) c.loop-k.k c.args.n c.loop-k-test.false)

@@ -1,11 +1,9 @@
 -- Each way out has the tests that led there.
-use Prim.Native.Nat.{◌<◌}
-use mathlib.Core.Path.{◌≡◌, sym, ◌∙◌}
+use mathlib.Core.Path.{sym, ◌∙◌}
 use native.Mathlib.Omega.{arith}
 use lib.ListN.{get_or}
 use Rattle.cluster.specs.Columns.{placement_columns}
 use Rattle.cluster.specs.Read.{leading}
-use Rattle.cluster.specs.Table.{signal_count, frame_count}
 use Rattle.cluster.proofs.Clauses.{signal_says, frame_says}
 use Rattle.cluster.proofs.PlacementTurn.{stops, all_right, goes_on, is_free, passes}
 use Rattle.cluster.proofs.Widths.{width_range}
@@ -57,7 +55,7 @@ with_bits-requires-clause-le_width c =
     let offset = rw (c.shape_of-shape.ensures.0, c.shape_of-shape.ensures.1, c.room_of.ensures.0) at c.offset_free.ensures in
     let right =
     all_right a.t.now a.k a.self.now c.requires.1 c.requires.0 c.record.result c.record.ensures.words signal frame
-        (sym offset ∙ c.if-not-offset_free.false) in
+    (sym offset ∙ c.if-not-offset_free.false) in
     (is_free a.t.now a.k a.self.now c.requires.1 c.requires.0 c.record.result c.record.ensures.words right _ c.shape_of-shape.ensures.1).0
 
 pub returns : goal.returns
@@ -68,7 +66,7 @@ returns c =
     let offset = rw (c.shape_of-shape.ensures.0, c.shape_of-shape.ensures.1, c.room_of.ensures.0) at c.offset_free.ensures in
     let right =
     all_right a.t.now a.k a.self.now c.requires.1 c.requires.0 c.record.result c.record.ensures.words signal frame
-        (sym offset ∙ c.if-not-offset_free.false) in
+    (sym offset ∙ c.if-not-offset_free.false) in
     record {
       told = goes_on a.t.now a.k a.self.now c.requires.1 c.requires.0 c.record.result c.record.ensures.words right;
       passed =
