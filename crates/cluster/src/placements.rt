@@ -14,7 +14,7 @@ use crate::frames::Room;
 use crate::marks::{are_free, with_bits};
 use crate::section::{self, Section};
 use crate::signals::Shape;
-use crate::table::{Described, Layout, follows, placement_at, record, word};
+use crate::table::{Described, Layout, placement_at, record, word};
 use crate::{Limits, fault, frames, signals};
 use refusal::Refusal;
 
@@ -136,12 +136,16 @@ impl Section for Passed {
     }
 }
 
-// Whether a placement may be of a signal: it is there, and the next one or that of the placement before.
+// Whether a placement may be of a signal: the next one, if it is there, or that of the placement before.
 fn signal_right(t: &[u16], placed: usize, s: usize) -> bool
-    requires { s ≤ 65536 }
+    requires { (placed ≤ signal_count t.now) × (s ≤ 65536) }
     ensures { result ≡ placement_signal_right (signal_count t.now) (followsOf placed s) s }
 {
-    follows(placed, s) && s < signals::count(t) as usize
+    if s == placed {
+        s < (signals::count(t) as usize)
+    } else {
+        s + 1 == placed
+    }
 }
 
 impl Passed {
