@@ -174,7 +174,9 @@ fn offset_free(shape: Shape, room: Room, occupied: u64, offset: usize) -> bool
     requires { (offset ≤ 65536) × (1 ≤ shape.width) × (shape.width ≤ 65535) × (room.bits ≤ 64) }
     ensures { result ≡ placement_offset_right shape.array room.bits (ltb room.bits (offset + shape.width)) (hits occupied offset shape.width) offset }
 {
-    offset + shape.width <= room.bits && on_border(shape.array, offset) && are_free(occupied, offset, shape.width)
+    offset + shape.width <= room.bits
+        && on_border(shape.array, offset)
+        && are_free(occupied, offset, shape.width)
 }
 
 // Whether an offset is at a byte border, where it is that of an array.
