@@ -1,6 +1,6 @@
 -- Marks of bits: what the numbers say of the placements before, and what one more does to them.
 use Prim.Native.Nat.{ℕ, suc, ◌+◌, ◌-◌, ◌*◌, ◌≤◌, ◌<◌}
-use mathlib.Core.Path.{◌≡◌, refl, sym, ◌∙◌}
+use mathlib.Core.Path.{◌≡◌, sym, ◌∙◌}
 use mathlib.Core.Bool.{Bool, false, ◌&&◌, ◌||◌, or_comm}
 use mathlib.Core.List.{List}
 use native.Mathlib.Decide.{ℕ_discrete}
@@ -27,7 +27,7 @@ module _ (t : List ℕ) (s : ℕ) (bits : ℕ → ℕ) (m : BitMarks t s bits) (
   -- one placement more, by cases of the frame asked about
   module _ (next : ℕ → ℕ) (other : (f : ℕ) → (f ≡ placement_frame t s → ⊥) → next f ≡ bits f)
       (put : (j : ℕ) → bit (next (placement_frame t s)) j ≡
-          (bit (bits (placement_frame t s)) j || inside (placement_offset t s) (placement_width t s) j)) where
+      (bit (bits (placement_frame t s)) j || inside (placement_offset t s) (placement_width t s) j)) where
     more : (f j : ℕ) → j < 64 → bit (next f) j ≡ occupied_before t (suc s) (64 * f + j)
     unfolding occupied_before any_below
     more f j h =

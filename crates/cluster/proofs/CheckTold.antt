@@ -55,12 +55,16 @@ judged_told_lem t =
     (λ b. rw (a, y, le-ltb (size t) (length t) b, eq-eqb (length t) (size t) (omega arith))))
     (λ n. let a : faults t 0 rights ≡ fault k = f ∙ rw n in rw (a, n))
 
--- the clauses of the table check
+-- the clause of the table check, from its answer
+pub check_told_lem : (t : List ℕ) (r : Verdict) → r ≡ judged t → (r ≡ judged t) × (verdict_told r ≡ check_told t)
+check_told_lem t r e = (e, rw e (judged_told_lem t))
+
+-- the same under the clauses' names
 abbrev pub Answered : List ℕ → Verdict → Type 0
 Answered t r = record { value : r ≡ judged t; told : verdict_told r ≡ check_told t }
 
 pub answered : (t : List ℕ) (r : Verdict) → r ≡ judged t → Answered t r
-answered t r e = record { value = e; told = rw e (judged_told_lem t) }
+answered t r e = let all = check_told_lem t r e in record { value = all.0; told = all.1 }
 
 -- what a `?` hands on is the refusal of the section that it met
 pub refused : (t : List ℕ) (r : Verdict) (e : Refusal) → IsErrAnd r (λ y. y ≡ e) → judged t ≡ Err e → Answered t r

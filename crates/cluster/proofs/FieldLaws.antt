@@ -112,7 +112,7 @@ module _ (t : List ℕ) where
       clear : (f : ℕ) → classic t f ≡ false → flags_word t f / 2 % 2 ≡ 0
       clear f n = whether (eqb (flags_word t f / 2 % 2) 1)
           (λ y. let w = sym ((classic_exactly f).1 (eqb-true (flags_word t f / 2 % 2) 1 y)) ∙ n in
-              absurd (let z : ◌≡◌ {A = ℕ} 0 1 = cc in omega arith))
+          absurd (let z : ◌≡◌ {A = ℕ} 0 1 = cc in omega arith))
           (λ z. let d = eqb-false (flags_word t f / 2 % 2) 1 z in omega arith)
 
   -- ---- "kind 0 scalar, 1 array"

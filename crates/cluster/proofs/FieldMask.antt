@@ -88,8 +88,13 @@ pub field_free : (bits o w : ℕ) → o + w ≤ 64 → eqb (bit_and bits (((2 ^ 
 unfolding hits
 field_free bits o w fits =
     let field : bit_and bits ((2 ^ w - 1) * 2 ^ o) ≡ (bits / 2 ^ o % 2 ^ w) * 2 ^ o = rw (high_ones w o) at (and_high bits w o) in
-    rw (shl_exact w o 64 (ones_lt w) (omega arith), field, shifted_none (bits / 2 ^ o % 2 ^ w), ← (number_mod w (bits / 2 ^ o)),
-        none_set w (bit (bits / 2 ^ o)))
+    rw (
+      shl_exact w o 64 (ones_lt w) (omega arith),
+      field,
+      shifted_none (bits / 2 ^ o % 2 ^ w),
+      ← (number_mod w (bits / 2 ^ o)),
+      none_set w (bit (bits / 2 ^ o)),
+    )
     (ap not (any_ext w (bit (bits / 2 ^ o)) (λ k. bit bits (o + k)) (λ k h. bit_shift bits o k)))
   where
     -- a number shifted up is 0 exactly where it is

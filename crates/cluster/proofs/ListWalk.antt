@@ -1,15 +1,14 @@
 -- The frames of a list from a member on, and how a walk over the members, or from one member of the list to the next, meets them all.
 use Prim.Native.Nat.{ℕ, zero, suc, ◌+◌, ◌-◌, ◌≤◌, ◌<◌}
 use mathlib.Core.Path.{◌≡◌, refl, sym, ◌∙◌}
-use mathlib.Core.Bool.{Bool, true, false}
+use mathlib.Core.Bool.{Bool}
 use mathlib.Core.List.{List, [], ◌∷◌}
 use native.Mathlib.Decide.{ℕ_discrete}
 use native.Mathlib.Nat.{sub-zero}
-use native.Mathlib.Numerals.{add-one}
 use native.Mathlib.Omega.{arith}
 use borrow.Author.Tests.{eq-eqb, ne_eqb}
 use lib.Dec.{eqb}
-use Rattle.cluster.specs.Lists.{first_from, members_from, members, next_member, is_one_of}
+use Rattle.cluster.specs.Lists.{first_from, members_from, members, next_member}
 use Rattle.cluster.specs.Table.{member_count, member_list, member_frame}
 use Rattle.cluster.proofs.Searching.{turn_right, turn_wrong, first_from_lem}
 

@@ -182,7 +182,7 @@ module _ (t u : List ℕ) (n : ℕ) (same : Same t u n) where
         bits_same : frame_bits t k ≡ frame_bits u k
         bits_same =
             ap (λ l. 8 * l) (length_same (placement_frame t k) (omega (arith, below k (omega arith)))
-                ∙ ap (frame_length u) (placement_frame_same k (omega arith)))
+            ∙ ap (frame_length u) (placement_frame_same k (omega arith)))
 
         out_same : sticks_out t k ≡ sticks_out u k
         unfolding sticks_out

@@ -36,7 +36,7 @@ found_exactly number x k n d b =
           let high : first_from test k n ≤ d = first_least test k n d w.0 (eq-eqb (number d) x w.1) in
           order (first_from test k n) d
           (λ c. absurd (w.2 (first_from test k n) (first_from_lem test k n) c
-              (eqb-true (number (first_from test k n)) x (first_holds test k n (omega arith)))))
+          (eqb-true (number (first_from test k n)) x (first_holds test k n (omega arith)))))
           (λ c. omega arith)),
     )
 

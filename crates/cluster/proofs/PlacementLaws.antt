@@ -77,7 +77,7 @@ module _ (t : List ℕ) (ok : RightTable t) where
     unfolding offset_right
     array_offset a =
         let w = and_right (ltb (placement_offset t k) (frame_bits t k))
-            (cond (is_array t (placement_signal t k)) (eqb (placement_offset t k % 8) 0) true) offset_column.0 in
+        (cond (is_array t (placement_signal t k)) (eqb (placement_offset t k % 8) 0) true) offset_column.0 in
         eqb-true (placement_offset t k % 8) 0 (rw a at w)
 
     -- a placement ends inside the frame buffer

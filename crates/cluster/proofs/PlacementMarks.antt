@@ -2,7 +2,7 @@
 -- a signal stands in a frame twice, and whether its frames have two publishers.
 use Prim.Native.Nat.{ℕ, zero, suc, ◌+◌, ◌≤◌, ◌<◌}
 use mathlib.Core.Path.{◌≡◌, refl, sym, ◌∙◌}
-use mathlib.Core.Bool.{Bool, false, not, cond, ◌&&◌, beq, and-false}
+use mathlib.Core.Bool.{Bool, false, not, ◌&&◌, beq, and-false}
 use mathlib.Core.List.{List}
 use native.Mathlib.Decide.{ℕ_discrete}
 use native.Mathlib.Numerals.{add-one}
@@ -97,14 +97,16 @@ module _ (t : List ℕ) (n : ℕ) (up : CountsUp (placement_signal t) n) where
   -- the frames of a signal that had one publisher so far have two exactly where this one differs from the last one
   pub mixed_is : (k : ℕ) → k < n → ((j : ℕ) → j < k → mixed t j ≡ false)
       → mixed t k ≡ (eqb (placement_signal t k + 1) (counted (placement_signal t) k) && not
-          (beq (published t (frame_before t k)) (published t (placement_frame t k))))
+      (beq (published t (frame_before t k)) (published t (placement_frame t k))))
   unfolding mixed earlier_placement any_below counted frame_before
   mixed_is zero h one = rw (ne_eqb (placement_signal t 0 + 1) 0 (λ e. omega arith))
   mixed_is (suc k) h one =
       elim (ℕ_discrete (placement_signal t k) (placement_signal t (suc k))) [
         | yes e ↦
-            rw (eq-eqb (placement_signal t k) (placement_signal t (suc k)) e,
-                eq-eqb (placement_signal t (suc k) + 1) (suc (placement_signal t k)) (omega arith))
+            rw (
+              eq-eqb (placement_signal t k) (placement_signal t (suc k)) e,
+              eq-eqb (placement_signal t (suc k) + 1) (suc (placement_signal t k)) (omega arith),
+            )
             (whether (differs t (suc k) k)
             (λ y. rw y)
             (λ z. rw z (any_none k (other t (suc k)) (alike t k (one k (omega arith)) e z))))

@@ -1,6 +1,6 @@
 -- The check of the placements: the words read are the fields, and the marks tell which bits are occupied, which signal stands in a frame already, and
 -- whether a signal's frames have one publisher.
-use Prim.Native.Nat.{ℕ, ◌+◌, ◌-◌, ◌*◌, ◌≤◌, ◌<◌}
+use Prim.Native.Nat.{ℕ, ◌+◌, ◌*◌, ◌≤◌, ◌<◌}
 use mathlib.Core.Path.{◌≡◌, refl, sym, ◌∙◌, ap}
 use mathlib.Core.Bool.{Bool, true, false, ◌||◌, and-false}
 use mathlib.Core.List.{List, ◌++◌}
@@ -15,7 +15,7 @@ use Rattle.wire.proofs.Tests.{whether}
 use Rattle.signal.specs.Signal.{inside}
 use Rattle.cluster.specs.Check.{fault, faults}
 use Rattle.cluster.specs.Columns.{follows, offset_right, placement_signal_right, placement_frame_right, placement_offset_right, placement_columns}
-use Rattle.cluster.specs.Passed.{unmarked, last_of, occupied_of, mixes, CountsUp, PlacementsPassed, PlacedBefore, last_in, frame_before}
+use Rattle.cluster.specs.Passed.{unmarked, last_of, occupied_of, mixes, CountsUp, PlacementsPassed, last_in, frame_before}
 use Rattle.cluster.specs.Read.{InLimits, RecordsBefore, IsRecord, due, leading, hits}
 use Rattle.cluster.specs.Right.{frame_bits, again, mixed, sticks_out, overlaps, placement_right, counts_up}
 use Rattle.cluster.specs.Table.{most_frames, frame_count, frame_length, signal_count, signal_width, is_array, counted}
@@ -174,7 +174,7 @@ module _ (t : List ℕ) (k : ℕ) (x : Passed) (p : PlacementsPassed t k x) (mor
 
   pub all_right : placement_signal_right (signal_count t) (follows x.placed (get_or w 0 0)) (get_or w 0 0) ≡ true
       → placement_frame_right (frame_count t) (eqb (last_of x (get_or w 1 0)) (get_or w 0 0 + 1)) (mixes t x (get_or w 0 0) (get_or w 1 0))
-          (get_or w 1 0) ≡ true
+      (get_or w 1 0) ≡ true
       → placement_offset_right (is_array t (get_or w 0 0)) (8 * frame_length t (get_or w 1 0))
       (ltb (8 * frame_length t (get_or w 1 0)) (get_or w 2 0 + signal_width t (get_or w 0 0)))
       (hits (occupied_of x (get_or w 1 0)) (get_or w 2 0) (signal_width t (get_or w 0 0))) (get_or w 2 0)

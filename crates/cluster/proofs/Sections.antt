@@ -15,7 +15,7 @@ use Rattle.cluster.specs.Columns.{header_columns, frame_columns, signal_columns,
 use Rattle.cluster.specs.Read.{InLimits, RecordsBefore}
 use Rattle.cluster.specs.Right.{records, header_right, frame_right, signal_right, placement_right, all_placed, member_right, entry_right}
 use Rattle.cluster.specs.Right.{front_right, back_right, words_right}
-use Rattle.cluster.specs.Table.{most_frames, most_signals, most_members, most_entries, most_placements, header_words, frame_words}
+use Rattle.cluster.specs.Table.{header_words, frame_words}
 use Rattle.cluster.specs.Table.{signal_words, member_words}
 use Rattle.cluster.specs.Table.{frame_count, signal_count, placement_count, member_count, entry_count, frame_length, is_array, signal_width}
 use Rattle.cluster.specs.Table.{frame_at, signal_at, placement_at, member_at, entry_at}
@@ -142,13 +142,13 @@ module _ (t : List ℕ) where
   frames_passed h f b =
       within_high 1 8 (frame_length t f)
       (all_records (frame_right t) 0 (frame_count t) (faults_true t (frame_at 0) (records 0 (frame_count t) (frame_right t)) h) f (omega arith)
-          (omega arith)).1.0
+      (omega arith)).1.0
 
   signals_passed : signal_faults t ≡ Ok tt → (s : ℕ) → s < signal_count t → width_right (is_array t s) (signal_width t s) ≡ true
   unfolding signal_right signal_columns is_array
   signals_passed h s b =
       (all_records (signal_right t) 0 (signal_count t) (faults_true t (signal_at t 0) (records 0 (signal_count t) (signal_right t)) h) s
-          (omega arith) (omega arith)).1.0
+      (omega arith) (omega arith)).1.0
 
   -- where a section accepts, its words are there
   words_there : header_faults t ≡ Ok tt → frame_faults t ≡ Ok tt → signal_faults t ≡ Ok tt → placement_at t 0 ≤ length t

@@ -78,7 +78,7 @@ unfolding filled
 filled_length t size zero = length-replicate size 255
 filled_length t size (suc n) =
     rw (start_is t n (filled t size n)) (put_length (filled t size n) (place_of t n) (start_width t (placement_signal t n))
-        (start_bit t (placement_signal t n)))
+    (start_bit t (placement_signal t n)))
     ∙ filled_length t size n
 
 filled_bytes : (t : List ℕ) (size n : ℕ) → Bytes (filled t size n)
@@ -86,7 +86,7 @@ unfolding filled
 filled_bytes t size zero = replicate_bytes size 255 (omega arith)
 filled_bytes t size (suc n) =
     rw (start_is t n (filled t size n)) (put_bytes (filled t size n) (place_of t n) (start_width t (placement_signal t n))
-        (start_bit t (placement_signal t n)))
+    (start_bit t (placement_signal t n)))
 
 -- "a lent buffer of exactly 8F bytes"
 pub fresh_length : (t : List ℕ) → length (fresh_bytes t) ≡ 8 * frame_count t

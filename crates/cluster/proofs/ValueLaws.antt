@@ -231,7 +231,7 @@ module _ (t : List ℕ) (ok : RightTable t) where
     read_scalar_at a bs l v b k o =
         let w : scalar_width (signal_width t s) ≡ signal_width t s = omega (arith, scalar_width_high t ok s h a) in
         number_ext (scalar_width (signal_width t s)) (λ i. bit_at (with_scalar t bs s v) (place_of t k + i)) (bit v)
-            (scalar_put_bit t bs s v ok l k o)
+        (scalar_put_bit t bs s v ok l k o)
         ∙ number_mod (scalar_width (signal_width t s)) v
         ∙ mod-eq_of_lt (rw w (ltb-true v (2 ^ signal_width t s) b))
 

@@ -148,7 +148,7 @@ module _ (t : List ℕ) (d : Bool) where
     signal_word_lem p e =
         by_test (placement_test d t k 0 p h (omega arith) (omega arith))
         (and_exactly (counts_up (signal_word t) k) (ltb (signal_word t k) (S t)) (counts_exactly (signal_word t) k)
-            (lt_exactly (signal_word t k) (S t)))
+        (lt_exactly (signal_word t k) (S t)))
 
     -- no earlier placement of the signal has a property
     none_exactly : (test : ℕ → Bool) → (not (earlier_placement t k test) ≡ true) ↔ ((j : ℕ) → EarlierOf t k j → test j ≡ false)
@@ -229,7 +229,8 @@ module _ (t : List ℕ) (d : Bool) where
       -- no bit is an earlier placement's
       overlap_exactly : end ≤ bits
           → (not (overlaps t k) ≡ true) ↔ ((j b : ℕ) → j < k → frame_word t j ≡ frame_word t k → HasBit t j b → HasBit t k b → ⊥)
-      unfolding overlaps occupied_before place_of placement_signal placement_frame placement_offset placement_width signal_width frame_count signal_count word
+      unfolding overlaps occupied_before place_of placement_signal placement_frame
+          placement_offset placement_width signal_width frame_count signal_count word
       overlap_exactly l =
           let high : end ≤ 64 = omega (arith, short k (omega arith)) in
           let shared : ℕ → Bool = (λ i. covers t k i && occupied_before t k i) in (
@@ -255,7 +256,8 @@ module _ (t : List ℕ) (d : Bool) where
               free j (i - 64 * frame_word t k) found.1 same (omega arith, omega arith) (omega arith, omega arith)
 
       pub offset_word_lem : Test p ↔ OffsetSays t k
-      unfolding placement_right placement_columns is_array signal_kind frame_length placement_signal placement_frame placement_offset frame_count signal_count placement_count word
+      unfolding placement_right placement_columns is_array signal_kind frame_length
+          placement_signal placement_frame placement_offset frame_count signal_count placement_count word
       offset_word_lem =
           let kind = kind_word t (signal_word t k) in
           let right = offset_right (eqb kind 1) bits (offset_word t k) in

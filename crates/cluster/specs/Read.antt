@@ -1,5 +1,5 @@
 -- What the steps of the check read and compute; only private contracts cite this.
-use Rattle.std.specs.Prelude.{ℕ, zero, suc, ◌+◌, ◌*◌, ◌<◌, ◌≤◌, ◌≡◌, Bool, true, cond, List, [], ◌∷◌, ltb, length, get_or}
+use Rattle.std.specs.Prelude.{ℕ, zero, suc, ◌+◌, ◌<◌, ◌≤◌, ◌≡◌, Bool, true, cond, List, [], ◌∷◌, ltb, length, get_or}
 use Rattle.wire.specs.Bits.{bit}
 use Rattle.cluster.specs.Table.{most_frames, most_signals, most_members, most_entries, most_placements, word, frame_length, signal_width}
 use Rattle.cluster.specs.Table.{is_array, placement_at}

@@ -1,7 +1,7 @@
 // The placements of the signals: their number, their fields, and the check of their records.
 ghost use Rattle.std.specs.Prelude.{◌≡◌, true, not, cond, ◌&&◌, ◌+◌, ◌%◌, ◌<◌, ◌≤◌, ltb, eqb};
 ghost use Rattle.cluster.specs.Check.{placement_faults, unplaced, then};
-ghost use Rattle.cluster.specs.Columns.{follows, placement_signal_right, placement_frame_right, placement_offset_right};
+ghost use Rattle.cluster.specs.Columns.{follows as followsOf, placement_signal_right, placement_frame_right, placement_offset_right};
 ghost use Rattle.cluster.specs.Places.{place_of};
 ghost use Rattle.cluster.specs.Passed.{PlacementsPassed, PlacedBefore, last_of, mixes};
 ghost use Rattle.cluster.specs.Read.{RecordsBefore, hits};
@@ -139,7 +139,7 @@ impl Section for Passed {
 // Whether a placement may be of a signal: the next one, if it is there, or that of the placement before.
 fn signal_right(t: &[u16], placed: usize, s: usize) -> bool
     requires { (placed ≤ signal_count t.now) × (s ≤ 65536) }
-    ensures { result ≡ placement_signal_right (signal_count t.now) (follows placed s) s }
+    ensures { result ≡ placement_signal_right (signal_count t.now) (followsOf placed s) s }
 {
     if s == placed {
         s < (signals::count(t) as usize)
@@ -152,7 +152,7 @@ impl Passed {
     // Whether a placement of a signal may be in a frame: it is there, and the placement is the signal's first, or joins those before.
     fn frame_right(&self, t: &[u16], s: usize, f: usize) -> bool
         requires records_before { RecordsBefore t.now × PlacedBefore t.now self.now }
-        requires s_bound { (s ≤ 65536) × (follows self.now.placed s ≡ true) }
+        requires s_bound { (s ≤ 65536) × (followsOf self.now.placed s ≡ true) }
         ensures { result ≡ placement_frame_right (frame_count t.now) (eqb (last_of self.now f) (s + 1)) (mixes t.now self.now s f) f }
     {
         f < frames::count(t) as usize && (s == self.placed || self.joins(t, s, f))
@@ -174,10 +174,9 @@ fn offset_free(shape: Shape, room: Room, occupied: u64, offset: usize) -> bool
     requires { (offset ≤ 65536) × (1 ≤ shape.width) × (shape.width ≤ 65535) × (room.bits ≤ 64) }
     ensures { result ≡ placement_offset_right shape.array room.bits (ltb room.bits (offset + shape.width)) (hits occupied offset shape.width) offset }
 {
-    if room.bits < offset + shape.width {
-        return false;
-    }
-    on_border(shape.array, offset) && are_free(occupied, offset, shape.width)
+    offset + shape.width <= room.bits
+        && on_border(shape.array, offset)
+        && are_free(occupied, offset, shape.width)
 }
 
 // Whether an offset is at a byte border, where it is that of an array.

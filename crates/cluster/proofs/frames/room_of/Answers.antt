@@ -8,10 +8,10 @@ use Rattle.cluster.specs.Table.{word, published, flags, frame_length}
 use Rattle.cluster.proofs.frames.room_of.Goals as goal
 
 pub overflow_cast-result : goal.overflow_cast-result
-overflow_cast-result c = omega (arith, c.shared_slice_known-2-1.given (c.frame_at-at.result + 1))
+overflow_cast-result c = omega (arith, c.type_inv.t (c.frame_at-at.result + 1))
 
 pub overflow_mul-result : goal.overflow_mul-result
-overflow_mul-result c = omega (arith, c.shared_slice_known-2-1.given (c.frame_at-at.result + 1))
+overflow_mul-result c = omega (arith, c.type_inv.t (c.frame_at-at.result + 1))
 
 pub returns : goal.returns
 unfolding published flags frame_length word bit

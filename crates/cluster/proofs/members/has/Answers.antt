@@ -1,5 +1,5 @@
 -- Some member of the list is the frame.
-use Rattle.std.proofs.Common.{◌≡◌, ◌∙◌, ◌<◌, refl, sym, subst, ℕ, Bool, true, false, List, length, get_or, arith, rules}
+use Rattle.std.proofs.Common.{◌≡◌, ◌<◌, refl, sym, subst, ℕ, Bool, true, false, List, length, get_or, arith, rules}
 use Rattle.std.proofs.lemmas.Iterator.{cases_from_any, YieldsList-from_range}
 use Rattle.std.proofs.lemmas.List.FromFn.{length-range_with_len, get_or-range_with_len}
 use Rattle.std.specs.Bool.{MatchBool}
@@ -42,5 +42,5 @@ returns c =
     let a = c.args in
     has_is a.t.now a.l a.f c.count.result c.count.ensures c.any.result
     (cases_from_any _ _ c.any.result (Is a.t.now a.l a.f c.count.result c.count.ensures)
-        (IsNot a.t.now a.l a.f c.count.result c.count.ensures) c.any.ensures.ran
+    (IsNot a.t.now a.l a.f c.count.result c.count.ensures) c.any.ensures.ran
     (YieldsList-from_range 0 c.count.result c.count.result refl (omega arith)) (λ x q k. search (rules, tests)) (λ x q k. search (rules, tests)))

@@ -14,5 +14,5 @@ returns c =
     let test : ℕ → Bool = (λ j. eqb (placement_signal c.args.t.now j) c.args.s) in
     let found : Search test 0 c.count-n.result c.find.result =
     first_from_Range _ _ _ c.find.result (λ j. test j ≡ true) (λ j. test j ≡ false) c.find.ensures.ran (λ x q k. search (rules, tests))
-        (λ x q k. search (rules, tests)) in
+    (λ x q k. search (rules, tests)) in
     c.unwrap_or.ensures ∙ searched test 0 c.count-n.result c.count-n.result c.find.result found (omega arith) ∙ rw (sub-zero, c.count-n.ensures)

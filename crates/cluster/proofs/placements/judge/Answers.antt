@@ -1,11 +1,11 @@
 -- No placement passed yet; behind the last one, their signals are counted.
-use mathlib.Core.Path.{◌≡◌, sym, ◌∙◌}
+use mathlib.Core.Path.{◌≡◌, ◌∙◌}
 use native.Mathlib.Omega.{arith}
 use borrow.Author.Tests.{lt-leb, le-leb}
 use Rattle.std.specs.Prelude.{Ok}
 use Rattle.cluster.specs.Check.{Verdict, then, unplaced}
 use Rattle.cluster.specs.Right.{all_placed}
-use Rattle.cluster.specs.Table.{signal_count, placement_count, placed_signals}
+use Rattle.cluster.specs.Table.{signal_count, placed_signals}
 use Rattle.cluster.proofs.PlacementTurn.{none_passed}
 use Rattle.cluster.proofs.placements.judge.Goals as goal
 
@@ -23,7 +23,7 @@ returns-then-passed-count c =
     let counts : c.judge.new.section.placed ≡ placed_signals t = rw c.count-n.ensures at c.in_ok-judge.ensures.passed.counts in
     let few = lt-leb (signal_count t) (placed_signals t) (omega (arith, c.if-passed-count.true, counts)) in
     behind (rw c.count-n.ensures at c.in_ok-judge.ensures.told)
-        (c.fault.ensures ∙ rw (few, c.placement_at-then-passed-count.ensures.value, c.count-n.ensures))
+    (c.fault.ensures ∙ rw (few, c.placement_at-then-passed-count.ensures.value, c.count-n.ensures))
 
 pub returns-else-passed-count : goal.returns-else-passed-count
 unfolding unplaced all_placed placed_signals

@@ -10,7 +10,8 @@ returns-in_err-pass-clause-told g c =
     let t = c.args.t.now in
     let k = c.loop-k.k in
     let told = next_record t (s.at t k) (s.at t (k + 1)) (s.right t) k c.args.n _ c.loop-k-test.true c.pass.ensures.told in
-    passed_on c.from_residual.result c.in_err-pass.field-0.0 c.from_residual.ensures.1 ∙ sym (c.loop-k.invariant.left ∙ told ∙ rw c.in_err-pass.was)
+    let is = passed_on c.from_residual.result c.in_err-pass.field-0.0 c.from_residual.ensures.1 in
+    is ∙ sym (c.loop-k.invariant.left ∙ told ∙ rw c.in_err-pass.was)
 
 pub loop-k-preserved : goal.loop-k-preserved
 loop-k-preserved g c =
@@ -24,4 +25,4 @@ pub returns-clause-told : goal.returns-clause-told
 returns-clause-told g c =
     let s = g.S.Section in
     sym (c.loop-k.invariant.left ∙ no_record c.args.t.now (s.at c.args.t.now c.loop-k.k)
-        (s.right c.args.t.now) c.loop-k.k c.args.n c.loop-k-test.false)
+    (s.right c.args.t.now) c.loop-k.k c.args.n c.loop-k-test.false)

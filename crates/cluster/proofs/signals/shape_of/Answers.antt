@@ -6,7 +6,7 @@ use Rattle.cluster.specs.Table.{word, is_array, signal_kind, signal_width}
 use Rattle.cluster.proofs.signals.shape_of.Goals as goal
 
 pub overflow_cast-result : goal.overflow_cast-result
-overflow_cast-result c = omega (arith, c.shared_slice_known-3-1.given (c.signal_at-at.result + 1))
+overflow_cast-result c = omega (arith, c.type_inv.t (c.signal_at-at.result + 1))
 
 pub returns : goal.returns
 unfolding is_array signal_kind signal_width word

@@ -27,7 +27,7 @@ returns-then-members-gt-MEMBERS c =
     let signals = le-leb _ _ c.if-signals-gt-SIGNALS.false in
     c.fault-then-members-gt-MEMBERS.ensures
     ∙ sym (stops c.args.t.now c.record.result c.record.ensures.words 2 (simp (frames, signals, lt-leb _ _ c.if-members-gt-MEMBERS.true))
-        (omega arith))
+    (omega arith))
 
 pub returns-then-entries-gt-ENTRIES : goal.returns-then-entries-gt-ENTRIES
 unfolding header_columns leading
@@ -37,7 +37,7 @@ returns-then-entries-gt-ENTRIES c =
     let members = le-leb _ _ c.if-members-gt-MEMBERS.false in
     c.fault-then-entries-gt-ENTRIES.ensures
     ∙ sym (stops c.args.t.now c.record.result c.record.ensures.words 3 (simp (frames, signals, members, lt-leb _ _ c.if-entries-gt-ENTRIES.true))
-        (omega arith))
+    (omega arith))
 
 pub returns-then-placements-gt-PLACEMENTS : goal.returns-then-placements-gt-PLACEMENTS
 unfolding header_columns leading
@@ -58,4 +58,4 @@ returns c =
     let members = le-leb _ _ c.if-members-gt-MEMBERS.false in
     let entries = le-leb _ _ c.if-entries-gt-ENTRIES.false in
     sym (goes_on c.args.t.now c.record.result c.record.ensures.words
-        (simp (frames, signals, members, entries, le-leb _ _ c.if-placements-gt-PLACEMENTS.false)))
+    (simp (frames, signals, members, entries, le-leb _ _ c.if-placements-gt-PLACEMENTS.false)))

@@ -1,6 +1,5 @@
 -- A shift makes 2^width for less than 32 bits, and for more every value is below it.
 use native.Mathlib.Omega.{arith}
-use mathlib.Core.Path.{◌∙◌}
 use borrow.Author.Tests.{lt-ltb}
 use Rattle.cluster.specs.Values.{value_fits}
 use Rattle.cluster.proofs.ValueSteps.{fits_wide, limit_below}

@@ -57,8 +57,13 @@ unfolding entry_columns leading
 returns c =
     let target = sym c.target_right.ensures ∙ c.if-not-target_right.false in
     let right : leading (seen c.args.t.now c.args.e c.args.self.now c.requires.1 c.requires.0 c.record.result c.record.ensures.words) ≡ entry_words =
-    simp (sym c.follows.ensures ∙ c.if-not-follows.false, le-leb _ _ c.if-kind-gt3.false, target, le-leb _ _ c.if-delay-lt1.false,
-        le-leb _ _ c.if-delay-gt65535.false) in
+    simp (
+      sym c.follows.ensures ∙ c.if-not-follows.false,
+      le-leb _ _ c.if-kind-gt3.false,
+      target,
+      le-leb _ _ c.if-delay-lt1.false,
+      le-leb _ _ c.if-delay-gt65535.false,
+    ) in
     record {
       told = goes_on c.args.t.now c.args.e c.args.self.now c.requires.1 c.requires.0 c.record.result c.record.ensures.words right;
       passed = passes c.args.t.now c.args.e c.args.self.now c.requires.1 c.requires.0 c.record.result c.record.ensures.words right;

@@ -1,11 +1,11 @@
 -- Each way out has the tests that led there.
 use Prim.Native.Nat.{◌<◌}
-use mathlib.Core.Path.{◌≡◌, sym, ◌∙◌}
+use mathlib.Core.Path.{sym, ◌∙◌}
 use native.Mathlib.Omega.{arith}
 use lib.ListN.{get_or}
-use Rattle.cluster.specs.Columns.{placement_columns}
+use Rattle.cluster.specs.Columns.{follows, placement_columns}
 use Rattle.cluster.specs.Read.{leading}
-use Rattle.cluster.specs.Table.{signal_count, frame_count}
+use Rattle.cluster.specs.Table.{frame_count, signal_count, signal_width, is_array}
 use Rattle.cluster.proofs.Clauses.{signal_says, frame_says}
 use Rattle.cluster.proofs.PlacementTurn.{stops, all_right, goes_on, is_free, passes}
 use Rattle.cluster.proofs.Widths.{width_range}
@@ -28,11 +28,14 @@ returns-then-not-frame_right-clause-told c rest =
 
 pub offset_free-requires : goal.offset_free-requires
 offset_free-requires c =
+    let t = c.args.t.now in
+    let s = get_or c.record.result 0 0 in
+    let f = get_or c.record.result 1 0 in
     let records = c.requires.1.records in
-    let signal = signal_says _ _ _ (sym c.signal_right.ensures ∙ c.if-not-signal_right.false) in
-    let frame = frame_says _ _ _ _ (sym c.frame_right.ensures ∙ c.if-not-frame_right.false) in
-    let width = width_range _ _ (records.widths (get_or c.record.result 0 0) signal.1) in
-    let short = records.short (get_or c.record.result 1 0) frame.0 in (
+    let signal : s < signal_count t = (signal_says (signal_count t) (follows c.args.self.now.placed s) s (sym c.signal_right.ensures ∙ c.if-not-signal_right.false)).1 in
+    let frame : f < frame_count t = (frame_says (frame_count t) _ _ f (sym c.frame_right.ensures ∙ c.if-not-frame_right.false)).0 in
+    let width = width_range (is_array t s) (signal_width t s) (records.widths s signal) in
+    let short = records.short f frame in (
       c.record.ensures.upper_bound 2,
       omega (arith, c.shape_of-shape.ensures.1, width.0),
       omega (arith, c.shape_of-shape.ensures.1, width.1),
@@ -57,7 +60,7 @@ with_bits-requires-clause-le_width c =
     let offset = rw (c.shape_of-shape.ensures.0, c.shape_of-shape.ensures.1, c.room_of.ensures.0) at c.offset_free.ensures in
     let right =
     all_right a.t.now a.k a.self.now c.requires.1 c.requires.0 c.record.result c.record.ensures.words signal frame
-        (sym offset ∙ c.if-not-offset_free.false) in
+    (sym offset ∙ c.if-not-offset_free.false) in
     (is_free a.t.now a.k a.self.now c.requires.1 c.requires.0 c.record.result c.record.ensures.words right _ c.shape_of-shape.ensures.1).0
 
 pub returns : goal.returns
@@ -68,7 +71,7 @@ returns c =
     let offset = rw (c.shape_of-shape.ensures.0, c.shape_of-shape.ensures.1, c.room_of.ensures.0) at c.offset_free.ensures in
     let right =
     all_right a.t.now a.k a.self.now c.requires.1 c.requires.0 c.record.result c.record.ensures.words signal frame
-        (sym offset ∙ c.if-not-offset_free.false) in
+    (sym offset ∙ c.if-not-offset_free.false) in
     record {
       told = goes_on a.t.now a.k a.self.now c.requires.1 c.requires.0 c.record.result c.record.ensures.words right;
       passed =

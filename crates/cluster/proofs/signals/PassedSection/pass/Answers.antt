@@ -28,7 +28,7 @@ returns-then-start_limit-start-clause-told c rest =
     rw c.fault-then-start_limit-start.ensures
     (stops c.args.t.now c.args.s c.args.self.now c.requires.1 c.record.result c.record.ensures.words 2 _
     (simp (le-leb _ _ c.if-kind-gt1.false, width, sym c.start_limit.ensures.value, le-ltb _ _ c.if-start_limit-start.true)) (omega arith)
-        (omega arith) rest)
+    (omega arith) rest)
 
 pub returns-clause-told : goal.returns-clause-told
 unfolding signal_columns leading
