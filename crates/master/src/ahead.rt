@@ -10,6 +10,7 @@ use crate::admit::{buffer_size, refused};
 use crate::pending::count_pending;
 use crate::state::State;
 use cluster::members;
+use cluster::right::Right;
 use refusal::Refusal;
 
 impl State {
@@ -21,7 +22,7 @@ impl State {
         self.judge_ahead(t, f)?;
         let m = members::of_frame(t, f);
         let l = members::list(t, m);
-        Ok(count_pending(t, self.pending, l, m))
+        Ok(count_pending(Right { words: t }, self.pending, l, m))
     }
 
     // The verdict on number ahead.

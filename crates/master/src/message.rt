@@ -31,12 +31,13 @@ impl Message {
     }
 
     // After a successful transfer: a request moves on to the next frame, or the message is completed.
+    #[tactic(auto, unfolding(crate::specs::Message::moved))]
     pub(crate) fn sent(self, opened: Opened) -> Message
         requires { message_fits self ≡ true }
         ensures { result ≡ message_sent opened self }
     {
-        match opened {
-            Opened::Request => self.moved(),
+        match (opened, self) {
+            (Opened::Request, Message::Sending(sending)) => sending.moved(),
             _ => self,
         }
     }
@@ -47,18 +48,6 @@ impl Message {
     {
         match opened {
             Opened::Request => Message::Failed,
-            _ => self,
-        }
-    }
-
-    // One frame further, or completed.
-    #[tactic(auto, unfolding(crate::specs::Message::moved))]
-    fn moved(self) -> Message
-        requires { message_fits self ≡ true }
-        ensures { result ≡ movedOn self }
-    {
-        match self {
-            Message::Sending(sending) => sending.moved(),
             _ => self,
         }
     }

@@ -9,6 +9,7 @@ ghost use Rattle.master.specs.Told.{call_told};
 
 use crate::admit::{buffer_size, refused};
 use crate::state::{State, Status};
+use cluster::right::Right;
 use cluster::values::Array;
 use cluster::{signals, values};
 use refusal::Refusal;
@@ -20,7 +21,7 @@ impl State {
         ensures told { read_told result ≡ call_told t.now (held self bytes.now) (call.read s) }
     {
         self.judge_read(t, bytes.len(), s, false)?;
-        match self.source(t, s) {
+        match self.source(Right { words: t }, s) {
             None => Ok(signals::start(t, s)),
             Some(k) => Ok(values::scalar_at(t, bytes, s, k)),
         }
@@ -32,7 +33,7 @@ impl State {
         ensures told { array_told result ≡ call_told t.now (held self bytes.now) (call.read_array s) }
     {
         self.judge_read(t, bytes.len(), s, true)?;
-        match self.source(t, s) {
+        match self.source(Right { words: t }, s) {
             None => Ok(values::start_array(t, s)),
             Some(k) => Ok(values::array_at(t, bytes, s, k)),
         }

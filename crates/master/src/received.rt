@@ -1,6 +1,5 @@
 // The receptions: whether they fit, what a successful one sets, and where a read takes its value.
 ghost use Rattle.std.specs.Prelude.{◌≡◌, cond, eqb, Some};
-ghost use Rattle.cluster.specs.Check.{RightTable};
 ghost use Rattle.cluster.specs.Table.{most_signals, placement_count, placement_signal, placement_frame};
 ghost use Rattle.master.specs.Received.{last_of, received_up_to, received_by, last_fits, received_fits, source_of};
 
@@ -94,12 +93,11 @@ fn receiver(t: &[u16], f: u16, k: u16) -> usize
 impl State {
     // Where a read of a signal takes its value: of a published one the first placement, of a received one that received last.
     #[tactic(auto, unfolding(crate::specs::Received::source_of))]
-    pub(crate) fn source(self, t: &[u16], s: u16) -> Option<u16>
-        requires { RightTable t.now }
-        ensures { result ≡ source_of t.now self.received s }
+    pub(crate) fn source(self, t: Right, s: u16) -> Option<u16>
+        ensures { result ≡ source_of t.entry.words.now self.received s }
     {
-        if placed::published(Right { words: t }, s) {
-            return Some(placed::first(Right { words: t }, s));
+        if placed::published(t, s) {
+            return Some(placed::first(t, s));
         }
         last_of(self.received, s)
     }

@@ -1,6 +1,5 @@
 // A row of values: they are written as one by one in row order, or none of them.
 ghost use Rattle.std.specs.Prelude.{◌≡◌, length};
-ghost use Rattle.cluster.specs.Check.{RightTable};
 ghost use Rattle.master.specs.Admit.{Leaves};
 ghost use Rattle.master.specs.Answers.{handed, write_told};
 ghost use Rattle.master.specs.Put.{puts};
@@ -29,8 +28,9 @@ impl State {
         ensures told { write_told result ≡ row_told t.now (held self.old bytes.old) signals.now values.now }
     {
         self.judge_row(t, bytes.len(), signals, values)?;
-        put_row(t, bytes, signals, values);
-        *self = self.marked_row(t, signals);
+        let right = Right { words: t };
+        put_row(right, bytes, signals, values);
+        *self = self.marked_row(right, signals);
         Ok(())
     }
 
@@ -48,14 +48,13 @@ impl State {
         if signals.len() != values.len() {
             return refused(Refusal::ROWS);
         }
-        first_bad(t, signals, values)
+        first_bad(Right { words: t }, signals, values)
     }
 
     // The frames of a row's signals are pending, and an open transfer of one of them was written since.
     #[tactic(auto, unfolding(crate::specs::WriteRow::marked_row))]
-    fn marked_row(self, t: &[u16], signals: &[u16]) -> State
-        requires { RightTable t.now }
-        ensures { result ≡ markedRowOf t.now signals.now self }
+    fn marked_row(self, t: Right, signals: &[u16]) -> State
+        ensures { result ≡ markedRowOf t.entry.words.now signals.now self }
     {
         let mut pending = self.pending;
         mark_row(t, signals, &mut pending);
@@ -66,9 +65,8 @@ impl State {
 
 impl Transfer {
     // Written since its opening, where a signal of a row touches its frame.
-    fn rewritten_by(self, t: &[u16], signals: &[u16]) -> Transfer
-        requires { RightTable t.now }
-        ensures { result ≡ rewritten_by t.now signals.now self }
+    fn rewritten_by(self, t: Right, signals: &[u16]) -> Transfer
+        ensures { result ≡ rewritten_by t.entry.words.now signals.now self }
     {
         let mut next = self;
         for &s in signals {
@@ -79,14 +77,14 @@ impl Transfer {
 }
 
 // Refusals 4 to 7 of a row: that of the first bad pair, with its place.
-fn first_bad(t: &[u16], signals: &[u16], values: &[u32]) -> Result<(), Refusal>
-    requires { RightTable t.now × (length signals.now ≡ length values.now) }
-    ensures { result ≡ first_bad t.now 0 (puts signals.now values.now) }
+fn first_bad(t: Right, signals: &[u16], values: &[u32]) -> Result<(), Refusal>
+    requires { length signals.now ≡ length values.now }
+    ensures { result ≡ first_bad t.entry.words.now 0 (puts signals.now values.now) }
 {
     for i in 0..signals.len() {
         let s = signals[i];
-        let fits = values_of::scalar_fits(t, s, values[i]);
-        if let Err(refusal) = writable(Right { words: t }, s, false, fits) {
+        let fits = values_of::scalar_fits(t.words, s, values[i]);
+        if let Err(refusal) = writable(t, s, false, fits) {
             return Err(Refusal::at(refusal.number, i));
         }
     }
@@ -94,23 +92,20 @@ fn first_bad(t: &[u16], signals: &[u16], values: &[u32]) -> Result<(), Refusal>
 }
 
 // Puts the values of a row into their signals.
-fn put_row(t: &[u16], bytes: &mut [u8], signals: &[u16], values: &[u32])
-    requires { RightTable t.now
-        × (length signals.now ≡ length values.now)
-        × (first_bad t.now 0 (puts signals.now values.now) ≡ Ok tt) }
-    ensures { bytes.new ≡ with_row t.now bytes.old (puts signals.now values.now) }
+fn put_row(t: Right, bytes: &mut [u8], signals: &[u16], values: &[u32])
+    requires { (length signals.now ≡ length values.now) × (first_bad t.words.now 0 (puts signals.now values.now) ≡ Ok tt) }
+    ensures { bytes.new ≡ with_row t.entry.words.now bytes.old (puts signals.now values.now) }
 {
     for i in 0..signals.len() {
-        placed::put_scalar(Right { words: t }, bytes, signals[i], values[i] as u16);
+        placed::put_scalar(t, bytes, signals[i], values[i] as u16);
     }
 }
 
 // Marks the frames that a row's signals touch.
-fn mark_row(t: &[u16], signals: &[u16], pending: &mut [bool])
-    requires { RightTable t.now }
-    ensures { pending.new ≡ marked_bits t.now signals.now pending.old }
+fn mark_row(t: Right, signals: &[u16], pending: &mut [bool])
+    ensures { pending.new ≡ marked_bits t.entry.words.now signals.now pending.old }
 {
     for &s in signals {
-        placed::mark(Right { words: t }, s, pending);
+        placed::mark(t, s, pending);
     }
 }

@@ -75,7 +75,7 @@ impl State {
         let mut pending = self.pending;
         placed::mark(t, s, &mut pending);
         self.with_pending(pending)
-            .with_transfer(self.transfer.rewritten(t.words, s))
+            .with_transfer(self.transfer.rewritten(t, s))
     }
 }
 

@@ -6,4 +6,4 @@ use Rattle.master.proofs.RowTurns.{puts_from}
 use Rattle.master.proofs.row.first_bad.Given as goal
 
 abbrev pub invariant-loop-i : goal.invariant-loop-i
-invariant-loop-i l = first_bad l.t 0 (puts l.signals l.values) ≡ first_bad l.t l.i (puts_from l.i l.signals l.values)
+invariant-loop-i l = first_bad l.t.words.now 0 (puts l.signals l.values) ≡ first_bad l.t.words.now l.i (puts_from l.i l.signals l.values)

@@ -14,8 +14,8 @@ loop-s-preserved c =
     let at = c.loop-s in
     let below = c.loop-s-test.true in
     let marked = c.mark.ensures in (
-      at.invariant.0 ∙ marks_turn a.t.now a.signals.now at.s-index below at.pending ∙ rw marked,
-      rw marked (marked_length a.t.now _ 0 at.pending) ∙ at.invariant.1,
+      at.invariant.0 ∙ marks_turn a.t.words.now a.signals.now at.s-index below at.pending ∙ rw marked,
+      rw marked (marked_length a.t.words.now _ 0 at.pending) ∙ at.invariant.1,
     )
 
 pub shape_of-pending : goal.shape_of-pending
@@ -25,4 +25,4 @@ pub returns : goal.returns
 returns c =
     let a = c.args in
     let at = c.loop-s in
-    sym (at.invariant.0 ∙ marks_end a.t.now a.signals.now at.s-index c.loop-s-test.false (omega (arith, at.auto.s-index-end)) at.pending)
+    sym (at.invariant.0 ∙ marks_end a.t.words.now a.signals.now at.s-index c.loop-s-test.false (omega (arith, at.auto.s-index-end)) at.pending)

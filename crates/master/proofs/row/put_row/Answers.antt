@@ -7,10 +7,10 @@ use Rattle.master.proofs.RowTurns.{put_turn, put_end, good_turn, good_value}
 use Rattle.master.proofs.row.put_row.Goals as goal
 
 pub loop-i-init : goal.loop-i-init
-loop-i-init c = (omega arith, refl, c.requires.2, refl)
+loop-i-init c = (omega arith, refl, c.requires.1, refl)
 
 pub bounds-values-i : goal.bounds-values-i
-bounds-values-i c = omega (arith, c.requires.1, c.loop-i-test.true)
+bounds-values-i c = omega (arith, c.requires.0, c.loop-i-test.true)
 
 pub overflow_cast-values : goal.overflow_cast-values
 overflow_cast-values c =
@@ -20,7 +20,7 @@ overflow_cast-values c =
     record {
       fits = omega (
         arith,
-        good_value a.t.now a.signals.now a.values.now c.requires.1 at.i below at.invariant.2 c.requires.0,
+        good_value a.t.words.now a.signals.now a.values.now c.requires.0 at.i below at.invariant.2 a.t.right,
       );
     }
 
@@ -32,9 +32,9 @@ loop-i-preserved c =
     let below = c.loop-i-test.true in
     let put = c.put_scalar.ensures in (
       omega (arith, below),
-      rw put (value_length a.t.now at.bytes _ (scalar _)) ∙ at.invariant.1,
-      good_turn a.t.now a.signals.now a.values.now pre.1 at.i below at.invariant.2,
-      at.invariant.3 ∙ put_turn a.t.now a.signals.now a.values.now pre.1 at.i below at.bytes ∙ rw put,
+      rw put (value_length a.t.words.now at.bytes _ (scalar _)) ∙ at.invariant.1,
+      good_turn a.t.words.now a.signals.now a.values.now pre.0 at.i below at.invariant.2,
+      at.invariant.3 ∙ put_turn a.t.words.now a.signals.now a.values.now pre.0 at.i below at.bytes ∙ rw put,
     )
 
 pub shape_of-bytes : goal.shape_of-bytes
@@ -45,4 +45,4 @@ returns c =
     let a = c.args in
     let at = c.loop-i in
     sym
-    (at.invariant.3 ∙ put_end a.t.now a.signals.now a.values.now c.requires.1 at.i c.loop-i-test.false at.invariant.0 at.bytes)
+    (at.invariant.3 ∙ put_end a.t.words.now a.signals.now a.values.now c.requires.0 at.i c.loop-i-test.false at.invariant.0 at.bytes)

@@ -11,5 +11,5 @@ use Rattle.master.proofs.row.put_row.Given as goal
 abbrev pub invariant-loop-i : goal.invariant-loop-i
 invariant-loop-i l = (l.i ≤ length l.signals)
     × (length l.bytes ≡ length l.initial.bytes)
-    × (first_bad l.t l.i (puts_from l.i l.signals l.values) ≡ Ok tt)
-    × (with_row l.t l.initial.bytes (puts l.signals l.values) ≡ with_row l.t l.bytes (puts_from l.i l.signals l.values))
+    × (first_bad l.t.words.now l.i (puts_from l.i l.signals l.values) ≡ Ok tt)
+    × (with_row l.t.words.now l.initial.bytes (puts l.signals l.values) ≡ with_row l.t.words.now l.bytes (puts_from l.i l.signals l.values))

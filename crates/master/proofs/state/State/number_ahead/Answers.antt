@@ -15,10 +15,10 @@ returns-in_err-judge_ahead c =
     record { value = all.0; told = all.1 }
 
 pub count_pending-requires : goal.count_pending-requires
-count_pending-requires c =
-    let a = c.args in
-    let e = sym c.in_ok-judge_ahead.ensures in
-    (ahead_table a.t.now a.self a.f e, omega (arith, c.of_frame-m.ensures, ahead_member a.t.now a.self a.f e))
+count_pending-requires c = omega (arith, c.of_frame-m.ensures, ahead_member _ _ _ (sym c.in_ok-judge_ahead.ensures))
+
+pub invariant_of-count_pending : goal.invariant_of-count_pending
+invariant_of-count_pending c = record { right = ahead_table _ _ _ (sym c.in_ok-judge_ahead.ensures) }
 
 pub returns : goal.returns
 unfolding ahead_of frames_ahead

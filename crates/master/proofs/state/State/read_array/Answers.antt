@@ -14,8 +14,8 @@ returns-in_err-judge_read c =
     let all = read_array_told a.t.now a.self a.bytes.now a.s (c.from_residual.result) (passed_on _ _ c.from_residual.ensures.1 ∙ rw (← c.in_err-judge_read.ensures)) in
     record { value = all.0; told = all.1 }
 
-pub source-requires : goal.source-requires
-source-requires c = read_table _ _ _ _ _ (sym c.in_ok-judge_read.ensures)
+pub invariant_of-source : goal.invariant_of-source
+invariant_of-source c = record { right = read_table _ _ _ _ _ (sym c.in_ok-judge_read.ensures) }
 
 pub returns-in-None : goal.returns-in-None
 unfolding read_array_of array_from

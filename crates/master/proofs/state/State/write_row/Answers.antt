@@ -18,10 +18,10 @@ pub put_row-requires : goal.put_row-requires
 put_row-requires c =
     let a = c.args in
     let knows = row_knows a.t.now (length a.bytes.now) a.self.now a.signals.now a.values.now (sym c.in_ok-judge_row.ensures) in
-    (row_table _ _ _ _ _ knows, knows.equal, knows.good)
+    (knows.equal, knows.good)
 
-pub marked_row-requires : goal.marked_row-requires
-marked_row-requires c = row_table _ _ _ _ _ (row_knows _ _ _ _ _ (sym c.in_ok-judge_row.ensures))
+pub invariant_of-right : goal.invariant_of-right
+invariant_of-right c = record { right = row_table _ _ _ _ _ (row_knows _ _ _ _ _ (sym c.in_ok-judge_row.ensures)) }
 
 pub returns : goal.returns
 unfolding row_of
