@@ -66,7 +66,6 @@ impl State {
         }
         Ok(())
     }
-
 }
 
 impl<'a> InTransfer<'a> {
