@@ -69,7 +69,7 @@ impl<'a> InTransfer<'a> {
         ensures { result ≡ receivedOf self.entry.t.words.now self.entry.state }
     {
         let opened = self.state.transfer.opened;
-        let received = opened.received_by(self.t.words, self.state.received);
+        let received = opened.received_by(self.t, self.state.received);
         self.closed(true, true).with_received(received)
     }
 }

@@ -17,8 +17,8 @@ use cluster::{Limits, frames, members};
 pub(crate) fn pending_fits(t: &[u16], pending: [bool; Limits::FRAMES]) -> bool
     ensures { result ≡ pending_fits t.now 0 pending }
 {
-    for f in 0..Limits::FRAMES {
-        if !bit_fits(t, f as u16, pending[f]) {
+    for (f, &bit) in pending.iter().enumerate() {
+        if !bit_fits(t, f as u16, bit) {
             return false;
         }
     }

@@ -1,6 +1,6 @@
 // The receptions: whether they fit, what a successful one sets, and where a read takes its value.
-ghost use Rattle.std.specs.Prelude.{◌≡◌, cond, eqb, Some};
-ghost use Rattle.cluster.specs.Table.{most_signals, placement_count, placement_signal, placement_frame};
+ghost use Rattle.std.specs.Prelude.{◌≡◌, Some};
+ghost use Rattle.cluster.specs.Table.{placement_count};
 ghost use Rattle.master.specs.Received.{last_of, received_up_to, received_by, last_fits, received_fits, source_of};
 
 use crate::placed;
@@ -12,8 +12,8 @@ use cluster::{Limits, frames, placements, signals};
 pub(crate) fn received_fits(t: &[u16], received: [Reception; Limits::SIGNALS]) -> bool
     ensures { result ≡ received_fits t.now 0 received }
 {
-    for s in 0..Limits::SIGNALS {
-        if !received[s].fits(t, s as u16) {
+    for (s, reception) in received.iter().enumerate() {
+        if !reception.fits(t, s as u16) {
             return false;
         }
     }
@@ -48,10 +48,10 @@ impl Opened {
     #[tactic(auto, unfolding(crate::specs::Received::received_by))]
     pub(crate) fn received_by(
         self,
-        t: &[u16],
+        t: Right,
         received: [Reception; Limits::SIGNALS],
     ) -> [Reception; Limits::SIGNALS]
-        ensures { result ≡ received_by t.now self received }
+        ensures { result ≡ received_by t.entry.words.now self received }
     {
         match self {
             Opened::Frame(f) => received_in(t, f, received),
@@ -62,32 +62,21 @@ impl Opened {
 
 // The receptions after a success of a frame.
 fn received_in(
-    t: &[u16],
+    t: Right,
     f: u16,
     received: [Reception; Limits::SIGNALS],
 ) -> [Reception; Limits::SIGNALS]
-    ensures { result ≡ received_up_to t.now f (placement_count t.now) received }
+    ensures { result ≡ received_up_to t.entry.words.now f (placement_count t.entry.words.now) received }
 {
-    let n = placements::count(t);
+    let n = placements::count(t.words);
     let mut next = received;
     for k in 0..n {
-        let s = receiver(t, f, k);
-        if s < Limits::SIGNALS {
+        if placements::frame(t.words, k) == f {
+            let s = placements::signal(t.words, k) as usize;
             next[s] = Reception { last: Some(k) };
         }
     }
     next
-}
-
-// The signal of a placement in a frame; where the placement is in another one, the number behind the last signal.
-fn receiver(t: &[u16], f: u16, k: u16) -> usize
-    ensures { result ≡ cond (eqb (placement_frame t.now k) f) (placement_signal t.now k) most_signals }
-{
-    if placements::frame(t, k) == f {
-        placements::signal(t, k) as usize
-    } else {
-        Limits::SIGNALS
-    }
 }
 
 impl State {

@@ -1,5 +1,5 @@
 // A row of values: they are written as one by one in row order, or none of them.
-ghost use Rattle.std.specs.Prelude.{◌≡◌, length};
+ghost use Rattle.std.specs.Prelude.{◌≡◌};
 ghost use Rattle.master.specs.Admit.{Leaves};
 ghost use Rattle.master.specs.Answers.{handed, write_told};
 ghost use Rattle.master.specs.Put.{puts};
@@ -78,12 +78,10 @@ impl Transfer {
 
 // Refusals 4 to 7 of a row: that of the first bad pair, with its place.
 fn first_bad(t: Right, signals: &[u16], values: &[u32]) -> Result<(), Refusal>
-    requires { length signals.now ≡ length values.now }
     ensures { result ≡ first_bad t.entry.words.now 0 (puts signals.now values.now) }
 {
-    for i in 0..signals.len() {
-        let s = signals[i];
-        let fits = values_of::scalar_fits(t.words, s, values[i]);
+    for (i, (&s, &v)) in signals.iter().zip(values).enumerate() {
+        let fits = values_of::scalar_fits(t.words, s, v);
         if let Err(refusal) = writable(t, s, false, fits) {
             return Err(Refusal::at(refusal.number, i));
         }
@@ -93,11 +91,11 @@ fn first_bad(t: Right, signals: &[u16], values: &[u32]) -> Result<(), Refusal>
 
 // Puts the values of a row into their signals.
 fn put_row(t: Right, bytes: &mut [u8], signals: &[u16], values: &[u32])
-    requires { (length signals.now ≡ length values.now) × (first_bad t.words.now 0 (puts signals.now values.now) ≡ Ok tt) }
+    requires { first_bad t.words.now 0 (puts signals.now values.now) ≡ Ok tt }
     ensures { bytes.new ≡ with_row t.entry.words.now bytes.old (puts signals.now values.now) }
 {
-    for i in 0..signals.len() {
-        placed::put_scalar(t, bytes, signals[i], values[i] as u16);
+    for (&s, &v) in signals.iter().zip(values) {
+        placed::put_scalar(t, bytes, s, v as u16);
     }
 }
 

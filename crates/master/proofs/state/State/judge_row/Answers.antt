@@ -10,9 +10,6 @@ pub returns-in_err-admit : goal.returns-in_err-admit
 unfolding row_verdict
 returns-in_err-admit c = passed_on _ _ c.from_residual.ensures.1 ∙ rw (← c.in_err-admit.ensures.value)
 
-pub first_bad-requires : goal.first_bad-requires
-first_bad-requires c = c.if-signals-values.false
-
 pub invariant_of-first_bad : goal.invariant_of-first_bad
 invariant_of-first_bad c = record { right = admitted_table _ _ _ (sym c.in_ok-admit.ensures.value) }
 

@@ -18,7 +18,7 @@ pub put_row-requires : goal.put_row-requires
 put_row-requires c =
     let a = c.args in
     let knows = row_knows a.t.now (length a.bytes.now) a.self.now a.signals.now a.values.now (sym c.in_ok-judge_row.ensures) in
-    (knows.equal, knows.good)
+    knows.good
 
 pub invariant_of-right : goal.invariant_of-right
 invariant_of-right c = record { right = row_table _ _ _ _ _ (row_knows _ _ _ _ _ (sym c.in_ok-judge_row.ensures)) }
