@@ -148,7 +148,11 @@ impl<'a> Known<'a> {
         requires { (1 ≤ length bytes.now) × (length bytes.now ≤ 8) }
         ensures { result ≡ copied self.entry.t.words.now self.entry.opened bytes.now }
     {
-        nine(bytes, self.checksum(bytes))
+        let mut nine = [255; 9];
+        let n = bytes.len();
+        nine[..n].copy_from_slice(bytes);
+        nine[n] = self.checksum(bytes);
+        nine
     }
 
     // Whether the byte behind the data is their checksum.
@@ -281,18 +285,6 @@ fn request_data(message: Message, lent: &[u8]) -> [u8; 8]
         Ok(Some(bytes)) => bytes,
         _ => [255; 8],
     }
-}
-
-// Up to eight bytes with a checksum behind them, the unused ones of the nine 255.
-fn nine(bytes: &[u8], checksum: u8) -> [u8; 9]
-    requires { length bytes.now ≤ 8 }
-    ensures { result ≡ bytes.now ++ (checksum ∷ replicate (8 - length bytes.now) 255) }
-{
-    let mut all = [255; 9];
-    let n = bytes.len();
-    all[..n].copy_from_slice(bytes);
-    all[n] = checksum;
-    all
 }
 
 // Stores the data of a frame in its eight bytes of the buffer.
