@@ -6,6 +6,7 @@ ghost use Rattle.master.specs.Byte.{received_byte, byte_verdict, byte_of};
 ghost use Rattle.master.specs.declared.byte.ByteAnswer.TheVariants.{Response};
 ghost use Rattle.master.specs.Answers.{handed, byte_told};
 ghost use Rattle.master.specs.Calls as call;
+ghost use Rattle.master.specs.Parts.{Judged};
 ghost use Rattle.master.specs.Run.{held};
 ghost use Rattle.master.specs.Told.{call_told};
 
@@ -41,12 +42,9 @@ impl State {
         ensures leaves { Leaves (byte_of t.now self.old bytes.old b) (handed self.new result) bytes.new }
         ensures tells { byte_told result ≡ call_told t.now (held self.old bytes.old) (call.byte_in b) }
     {
-        self.judge_byte(t, bytes.len())?;
-        let open = InTransfer {
-            t: Right { words: t },
-            state: *self,
-        };
-        if self.transfer.opened.sends(t) {
+        let t = self.judge_byte(t, bytes.len())?;
+        let open = InTransfer { t, state: *self };
+        if self.transfer.opened.sends(t.words) {
             let (next, answer) = open.sent_byte(b);
             *self = next;
             return Ok(answer);
@@ -57,14 +55,14 @@ impl State {
     }
 
     // The verdict on a byte in.
-    fn judge_byte(self, t: &[u16], size: usize) -> Result<(), Refusal>
-        ensures { result ≡ byte_verdict t.now size self }
+    fn judge_byte(self, t: &[u16], size: usize) -> Result<Right, Refusal>
+        ensures { Judged t.now (byte_verdict t.now size self) result }
     {
-        self.admit(t, size)?;
+        let right = self.right_table(t, size)?;
         if !self.transfer.opened.is_open() {
             return refused(Refusal::NO_TRANSFER);
         }
-        Ok(())
+        Ok(right)
     }
 }
 

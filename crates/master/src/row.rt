@@ -2,6 +2,7 @@
 ghost use Rattle.std.specs.Prelude.{◌≡◌};
 ghost use Rattle.master.specs.Admit.{Leaves};
 ghost use Rattle.master.specs.Answers.{handed, write_told};
+ghost use Rattle.master.specs.Parts.{Judged};
 ghost use Rattle.master.specs.Put.{puts};
 ghost use Rattle.master.specs.Run.{held};
 ghost use Rattle.master.specs.Told.{row_told};
@@ -27,28 +28,28 @@ impl State {
         ensures leaves { Leaves (row_of t.now self.old bytes.old signals.now values.now) (handed self.new result) bytes.new }
         ensures told { write_told result ≡ row_told t.now (held self.old bytes.old) signals.now values.now }
     {
-        self.judge_row(t, bytes.len(), signals, values)?;
-        let right = Right { words: t };
-        put_row(right, bytes, signals, values);
-        *self = self.marked_row(right, signals);
+        let t = self.judge_row(t, bytes.len(), signals, values)?;
+        put_row(t, bytes, signals, values);
+        *self = self.marked_row(t, signals);
         Ok(())
     }
 
     // The verdict on a row.
-    fn judge_row(
+    fn judge_row<'a>(
         self,
-        t: &[u16],
+        t: &'a [u16],
         size: usize,
         signals: &[u16],
         values: &[u32],
-    ) -> Result<(), Refusal>
-        ensures { result ≡ row_verdict t.now size self signals.now values.now }
+    ) -> Result<Right<'a>, Refusal>
+        ensures { Judged t.now (row_verdict t.now size self signals.now values.now) result }
     {
-        self.admit(t, size)?;
+        let right = self.right_table(t, size)?;
         if signals.len() != values.len() {
             return refused(Refusal::ROWS);
         }
-        first_bad(Right { words: t }, signals, values)
+        first_bad(right, signals, values)?;
+        Ok(right)
     }
 
     // The frames of a row's signals are pending, and an open transfer of one of them was written since.

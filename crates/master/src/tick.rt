@@ -2,6 +2,7 @@
 ghost use Rattle.std.specs.Prelude.{true, cond, ◌≡◌, length, Ok};
 ghost use Rattle.master.specs.Fits.{is_sending, state_fits};
 ghost use Rattle.master.specs.declared.state.Opened.TheVariants.{Request, Nothing};
+ghost use Rattle.master.specs.Parts.{Judged};
 ghost use Rattle.master.specs.Tick.{slot_opens, abandoned as abandonedOf, opens_or_silent, slot as slot_of, tick_verdict, tick_of};
 ghost use Rattle.master.specs.Answers.{handed, tick_told};
 ghost use Rattle.master.specs.Calls as call;
@@ -42,23 +43,23 @@ impl State {
         ensures value { handed self.new result ≡ tick_of t.now bytes.now lent.now self.old }
         ensures tells { tick_told result ≡ call_told t.now (held self.old bytes.now) (call.tick lent.now) }
     {
-        self.judge_tick(t, bytes.len(), lent.len())?;
+        let t = self.judge_tick(t, bytes.len(), lent.len())?;
         if self.plan.waits() {
             self.plan = self.plan.waited();
             return Ok(TickAnswer::Waiting);
         }
-        Ok(self.slot(Right { words: t }, bytes, lent))
+        Ok(self.slot(t, bytes, lent))
     }
 
     // The verdict on a tick.
-    fn judge_tick(self, t: &[u16], size: usize, lent: usize) -> Result<(), Refusal>
-        ensures { result ≡ tick_verdict t.now size lent self }
+    fn judge_tick(self, t: &[u16], size: usize, lent: usize) -> Result<Right, Refusal>
+        ensures { Judged t.now (tick_verdict t.now size lent self) result }
     {
-        self.admit(t, size)?;
+        let right = self.right_table(t, size)?;
         if !self.message.lent_fits(lent) {
             return refused(Refusal::STATE);
         }
-        Ok(())
+        Ok(right)
     }
 
     // Starts a slot: an open transfer is closed as failed, and the entry due begins.

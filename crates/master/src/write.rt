@@ -2,6 +2,7 @@
 ghost use Rattle.std.specs.Prelude.{true, false, ◌≡◌};
 ghost use Rattle.cluster.specs.Check.{then};
 ghost use Rattle.master.specs.Admit.{Leaves, admitted};
+ghost use Rattle.master.specs.Parts.{Judged};
 ghost use Rattle.master.specs.Write.{writable as writableOf, marked as markedOf, write_of};
 ghost use Rattle.master.specs.Put.{scalar, array, put};
 ghost use Rattle.master.specs.Answers.{handed, write_told};
@@ -22,10 +23,9 @@ impl State {
         ensures leaves { Leaves (write_of t.now self.old bytes.old (put s (scalar v))) (handed self.new result) bytes.new }
         ensures told { write_told result ≡ call_told t.now (held self.old bytes.old) (call.write (put s (scalar v))) }
     {
-        self.judge_write(t, bytes.len(), s, false, values::scalar_fits(t, s, v))?;
-        let right = Right { words: t };
-        placed::put_scalar(right, bytes, s, v as u16);
-        *self = self.marked(right, s);
+        let t = self.judge_write(t, bytes.len(), s, false, values::scalar_fits(t, s, v))?;
+        placed::put_scalar(t, bytes, s, v as u16);
+        *self = self.marked(t, s);
         Ok(())
     }
 
@@ -40,19 +40,19 @@ impl State {
         ensures leaves { Leaves (write_of t.now self.old bytes.old (put s (array values.now))) (handed self.new result) bytes.new }
         ensures told { write_told result ≡ call_told t.now (held self.old bytes.old) (call.write (put s (array values.now))) }
     {
-        self.judge_write(t, bytes.len(), s, true, values::array_fits(t, s, values))?;
-        let right = Right { words: t };
-        placed::put_array(right, bytes, s, values);
-        *self = self.marked(right, s);
+        let t = self.judge_write(t, bytes.len(), s, true, values::array_fits(t, s, values))?;
+        placed::put_array(t, bytes, s, values);
+        *self = self.marked(t, s);
         Ok(())
     }
 
     // The verdict on a write of a scalar or an array, which fits its signal or not.
-    fn judge_write(self, t: &[u16], size: usize, s: u16, array: bool, fits: bool) -> Result<(), Refusal>
-        ensures { result ≡ then (admitted t.now size self) (writableOf t.now s array fits) }
+    fn judge_write(self, t: &[u16], size: usize, s: u16, array: bool, fits: bool) -> Result<Right, Refusal>
+        ensures { Judged t.now (then (admitted t.now size self) (writableOf t.now s array fits)) result }
     {
-        self.admit(t, size)?;
-        writable(Right { words: t }, s, array, fits)
+        let right = self.right_table(t, size)?;
+        writable(right, s, array, fits)?;
+        Ok(right)
     }
 
     // The frames of a signal are pending, and an open transfer of one of them was written since.
