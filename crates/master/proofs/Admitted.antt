@@ -155,16 +155,3 @@ pub open_count : (t : List ℕ) (s : State) → count_fits t s.transfer ≡ true
     → s.transfer.count ≤ open_length t s.transfer.opened
 unfolding count_fits
 open_count t s h p = leb-true _ _ (rw p at h)
-
--- ---- what a state that fits knows of its open transfer
-
-pub record InTransfer (t : List ℕ) (s : State) : Type 0 where
-  pub there : frame_there t s.transfer.opened ≡ true
-  pub length_high : open_length t s.transfer.opened ≤ 8
-  pub count_high : s.transfer.count ≤ 8
-
-pub in_transfer : (t : List ℕ) → RightTable t → (s : State) → state_fits t s ≡ true → is_open s.transfer.opened ≡ true → InTransfer t s
-in_transfer t ok s f o =
-    let fits = fits_clauses t s f in
-    let high = open_length_high t ok s.transfer.opened fits.frame_there_lem in
-    record { there = fits.frame_there_lem; length_high = high; count_high = omega (arith, open_count t s fits.count_fits_lem o, high) }

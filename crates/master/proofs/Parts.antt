@@ -47,6 +47,3 @@ module _ (t : List ℕ) (ok : RightTable t) (bs : List ℕ) (size : length bs �
 -- the first bytes of some
 pub first_length_lem : (xs : List ℕ) (n : ℕ) → n ≤ length xs → length (take (n - 0) (drop 0 xs)) ≡ n
 first_length_lem xs n h = rw sub-zero (length-take-le n xs h)
-
-pub first_all : (xs : List ℕ) (n : ℕ) → length xs ≡ n → take (n - 0) (drop 0 xs) ≡ xs
-first_all xs n h = rw (sub-zero, ← h) (take-length xs)

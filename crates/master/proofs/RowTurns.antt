@@ -104,7 +104,3 @@ row_knows t size x ss vs e =
       equal = eqb-true (length ss) (length vs) (unless_test (eqb (length ss) (length vs)) number.rows _ rest);
       good = unless_rest (eqb (length ss) (length vs)) number.rows _ rest;
     }
-
--- and so its table is right
-pub row_table : (t : List ℕ) (size : ℕ) (x : State) (ss vs : List ℕ) → RowKnows t size x ss vs → RightTable t
-row_table t size x ss vs k = admitted_table t size x k.admits

@@ -67,10 +67,6 @@ send_length t s n h =
 -- ---- number ahead
 
 module _ (t : List ℕ) (s : State) (f : ℕ) (h : ahead_verdict t s f ≡ Ok tt) where
-  pub ahead_table : RightTable t
-  unfolding ahead_verdict
-  ahead_table = admitted_table t (buffer_size t) s (then_first (admitted t (buffer_size t) s) _ h)
-
   pub ahead_member : member_of t f < member_count t
   unfolding ahead_verdict
   ahead_member =
@@ -83,9 +79,6 @@ module _ (t : List ℕ) (n lent : ℕ) (s : State) (h : tick_verdict t n lent s 
   pub tick_admitted : admitted t n s ≡ Ok tt
   unfolding tick_verdict
   tick_admitted = then_first (admitted t n s) _ h
-
-  pub tick_table : RightTable t
-  tick_table = admitted_table t n s tick_admitted
 
   pub tick_size : n ≡ buffer_size t
   tick_size = admitted_size t n s tick_admitted

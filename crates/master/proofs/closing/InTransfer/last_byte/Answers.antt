@@ -1,7 +1,7 @@
 -- By cases of what is open.
 use Rattle.std.proofs.Common.{◌∙◌, sym, refl, arith}
 use Rattle.master.specs.Byte.{last_byte}
-use Rattle.master.proofs.Admitted.{in_transfer}
+use Rattle.master.proofs.TransferTypes.{transfer_there, transfer_length}
 use Rattle.master.proofs.LastByte.{last_frame, last_other, last_response}
 use Rattle.master.proofs.Parts.{frame_end}
 use Rattle.master.proofs.closing.InTransfer.last_byte.Goals as goal
@@ -18,9 +18,8 @@ returns-then-not-checksum_right c =
 pub store-requires : goal.store-requires
 store-requires c =
     let a = c.args in
-    let x = in_transfer _ a.self.t.right a.self.state a.self.fits a.self.opened in
-    let there = rw c.in-Frame.is at x.there in
-    (frame_end _ a.self.t.right a.bytes.now c.requires c.in-Frame.f there _ refl, omega (arith, c.length.ensures, rw c.in-Frame.is at x.length_high))
+    let there = rw c.in-Frame.is at (transfer_there a.self) in
+    (frame_end _ a.self.t.right a.bytes.now c.requires c.in-Frame.f there _ refl, omega (arith, c.length.ensures, rw c.in-Frame.is at (transfer_length a.self)))
 
 pub returns-in-Frame : goal.returns-in-Frame
 returns-in-Frame c =

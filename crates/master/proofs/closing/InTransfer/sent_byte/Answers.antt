@@ -2,13 +2,11 @@
 use Rattle.std.proofs.Common.{arith}
 use borrow.Author.Tests.{eq-eqb, ne_eqb}
 use Rattle.master.specs.Byte.{sent_byte}
-use Rattle.master.proofs.Admitted.{in_transfer}
+use Rattle.master.proofs.TransferTypes.{transfer_count}
 use Rattle.master.proofs.closing.InTransfer.sent_byte.Goals as goal
 
 pub bounds-transfer-transfer : goal.bounds-transfer-transfer
-bounds-transfer-transfer c =
-    let a = c.args in
-    omega (arith, (in_transfer _ a.self.t.right a.self.state a.self.fits a.self.opened).count_high)
+bounds-transfer-transfer c = omega (arith, transfer_count c.args.self)
 
 pub returns-then-transfer-b : goal.returns-then-transfer-b
 unfolding sent_byte
