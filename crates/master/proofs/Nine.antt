@@ -1,14 +1,12 @@
 -- The nine bytes of a transfer, filled one after the other, and the bytes of a frame put back into the buffer.
-use Prim.Native.Nat.{ℕ, suc, ◌+◌, ◌-◌, ◌≤◌}
-use mathlib.Core.Path.{◌≡◌, refl, ◌∙◌}
-use mathlib.Core.List.{List, ◌∷◌, ◌++◌, append-nil}
+use Prim.Native.Nat.{ℕ, ◌+◌, ◌-◌, ◌≤◌}
+use mathlib.Core.Path.{◌≡◌}
+use mathlib.Core.List.{List}
 use native.Mathlib.Omega.{arith}
-use lib.ListN.{length, set, take, drop, replicate, drop_of_length-le}
+use lib.ListN.{length, take}
 use borrow.Rule.Slice.PartMut.{put_mid}
 use Rattle.transport.specs.Reassembly.{written}
 use Rattle.transport.proofs.Bytes.{delivered}
-use Rattle.cluster.proofs.ValueSteps.{drop_replicate}
-use lib.Seq.{set_at, take-length}
 
 -- the part of the buffer that was lent to take a frame's data, put back
 pub stored : (b nine ys : List ℕ) (at n : ℕ) → at + n ≤ length b → n ≤ length nine → ys ≡ take n nine

@@ -6,7 +6,7 @@ use mathlib.Core.List.{List}
 use native.Mathlib.Omega.{arith}
 use native.Mathlib.Nat.{sub-zero}
 use lib.ListN.{length, take, drop}
-use lib.Seq.{length-take-le, take-length}
+use lib.Seq.{length-take-le}
 use Rattle.cluster.specs.Table.{frame_count, frame_length}
 use Rattle.cluster.specs.Check.{RightTable}
 use Rattle.cluster.proofs.FrameLaws.{frame_length_low, frame_length_high}

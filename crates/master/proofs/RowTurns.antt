@@ -21,7 +21,7 @@ use Rattle.master.specs.Admit.{admitted}
 use Rattle.master.specs.Put.{puts}
 use Rattle.master.specs.Write.{writable, marked_from, rewritten}
 use Rattle.master.specs.WriteRow.{at_place, first_bad, row_verdict, marked_bits, rewritten_by, with_row}
-use Rattle.master.proofs.Admitted.{unless_test, unless_rest, admitted_table}
+use Rattle.master.proofs.Admitted.{unless_test, unless_rest}
 use Rattle.master.proofs.Answered.{writable_signal}
 use Rattle.std.specs.Prelude.{Ok, Err}
 use Rattle.cluster.specs.Check.{Verdict}

@@ -47,7 +47,14 @@ impl State {
     }
 
     // The verdict on a write of a scalar or an array, which fits its signal or not.
-    fn judge_write(self, t: &[u16], size: usize, s: u16, array: bool, fits: bool) -> Result<Right, Refusal>
+    fn judge_write(
+        self,
+        t: &[u16],
+        size: usize,
+        s: u16,
+        array: bool,
+        fits: bool,
+    ) -> Result<Right, Refusal>
         ensures { Judged t.now (then (admitted t.now size self) (writableOf t.now s array fits)) result }
     {
         let right = self.right_table(t, size)?;

@@ -11,9 +11,11 @@ use Rattle.master.proofs.row.put_row.Goals as goal
 
 pub loop-s-init : goal.loop-s-init
 loop-s-init c =
-    let zip = c.zip-s-items.ensures in
-    (refl, rw (c.into_iter-s-iterator.ensures.into_iter_gives, zip.first, zip.second.0, c.iter.ensures.rest) c.requires,
-    rw (c.into_iter-s-iterator.ensures.into_iter_gives, zip.first, zip.second.0, c.iter.ensures.rest))
+    let zip = c.zip-s-items.ensures in (
+      refl,
+      rw (c.into_iter-s-iterator.ensures.into_iter_gives, zip.first, zip.second.0, c.iter.ensures.rest) c.requires,
+      rw (c.into_iter-s-iterator.ensures.into_iter_gives, zip.first, zip.second.0, c.iter.ensures.rest),
+    )
 
 pub overflow_cast-v : goal.overflow_cast-v
 overflow_cast-v c =

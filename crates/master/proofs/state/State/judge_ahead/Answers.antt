@@ -16,6 +16,7 @@ returns-then-count-of_frame c =
 
 pub returns : goal.returns
 unfolding ahead_verdict
-returns c =
-    (rw (← c.buffer_size.ensures, c.in_ok-right.ensures.0, ← c.count.ensures, ← c.of_frame.ensures, lt-ltb _ _ c.if-count-of_frame.false),
-    c.in_ok-right.ensures.1)
+returns c = (
+  rw (← c.buffer_size.ensures, c.in_ok-right.ensures.0, ← c.count.ensures, ← c.of_frame.ensures, lt-ltb _ _ c.if-count-of_frame.false),
+  c.in_ok-right.ensures.1,
+)

@@ -1,5 +1,4 @@
 -- Each way out has the tests that led to it, and what the calls answer is put in.
-use Rattle.std.proofs.Common.{◌∙◌, sym}
 use borrow.Author.Tests.{eq-eqb, ne_eqb}
 use Rattle.refusal.proofs.PassedOn.{passed_on}
 use Rattle.master.specs.WriteRow.{row_verdict}

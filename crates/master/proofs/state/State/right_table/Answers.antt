@@ -1,5 +1,4 @@
 -- Each way out has the tests that led to it, and what the calls answer is put in.
-use Rattle.std.proofs.Common.{◌∙◌, sym}
 use borrow.Author.Tests.{eq-eqb, ne_eqb}
 use Rattle.refusal.proofs.PassedOn.{passed_on}
 use Rattle.master.specs.Admit.{admitted}
@@ -21,6 +20,7 @@ returns-then-not-fits c =
 
 pub returns : goal.returns
 unfolding admitted
-returns c =
-    (rw (c.in_ok-right.ensures.right, ← c.buffer_size.ensures, eq-eqb _ _ c.if-size-buffer_size.false, ← c.fits.ensures, c.if-not-fits.false),
-    c.in_ok-right.ensures.words)
+returns c = (
+  rw (c.in_ok-right.ensures.right, ← c.buffer_size.ensures, eq-eqb _ _ c.if-size-buffer_size.false, ← c.fits.ensures, c.if-not-fits.false),
+  c.in_ok-right.ensures.words,
+)

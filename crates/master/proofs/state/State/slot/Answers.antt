@@ -1,5 +1,5 @@
 -- By cases of the entry due.
-use Rattle.std.proofs.Common.{◌∙◌, length}
+use Rattle.std.proofs.Common.{◌∙◌}
 use Rattle.master.specs.Tick.{slot, slot_at}
 use Rattle.master.proofs.SlotOpens.{due_there, entry_below, slot_opens_lem}
 use Rattle.master.proofs.Admitted.{admitted_fits}
