@@ -1,5 +1,5 @@
 // The message being sent: from its first frame to completed or failed.
-ghost use Rattle.std.specs.Prelude.{true, ◌&&◌, ◌≡◌, length, ltb};
+ghost use Rattle.std.specs.Prelude.{true, ◌&&◌, ◌≡◌, ltb};
 ghost use Rattle.master.specs.Fits.{message_fits, is_sending, lent_fits};
 ghost use Rattle.transport.specs.Cutting.{is_length, message_frames};
 ghost use Rattle.master.specs.Message.{moved as movedOn, message_sent, message_failed, sending_at, told as told_of};
@@ -7,7 +7,6 @@ ghost use Rattle.master.specs.declared.state.Message.TheVariants as variant;
 
 use crate::send::MessageAnswer;
 use crate::state::{Message, Opened, Sending};
-use cluster::frames;
 use transport::cutting;
 
 impl Message {

@@ -1,12 +1,11 @@
 // The pending bits: whether they fit, what a success clears, and the pending members of a list.
-ghost use Rattle.std.specs.Prelude.{true, cond, false, ◌&&◌, ◌≡◌, ◌<◌, ◌≤◌, eqb, get_or};
+ghost use Rattle.std.specs.Prelude.{true, false, ◌&&◌, ◌≡◌, ◌<◌, ◌≤◌, eqb, get_or};
 ghost use Rattle.master.specs.Fits.{bit_fits, pending_fits};
 ghost use Rattle.master.specs.Closing.{cleared_bit, pending_sent};
 ghost use Rattle.cluster.specs.Table.{most_frames, member_count, member_list, member_frame};
 ghost use Rattle.cluster.specs.Lists.{members_from, members as members_of};
 ghost use Rattle.master.specs.Ahead.{pending_count};
 ghost use Rattle.master.specs.Tick.{first_pending};
-ghost use Rattle.transport.specs.Reassembly.{written};
 
 use crate::state::Opened;
 use crate::transfer::Known;

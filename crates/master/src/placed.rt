@@ -1,7 +1,5 @@
 // The placements of a signal in a right table: they stand together, from the first one on.
-ghost use Rattle.std.specs.Prelude.{◌≡◌, true, ◌&&◌, ltb, set as set_to};
-ghost use Rattle.cluster.specs.Places.{places};
-ghost use Rattle.cluster.specs.Table.{placement_count};
+ghost use Rattle.std.specs.Prelude.{◌≡◌, true, set as set_to};
 ghost use Rattle.cluster.specs.Values.{first_placement, signal_published, touches as touchesOf, with_scalar, with_array};
 ghost use Rattle.master.specs.Parts.{OfSignal};
 ghost use Rattle.master.specs.Write.{marked_from};

@@ -3,7 +3,7 @@ ghost use Rattle.std.specs.Prelude.{◌≡◌};
 ghost use Rattle.master.specs.Fresh.{fresh as freshState, never_received, limits as limitsOf};
 ghost use Rattle.master.specs.State.{with_pending, with_plan, with_transfer, with_message, with_status, with_received};
 
-use cluster::{Limits, fresh};
+use cluster::Limits;
 use transport::reassembly::Assembly;
 
 // Where the schedule stands.

@@ -1,5 +1,5 @@
 // The transfer: what it is of, the nine bytes at its opening, each byte that passes, and which entries can open it.
-ghost use Rattle.std.specs.Prelude.{true, cond, ◌≡◌, ◌∷◌, ◌++◌, ◌+◌, ◌*◌, ◌-◌, ◌<◌, ◌≤◌, length, replicate, take};
+ghost use Rattle.std.specs.Prelude.{true, cond, ◌≡◌, ◌+◌, ◌*◌, ◌≤◌, length, replicate, take};
 ghost use Rattle.cluster.specs.Table.{published};
 ghost use Rattle.master.specs.Admit.{buffer_size};
 ghost use Rattle.master.specs.Fits.{frame_there, entry_opens, count_fits};
