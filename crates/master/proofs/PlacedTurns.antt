@@ -64,7 +64,8 @@ module _ (t : List ℕ) (ok : RightTable t) (s : ℕ) (step : ℕ → List ℕ �
   pub each_begins : (bs : List ℕ) → whole ≡ at_each t s step 0 (placement_count t) bs → Walk t s (Whole t s step whole bs) (first_placement t s)
   each_begins bs e = walk_begins t ok s (Whole t s step whole bs) (pass bs) (rw sub-zero e)
 
-  pub each_on : (k : ℕ) (bs cs : List ℕ) → Walk t s (Whole t s step whole bs) k → Of t s k → cs ≡ step k bs → Walk t s (Whole t s step whole cs) (k + 1)
+  pub each_on : (k : ℕ) (bs cs : List ℕ) → Walk t s (Whole t s step whole bs) k → Of t s k → cs ≡ step k bs
+      → Walk t s (Whole t s step whole cs) (k + 1)
   each_on k bs cs w o e =
       walk_on t s (Whole t s step whole bs) (Whole t s step whole cs) k w o (w.holds ∙ turn k bs o.there ∙ rw (placed t s k o, e))
 

@@ -65,7 +65,8 @@ no_value_left (s ∷ ss) vs e = rw (nil_from_length vs e)
 
 module _ (t : List ℕ) (i s v : ℕ) (ss vs : List ℕ) where
   -- the pair at hand decides, or else the later ones
-  pub first_turn : first_bad t i (puts (s ∷ ss) (v ∷ vs)) ≡ then (at_place i (writable t s false (value_fits t s v))) (first_bad t (i + 1) (puts ss vs))
+  pub first_turn : first_bad t i (puts (s ∷ ss) (v ∷ vs))
+      ≡ then (at_place i (writable t s false (value_fits t s v))) (first_bad t (i + 1) (puts ss vs))
   unfolding first_bad puts
   first_turn = rw add-one
 

@@ -25,7 +25,8 @@ use Rattle.master.specs.Byte.{byte_verdict}
 use Rattle.master.specs.Ahead.{ahead_verdict}
 use Rattle.cluster.specs.Lists.{member_of}
 use Rattle.master.proofs.Answered.{Writable, writable_signal}
-use Rattle.master.proofs.Admitted.{unless_test, admits, admitted_table, admitted_size, admitted_fits, Fits, fits_clauses, open_length_high, open_count}
+use Rattle.master.proofs.Admitted.{unless_test, admits, admitted_table, admitted_size, admitted_fits, Fits, fits_clauses}
+use Rattle.master.proofs.Admitted.{open_length_high, open_count}
 use Rattle.std.specs.Prelude.{Ok}
 
 -- ---- write
@@ -61,7 +62,8 @@ module _ (t : List ℕ) (n : ℕ) (x : State) (s : ℕ) (array : Bool) (h : read
 pub send_length : (t : List ℕ) (s : State) (n : ℕ) → send_verdict t s n ≡ Ok tt → n ≤ 4095
 unfolding send_verdict
 send_length t s n h =
-    leb-true n 4095 (and_right (leb 1 n) (leb n 4095) (unless_test (is_length n) number.message_length _ (then_second (admitted t (buffer_size t) s) _ h)))
+    let rest = then_second (admitted t (buffer_size t) s) _ h in
+    leb-true n 4095 (and_right (leb 1 n) (leb n 4095) (unless_test (is_length n) number.message_length _ rest))
 
 -- ---- number ahead
 

@@ -31,7 +31,7 @@ pub enum Opened {
 pub struct Transfer {
     pub opened: Opened,
     // The response bytes that have passed.
-    // Kept: `opening` (Transfers) fills all nine bytes at once, and `early`, `passed` (Byte) and `count_fits` (Fits) tell by this number which of them have passed.
+    // Kept: `early`, `passed` (specs/Byte) and `count_fits` (Fits) go by this number; `opening` (Transfers) fills the nine bytes before any passes.
     pub count: u8,
     // Data and checksum: copied at the opening of a sent transfer, gathered in a received one; the unused ones are 255.
     pub bytes: [u8; 9],

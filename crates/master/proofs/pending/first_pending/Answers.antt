@@ -15,13 +15,15 @@ is_pending_member-requires c = omega (arith, c.count-n.ensures, c.loop-m-test.tr
 pub returns-then-is_pending_member : goal.returns-then-is_pending_member
 returns-then-is_pending_member c =
     let a = c.args in
+    let here = rw c.is_pending_member.ensures at c.if-is_pending_member.true in
     rw c.frame.ensures
-    (sym (c.loop-m.invariant ∙ pending_here a.t.words.now a.l c.loop-m.m c.count-n.result c.loop-m-test.true a.pending (rw c.is_pending_member.ensures at c.if-is_pending_member.true)))
+    (sym (c.loop-m.invariant ∙ pending_here a.t.words.now a.l c.loop-m.m c.count-n.result c.loop-m-test.true a.pending here))
 
 pub loop-m-preserved : goal.loop-m-preserved
 loop-m-preserved c =
     let a = c.args in
-    c.loop-m.invariant ∙ pending_later a.t.words.now a.l c.loop-m.m c.count-n.result c.loop-m-test.true a.pending (rw c.is_pending_member.ensures at c.if-is_pending_member.false)
+    let not = rw c.is_pending_member.ensures at c.if-is_pending_member.false in
+    c.loop-m.invariant ∙ pending_later a.t.words.now a.l c.loop-m.m c.count-n.result c.loop-m-test.true a.pending not
 
 pub returns : goal.returns
 returns c =

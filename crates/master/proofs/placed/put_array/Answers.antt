@@ -15,7 +15,8 @@ loop-k-preserved c =
     let at = c.loop-k in
     let step = c.in-Some.ensures.steps in
     rw (step.0, step.1.2)
-    (one_less _ _ _ _ _ at.invariant _ (omega (arith, step.1.0)) (λ w o. each_on _ c.args.t.right _ _ _ _ at.bytes _ w o (c.put_array_at.ensures ∙ rw step.1.1)))
+    (one_less _ _ _ _ _ at.invariant _ (omega (arith, step.1.0))
+    (λ w o. each_on _ c.args.t.right _ _ _ _ at.bytes _ w o (c.put_array_at.ensures ∙ rw step.1.1)))
 
 pub returns : goal.returns
 returns c =

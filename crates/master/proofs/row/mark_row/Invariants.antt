@@ -5,4 +5,6 @@ use Rattle.master.specs.WriteRow.{marked_bits}
 use Rattle.master.proofs.row.mark_row.Given as goal
 
 abbrev pub invariant-loop-s : goal.invariant-loop-s
-invariant-loop-s l = (marked_bits l.t.words.now l.signals l.initial.pending ≡ marked_bits l.t.words.now (drop l.s-index l.signals) l.pending) × (length l.pending ≡ length l.initial.pending)
+invariant-loop-s l =
+    (marked_bits l.t.words.now l.signals l.initial.pending ≡ marked_bits l.t.words.now (drop l.s-index l.signals) l.pending)
+    × (length l.pending ≡ length l.initial.pending)

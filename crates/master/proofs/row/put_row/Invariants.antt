@@ -9,4 +9,5 @@ use Rattle.master.proofs.row.put_row.Given as goal
 abbrev pub invariant-loop-s : goal.invariant-loop-s
 invariant-loop-s l = (length l.bytes ≡ length l.initial.bytes)
     × (first_bad l.t.words.now (length l.yielded) (puts l.s-iterator.a.rest.now l.s-iterator.b.rest.now) ≡ Ok tt)
-    × (with_row l.t.words.now l.initial.bytes (puts l.signals l.values) ≡ with_row l.t.words.now l.bytes (puts l.s-iterator.a.rest.now l.s-iterator.b.rest.now))
+    × (with_row l.t.words.now l.initial.bytes (puts l.signals l.values)
+    ≡ with_row l.t.words.now l.bytes (puts l.s-iterator.a.rest.now l.s-iterator.b.rest.now))

@@ -19,7 +19,8 @@ pub store-requires : goal.store-requires
 store-requires c =
     let a = c.args in
     let there = rw c.in-Frame.is at (transfer_there a.self) in
-    (frame_end _ a.self.t.right a.bytes.now c.requires c.in-Frame.f there _ refl, omega (arith, c.length.ensures, rw c.in-Frame.is at (transfer_length a.self)))
+    let high = rw c.in-Frame.is at (transfer_length a.self) in
+    (frame_end _ a.self.t.right a.bytes.now c.requires c.in-Frame.f there _ refl, omega (arith, c.length.ensures, high))
 
 pub returns-in-Frame : goal.returns-in-Frame
 returns-in-Frame c =
@@ -30,9 +31,11 @@ returns-in-Frame c =
 pub returns-in-Response : goal.returns-in-Response
 returns-in-Response c =
     let right = sym (rw (c.known.ensures.table, c.known.ensures.opened) at c.checksum_right.ensures) ∙ c.if-not-checksum_right.false in
-    last_response _ c.args.self.state c.args.nine c.args.bytes.now right _ _ c.in-Response.is (rw (c.received-next.ensures, c.responding.ensures)) refl
+    last_response _ c.args.self.state c.args.nine c.args.bytes.now right _ _
+    c.in-Response.is (rw (c.received-next.ensures, c.responding.ensures)) refl
 
 pub returns-in_default : goal.returns-in_default
 returns-in_default c =
     let right = sym (rw (c.known.ensures.table, c.known.ensures.opened) at c.checksum_right.ensures) ∙ c.if-not-checksum_right.false in
-    last_other _ c.args.self.state c.args.nine c.args.bytes.now right _ _ c.in_default.not-Frame c.in_default.not-Response (rw c.received-next.ensures) refl
+    last_other _ c.args.self.state c.args.nine c.args.bytes.now right _ _
+    c.in_default.not-Frame c.in_default.not-Response (rw c.received-next.ensures) refl

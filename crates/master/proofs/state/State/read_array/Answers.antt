@@ -10,7 +10,9 @@ pub returns-in_err-t : goal.returns-in_err-t
 unfolding read_array_of
 returns-in_err-t c =
     let a = c.args in
-    let all = read_array_told a.t.now a.self a.bytes.now a.s c.from_residual.result (passed_on _ _ c.from_residual.ensures.1 ∙ rw c.in_err-t.ensures) in
+    let all =
+    read_array_told a.t.now a.self a.bytes.now a.s c.from_residual.result
+    (passed_on _ _ c.from_residual.ensures.1 ∙ rw c.in_err-t.ensures) in
     record { value = all.0; told = all.1 }
 
 pub returns-in-None : goal.returns-in-None

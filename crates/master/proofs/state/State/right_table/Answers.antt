@@ -10,7 +10,9 @@ returns-in_err-right c = rw (passed_on _ _ c.from_residual.ensures.1) (rw c.in_e
 
 pub returns-then-size-buffer_size : goal.returns-then-size-buffer_size
 unfolding admitted
-returns-then-size-buffer_size c = rw c.refused.ensures (rw (c.in_ok-right.ensures.right, ← c.buffer_size.ensures, ne_eqb _ _ c.if-size-buffer_size.true))
+returns-then-size-buffer_size c =
+    rw c.refused.ensures
+    (rw (c.in_ok-right.ensures.right, ← c.buffer_size.ensures, ne_eqb _ _ c.if-size-buffer_size.true))
 
 pub returns-then-not-fits : goal.returns-then-not-fits
 unfolding admitted

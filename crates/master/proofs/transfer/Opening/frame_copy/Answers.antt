@@ -23,4 +23,5 @@ returns c =
     let x = c.args.self in
     let there = rw c.requires at x.known.there in
     rw (← c.published.ensures, c.if-not-published.false, c.copied.ensures, c.requires)
-    (ap (copied x.known.t.words.now (Frame c.args.f)) (part_data _ x.known.t.right x.bytes.now x.size c.args.f there c.length.result c.length.ensures))
+    (ap (copied x.known.t.words.now (Frame c.args.f))
+    (part_data _ x.known.t.right x.bytes.now x.size c.args.f there c.length.result c.length.ensures))
