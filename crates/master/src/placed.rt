@@ -1,11 +1,11 @@
 // The placements of a signal in a right table: they stand together, from the first one on.
-ghost use Rattle.std.specs.Prelude.{◌≡◌, true, set as set_to};
+ghost use Rattle.std.specs.Prelude.{◌≡◌};
 ghost use Rattle.cluster.specs.Values.{first_placement, signal_published, touches as touchesOf, with_scalar, with_array};
 ghost use Rattle.master.specs.Parts.{OfSignal};
 ghost use Rattle.master.specs.Write.{marked_from};
 
 use cluster::right::Right;
-use cluster::{frames, placements, values};
+use cluster::{Limits, frames, placements, values};
 use std::ops::Range;
 
 // Where the placements of a signal begin, found by halving: the first placement that is not of a lower signal, as `partition_point` has it.
@@ -67,20 +67,11 @@ pub(crate) fn put_array(t: Right, bytes: &mut [u8], s: u16, values: &[u8])
 }
 
 // Marks the frames that a signal touches as pending.
-pub(crate) fn mark(t: Right, s: u16, pending: &mut [bool])
+pub(crate) fn mark(t: Right, s: u16, pending: &mut [bool; Limits::FRAMES])
     ensures { pending.new ≡ marked_from t.entry.words.now s 0 pending.old }
 {
     for k in of_signal(t, s) {
-        set(pending, placements::frame(t.words, k) as usize);
-    }
-}
-
-// Sets a bit, where it is there.
-fn set(pending: &mut [bool], f: usize)
-    ensures { pending.new ≡ set_to pending.old f true }
-{
-    if f < pending.len() {
-        pending[f] = true;
+        pending[placements::frame(t.words, k) as usize] = true;
     }
 }
 

@@ -96,9 +96,5 @@ impl State {
 fn last_of(received: [Reception; Limits::SIGNALS], s: u16) -> Option<u16>
     ensures { result ≡ last_of received s }
 {
-    if (s as usize) < Limits::SIGNALS {
-        received[s as usize].last
-    } else {
-        None
-    }
+    received.get(s as usize)?.last
 }

@@ -13,7 +13,7 @@ use crate::placed;
 use crate::state::{State, Transfer};
 use crate::write::writable;
 use cluster::right::Right;
-use cluster::values as values_of;
+use cluster::{Limits, values as values_of};
 use refusal::Refusal;
 
 impl State {
@@ -101,7 +101,7 @@ fn put_row(t: Right, bytes: &mut [u8], signals: &[u16], values: &[u32])
 }
 
 // Marks the frames that a row's signals touch.
-fn mark_row(t: Right, signals: &[u16], pending: &mut [bool])
+fn mark_row(t: Right, signals: &[u16], pending: &mut [bool; Limits::FRAMES])
     ensures { pending.new ≡ marked_bits t.entry.words.now signals.now pending.old }
 {
     for &s in signals {

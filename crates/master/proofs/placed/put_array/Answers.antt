@@ -21,4 +21,6 @@ loop-k-preserved c =
 pub returns : goal.returns
 returns c =
     let at = c.loop-k in
-    each_ends _ c.args.t.right _ _ _ _ at.bytes (none_left _ _ _ _ _ at.invariant c.in-None.ensures.steps.1.0) at.invariant.stop
+    let rest = at.k-iterator in
+    each_ends _ c.args.t.right _ _ _ rest.end at.bytes
+    (none_left _ _ _ rest.start rest.end at.invariant c.in-None.ensures.steps.1.0) at.invariant.stop

@@ -11,7 +11,7 @@ loop-k-init c =
 pub returns-then-frame-f : goal.returns-then-frame-f
 returns-then-frame-f c =
     let step = c.in-Some.ensures.steps in
-    let here = c.loop-k.invariant.each _ (omega arith) (omega (arith, step.1.0)) in
+    let here = c.loop-k.invariant.each c.loop-k.k-iterator.start (omega arith) (omega (arith, step.1.0)) in
     touch_found _ c.args.t.right _ _ _ here (rw step.1.1 at (sym c.frame.ensures ∙ c.if-frame-f.true))
 
 pub loop-k-preserved : goal.loop-k-preserved
