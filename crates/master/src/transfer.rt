@@ -162,7 +162,7 @@ impl<'a> Known<'a> {
         ensures { result ≡ checksum_right self.entry.t.words.now self.entry.opened nine }
     {
         let n = self.opened.length(self.t.words) as usize;
-        nine[n] == self.checksum(&nine[0..n])
+        nine[n] == self.checksum(&nine[..n])
     }
 }
 
@@ -212,8 +212,7 @@ impl<'a> Opening<'a> {
         requires { self.known.opened ≡ Request }
         ensures { result ≡ copied self.entry.known.t.words.now Request (request_data message self.entry.lent.now) }
     {
-        let bytes = request_data(message, self.lent);
-        self.known.copied(&bytes[0..8])
+        self.known.copied(&request_data(message, self.lent))
     }
 }
 
