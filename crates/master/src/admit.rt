@@ -24,7 +24,7 @@ impl State {
         Ok(())
     }
 
-    // The same, with the table handed on as a right one.
+    // The same, and the right table is handed on.
     pub(crate) fn right_table(self, t: &[u16], size: usize) -> Result<Right, Refusal>
         ensures { Judged t.now (admitted t.now size self) result }
     {

@@ -26,7 +26,7 @@ impl State {
         Ok(count_pending(t, self.pending, l, m))
     }
 
-    // The verdict on number ahead.
+    // Judges number ahead, and hands the right table on.
     fn judge_ahead(self, t: &[u16], f: u16) -> Result<Right, Refusal>
         ensures { Judged t.now (ahead_verdict t.now self f) result }
     {

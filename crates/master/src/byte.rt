@@ -54,7 +54,7 @@ impl State {
         Ok(answer)
     }
 
-    // The verdict on a byte in.
+    // Judges a byte in, and hands the right table on.
     fn judge_byte(self, t: &[u16], size: usize) -> Result<Right, Refusal>
         ensures { Judged t.now (byte_verdict t.now size self) result }
     {

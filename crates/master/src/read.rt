@@ -40,7 +40,7 @@ impl State {
         }
     }
 
-    // The verdict on a read.
+    // Judges a read, and hands the right table on.
     fn judge_read(self, t: &[u16], size: usize, s: u16, array: bool) -> Result<Right, Refusal>
         ensures { Judged t.now (read_verdict t.now size self s array) result }
     {

@@ -34,7 +34,7 @@ impl State {
         Ok(())
     }
 
-    // The verdict on a row.
+    // Judges a row, and hands the right table on.
     fn judge_row<'a>(
         self,
         t: &'a [u16],

@@ -51,7 +51,7 @@ impl State {
         Ok(self.slot(t, bytes, lent))
     }
 
-    // The verdict on a tick.
+    // Judges a tick, and hands the right table on.
     fn judge_tick(self, t: &[u16], size: usize, lent: usize) -> Result<Right, Refusal>
         ensures { Judged t.now (tick_verdict t.now size lent self) result }
     {

@@ -46,7 +46,7 @@ impl State {
         Ok(())
     }
 
-    // The verdict on a write of a scalar or an array, which fits its signal or not.
+    // Judges a write of a scalar or an array, which fits its signal or not, and hands the right table on.
     fn judge_write(
         self,
         t: &[u16],
