@@ -117,7 +117,17 @@ fits_clauses t s h =
 pub fits_all : (t : List ℕ) (s : State) → Fits t s → state_fits t s ≡ true
 unfolding state_fits
 fits_all t s f =
-    rw (f.entry_there_lem, f.schedule_there_lem, f.frame_there_lem, f.wait_fits_lem, f.pending_fits_lem, f.can_open_lem, f.count_fits_lem, f.message_fits_lem, f.receptions_fit)
+    rw (
+      f.entry_there_lem,
+      f.schedule_there_lem,
+      f.frame_there_lem,
+      f.wait_fits_lem,
+      f.pending_fits_lem,
+      f.can_open_lem,
+      f.count_fits_lem,
+      f.message_fits_lem,
+      f.receptions_fit,
+    )
 
 -- ---- numbers of an open transfer of which the frame is there
 

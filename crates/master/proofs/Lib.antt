@@ -41,6 +41,7 @@ pub mod StatusKept
 pub mod StepLaws
 pub mod StatusLaws
 pub mod Tests
+pub mod TransferTypes
 pub mod TickExactly
 pub mod ToldLaws
 pub mod Verdicts

@@ -4,9 +4,7 @@ use mathlib.Core.Path.{◌≡◌, refl}
 use mathlib.Core.Bool.{true}
 use mathlib.Core.List.{List}
 use native.Mathlib.Omega.{arith}
-use native.Mathlib.Nat.{sub-zero}
 use lib.ListN.{length, take, drop}
-use lib.Seq.{length-take-le, take-length}
 use Rattle.cluster.specs.Table.{frame_count, frame_length}
 use Rattle.cluster.specs.Check.{RightTable}
 use Rattle.cluster.proofs.FrameLaws.{frame_length_low, frame_length_high}
@@ -43,10 +41,3 @@ module _ (t : List ℕ) (ok : RightTable t) (bs : List ℕ) (size : length bs �
 
   pub part_high : length (take (8 * f + n - 8 * f) (drop (8 * f) bs)) ≤ 8
   part_high = omega (arith, part_length, e, frame_length_high t ok f (frame_below t ok f there))
-
--- the first bytes of some
-pub first_length_lem : (xs : List ℕ) (n : ℕ) → n ≤ length xs → length (take (n - 0) (drop 0 xs)) ≡ n
-first_length_lem xs n h = rw sub-zero (length-take-le n xs h)
-
-pub first_all : (xs : List ℕ) (n : ℕ) → length xs ≡ n → take (n - 0) (drop 0 xs) ≡ xs
-first_all xs n h = rw (sub-zero, ← h) (take-length xs)

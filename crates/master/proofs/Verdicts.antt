@@ -3,7 +3,6 @@ use Prim.Native.Nat.{ℕ, ◌≤◌, ◌<◌}
 use mathlib.Core.Path.{◌≡◌}
 use mathlib.Core.Bool.{Bool, true, false}
 use mathlib.Core.List.{List}
-use native.Mathlib.Omega.{arith}
 use lib.Dec.{ltb, leb}
 use borrow.Author.Tests.{ltb-true, leb-true}
 use Rattle.refusal.specs.Numbers as number
@@ -15,7 +14,7 @@ use Rattle.cluster.specs.Check.{TakenTable, RightTable, then}
 use Rattle.cluster.proofs.Accepted.{then_first, then_second}
 use Rattle.cluster.proofs.ValueLaws.{value_limit}
 use Rattle.master.specs.declared.state.State.{State}
-use Rattle.master.specs.Transfers.{is_open, open_length, open_identifier}
+use Rattle.master.specs.Transfers.{is_open, open_length}
 use Rattle.master.specs.Fits.{lent_fits, state_fits}
 use Rattle.master.specs.Admit.{unless, buffer_size, admitted}
 use Rattle.master.specs.Write.{writable}
@@ -26,7 +25,8 @@ use Rattle.master.specs.Byte.{byte_verdict}
 use Rattle.master.specs.Ahead.{ahead_verdict}
 use Rattle.cluster.specs.Lists.{member_of}
 use Rattle.master.proofs.Answered.{Writable, writable_signal}
-use Rattle.master.proofs.Admitted.{unless_test, admits, admitted_table, admitted_size, admitted_fits, Fits, fits_clauses, open_identifier_lem, open_length_low, open_length_high, open_count}
+use Rattle.master.proofs.Admitted.{unless_test, admits, admitted_table, admitted_size, admitted_fits, Fits, fits_clauses}
+use Rattle.master.proofs.Admitted.{open_length_high, open_count}
 use Rattle.std.specs.Prelude.{Ok}
 
 -- ---- write
@@ -62,15 +62,12 @@ module _ (t : List ℕ) (n : ℕ) (x : State) (s : ℕ) (array : Bool) (h : read
 pub send_length : (t : List ℕ) (s : State) (n : ℕ) → send_verdict t s n ≡ Ok tt → n ≤ 4095
 unfolding send_verdict
 send_length t s n h =
-    leb-true n 4095 (and_right (leb 1 n) (leb n 4095) (unless_test (is_length n) number.message_length _ (then_second (admitted t (buffer_size t) s) _ h)))
+    let rest = then_second (admitted t (buffer_size t) s) _ h in
+    leb-true n 4095 (and_right (leb 1 n) (leb n 4095) (unless_test (is_length n) number.message_length _ rest))
 
 -- ---- number ahead
 
 module _ (t : List ℕ) (s : State) (f : ℕ) (h : ahead_verdict t s f ≡ Ok tt) where
-  pub ahead_table : RightTable t
-  unfolding ahead_verdict
-  ahead_table = admitted_table t (buffer_size t) s (then_first (admitted t (buffer_size t) s) _ h)
-
   pub ahead_member : member_of t f < member_count t
   unfolding ahead_verdict
   ahead_member =
@@ -84,22 +81,16 @@ module _ (t : List ℕ) (n lent : ℕ) (s : State) (h : tick_verdict t n lent s 
   unfolding tick_verdict
   tick_admitted = then_first (admitted t n s) _ h
 
-  pub tick_table : RightTable t
-  tick_table = admitted_table t n s tick_admitted
-
   pub tick_size : n ≡ buffer_size t
   tick_size = admitted_size t n s tick_admitted
 
   pub tick_fits : Fits t s
   tick_fits = fits_clauses t s (admitted_fits t n s tick_admitted)
 
-  pub tick_identifier : open_identifier t s.transfer.opened < 64
-  tick_identifier = open_identifier_lem t tick_table s.transfer.opened tick_fits.frame_there_lem
-
 -- ---- byte in
 
 module _ (t : List ℕ) (n : ℕ) (s : State) (h : byte_verdict t n s ≡ Ok tt) where
-  byte_admitted : admitted t n s ≡ Ok tt
+  pub byte_admitted : admitted t n s ≡ Ok tt
   unfolding byte_verdict
   byte_admitted = then_first (admitted t n s) _ h
 
@@ -116,20 +107,11 @@ module _ (t : List ℕ) (n : ℕ) (s : State) (h : byte_verdict t n s ≡ Ok tt)
   unfolding byte_verdict
   byte_open = unless_test (is_open s.transfer.opened) number.no_transfer (Ok tt) (then_second (admitted t n s) _ h)
 
-  pub byte_identifier : open_identifier t s.transfer.opened < 64
-  byte_identifier = open_identifier_lem t byte_table s.transfer.opened byte_fits.frame_there_lem
-
-  pub byte_length_low : 1 ≤ open_length t s.transfer.opened
-  byte_length_low = open_length_low t byte_table s.transfer.opened byte_fits.frame_there_lem byte_open
-
   pub byte_length_high : open_length t s.transfer.opened ≤ 8
   byte_length_high = open_length_high t byte_table s.transfer.opened byte_fits.frame_there_lem
 
   pub byte_count : s.transfer.count ≤ open_length t s.transfer.opened
   byte_count = open_count t s byte_fits.count_fits_lem byte_open
-
-  pub byte_count_high : s.transfer.count ≤ 8
-  byte_count_high = omega (arith, byte_count, byte_length_high)
 
 -- in a state that fits, only a lent message of another length brings a 3 on tick
 pub tick_refusal : (t : List ℕ) (n lent : ℕ) (s : State) → TakenTable t → n ≡ buffer_size t → state_fits t s ≡ true

@@ -20,6 +20,7 @@ pub mod Byte
 pub mod Ahead
 pub mod Answers
 pub mod Seq
+pub mod Parts
 pub mod Calls
 pub mod Run
 pub mod Step

@@ -3,13 +3,15 @@ ghost use Rattle.std.specs.Prelude.{◌≡◌, Err};
 ghost use Rattle.master.specs.Admit.{buffer_size, admitted};
 ghost use Rattle.refusal.specs.Numbers.{refused as refused_with};
 ghost use Rattle.master.specs.Fits.{base_fits, state_fits};
+ghost use Rattle.master.specs.Parts.{Judged};
 ghost use Rattle.cluster.specs.Answers.{verdict_told};
 ghost use Rattle.master.specs.Told.{admit_told};
 
 use crate::pending::pending_fits;
 use crate::received::received_fits;
 use crate::state::State;
-use cluster::{frames, taken};
+use cluster::frames;
+use cluster::right::Right;
 use refusal::Refusal;
 
 impl State {
@@ -18,14 +20,22 @@ impl State {
         ensures value { result ≡ admitted t.now size self }
         ensures told { verdict_told result ≡ admit_told t.now size self }
     {
-        taken(t)?;
+        self.right_table(t, size)?;
+        Ok(())
+    }
+
+    // The same, and the right table is handed on.
+    pub(crate) fn right_table(self, t: &[u16], size: usize) -> Result<Right, Refusal>
+        ensures { Judged t.now (admitted t.now size self) result }
+    {
+        let right = Right::taken(t)?;
         if size != buffer_size(t) {
             return refused(Refusal::BUFFER);
         }
         if !self.fits(t) {
             return refused(Refusal::STATE);
         }
-        Ok(())
+        Ok(right)
     }
 
     // Whether the state fits the table.
@@ -58,8 +68,8 @@ pub fn buffer_size(t: &[u16]) -> usize
     8 * (frames::count(t) as usize)
 }
 
-// A verdict that refuses with a number.
-pub(crate) fn refused(number: u8) -> Result<(), Refusal>
+// A refusal with a number.
+pub(crate) fn refused<T>(number: u8) -> Result<T, Refusal>
     ensures { result ≡ Err (refused_with number) }
 {
     Err(Refusal::of(number))

@@ -1,5 +1,6 @@
 // The number of pending members ahead of a frame in its list.
 ghost use Rattle.std.specs.Prelude.{◌≡◌, []};
+ghost use Rattle.master.specs.Parts.{Judged};
 ghost use Rattle.master.specs.Ahead.{ahead_verdict, ahead_of};
 ghost use Rattle.master.specs.Answers.{ahead_told};
 ghost use Rattle.master.specs.Calls as call;
@@ -10,6 +11,7 @@ use crate::admit::{buffer_size, refused};
 use crate::pending::count_pending;
 use crate::state::State;
 use cluster::members;
+use cluster::right::Right;
 use refusal::Refusal;
 
 impl State {
@@ -18,20 +20,20 @@ impl State {
         ensures value { result ≡ ahead_of t.now self f }
         ensures told { ahead_told result ≡ call_told t.now (held self []) (call.number_ahead f) }
     {
-        self.judge_ahead(t, f)?;
-        let m = members::of_frame(t, f);
-        let l = members::list(t, m);
+        let t = self.judge_ahead(t, f)?;
+        let m = members::of_frame(t.words, f);
+        let l = members::list(t.words, m);
         Ok(count_pending(t, self.pending, l, m))
     }
 
-    // The verdict on number ahead.
-    fn judge_ahead(self, t: &[u16], f: u16) -> Result<(), Refusal>
-        ensures { result ≡ ahead_verdict t.now self f }
+    // Judges number ahead, and hands the right table on.
+    fn judge_ahead(self, t: &[u16], f: u16) -> Result<Right, Refusal>
+        ensures { Judged t.now (ahead_verdict t.now self f) result }
     {
-        self.admit(t, buffer_size(t))?;
+        let right = self.right_table(t, buffer_size(t))?;
         if members::count(t) <= members::of_frame(t, f) {
             return refused(Refusal::UNKNOWN);
         }
-        Ok(())
+        Ok(right)
     }
 }

@@ -1,17 +1,20 @@
 // The byte in.
-ghost use Rattle.std.specs.Prelude.{◌≡◌, ◌≤◌, length, take, Ok};
+ghost use Rattle.std.specs.Prelude.{◌≡◌, length, take, Ok};
 ghost use Rattle.master.specs.Admit.{buffer_size, Leaves};
-ghost use Rattle.master.specs.Byte.{passed as passedOf, sent_byte, last_byte};
+ghost use Rattle.master.specs.Byte.{passed as passedOf, sent_byte, last_byte, with_byte};
 ghost use Rattle.master.specs.Byte.{received_byte, byte_verdict, byte_of};
 ghost use Rattle.master.specs.declared.byte.ByteAnswer.TheVariants.{Response};
 ghost use Rattle.master.specs.Answers.{handed, byte_told};
 ghost use Rattle.master.specs.Calls as call;
+ghost use Rattle.master.specs.Parts.{Judged};
 ghost use Rattle.master.specs.Run.{held};
 ghost use Rattle.master.specs.Told.{call_told};
 
 use crate::admit::refused;
+use crate::closing::InTransfer;
 use crate::state::{Opened, State, Transfer};
 use crate::transfer::store;
+use cluster::right::Right;
 use refusal::Refusal;
 
 // What a byte in answers; a successful response has its eight bytes.
@@ -39,85 +42,96 @@ impl State {
         ensures leaves { Leaves (byte_of t.now self.old bytes.old b) (handed self.new result) bytes.new }
         ensures tells { byte_told result ≡ call_told t.now (held self.old bytes.old) (call.byte_in b) }
     {
-        self.judge_byte(t, bytes.len())?;
-        if self.transfer.opened.sends(t) {
-            return Ok(self.sent_byte(t, b));
+        let t = self.judge_byte(t, bytes.len())?;
+        let open = InTransfer { t, state: *self };
+        if self.transfer.opened.sends(t.words) {
+            let (next, answer) = open.sent_byte(b);
+            *self = next;
+            return Ok(answer);
         }
-        Ok(self.received_byte(t, bytes, b))
+        let (next, answer) = open.received_byte(bytes, b);
+        *self = next;
+        Ok(answer)
     }
 
-    // The verdict on a byte in.
-    fn judge_byte(self, t: &[u16], size: usize) -> Result<(), Refusal>
-        ensures { result ≡ byte_verdict t.now size self }
+    // Judges a byte in, and hands the right table on.
+    fn judge_byte(self, t: &[u16], size: usize) -> Result<Right, Refusal>
+        ensures { Judged t.now (byte_verdict t.now size self) result }
     {
-        self.admit(t, size)?;
+        let right = self.right_table(t, size)?;
         if !self.transfer.opened.is_open() {
             return refused(Refusal::NO_TRANSFER);
         }
-        Ok(())
+        Ok(right)
     }
+}
 
+impl<'a> InTransfer<'a> {
     // A byte of a transfer that the master sends: it must equal the copied one.
-    fn sent_byte(&mut self, t: &[u16], b: u8) -> ByteAnswer
-        requires { byte_verdict t.now (buffer_size t.now) self.old ≡ Ok tt }
-        ensures { handed self.new (Ok result) ≡ sent_byte t.now self.old b }
+    fn sent_byte(self, b: u8) -> (State, ByteAnswer)
+        ensures { handed result.0 (Ok result.1) ≡ sent_byte self.entry.t.words.now self.entry.state b }
     {
-        if self.transfer.bytes[self.transfer.count as usize] != b {
-            *self = self.failed(t, true);
-            return ByteAnswer::Failure;
+        let transfer = self.state.transfer;
+        if transfer.bytes[transfer.count as usize] != b {
+            return (self.failed(true), ByteAnswer::Failure);
         }
-        if self.transfer.early(t) {
-            *self = self.passed(self.transfer.bytes);
-            return ByteAnswer::More;
+        if transfer.early(self.t.words) {
+            return (self.passed(transfer.bytes), ByteAnswer::More);
         }
-        *self = self.sent(t);
-        ByteAnswer::Success
+        (self.sent(), ByteAnswer::Success)
     }
 
     // A byte of a transfer that the master receives: it is kept, and the last one is judged.
-    fn received_byte(&mut self, t: &[u16], bytes: &mut [u8], b: u8) -> ByteAnswer
-        requires { byte_verdict t.now (length bytes.old) self.old ≡ Ok tt }
-        ensures { Leaves (received_byte t.now self.old bytes.old b) (handed self.new (Ok result)) bytes.new }
+    fn received_byte(self, bytes: &mut [u8], b: u8) -> (State, ByteAnswer)
+        requires { length bytes.old ≡ buffer_size self.t.words.now }
+        ensures { Leaves (received_byte self.entry.t.words.now self.entry.state bytes.old b) (handed result.0 (Ok result.1)) bytes.new }
     {
-        let nine = self.transfer.with_byte(b);
-        if self.transfer.early(t) {
-            *self = self.passed(nine);
-            return ByteAnswer::More;
+        let nine = self.with_byte(b);
+        if self.state.transfer.early(self.t.words) {
+            return (self.passed(nine), ByteAnswer::More);
         }
-        self.last_byte(t, bytes, nine)
+        self.last_byte(bytes, nine)
     }
 
     // The last byte of a received transfer: a right checksum stores the data, a wrong one fails.
-    fn last_byte(&mut self, t: &[u16], bytes: &mut [u8], nine: [u8; 9]) -> ByteAnswer
-        requires { byte_verdict t.now (length bytes.old) self.old ≡ Ok tt }
-        ensures { Leaves (last_byte t.now self.old nine bytes.old) (handed self.new (Ok result)) bytes.new }
+    fn last_byte(self, bytes: &mut [u8], nine: [u8; 9]) -> (State, ByteAnswer)
+        requires { length bytes.old ≡ buffer_size self.t.words.now }
+        ensures { Leaves (last_byte self.entry.t.words.now self.entry.state nine bytes.old) (handed result.0 (Ok result.1)) bytes.new }
     {
-        let opened = self.transfer.opened;
-        if !opened.checksum_right(t, nine) {
-            *self = self.failed(t, true);
-            return ByteAnswer::Failure;
+        let opened = self.state.transfer.opened;
+        if !self.known().checksum_right(nine) {
+            return (self.failed(true), ByteAnswer::Failure);
         }
-        *self = self.received(t);
+        let next = self.received();
         match opened {
             Opened::Frame(f) => {
-                store(bytes, f, opened.length(t), nine);
-                ByteAnswer::Success
+                store(bytes, f, opened.length(self.t.words), nine);
+                (next, ByteAnswer::Success)
             }
-            Opened::Response => responding(nine),
-            _ => ByteAnswer::Success,
+            Opened::Response => (next, responding(nine)),
+            _ => (next, ByteAnswer::Success),
         }
+    }
+
+    // The nine bytes with one more.
+    fn with_byte(self, b: u8) -> [u8; 9]
+        ensures { result ≡ with_byte self.entry.state.transfer b }
+    {
+        let mut nine = self.state.transfer.bytes;
+        nine[self.state.transfer.count as usize] = b;
+        nine
     }
 
     // One more byte has passed.
     #[tactic(auto, unfolding(crate::specs::Byte::passed))]
     fn passed(self, nine: [u8; 9]) -> State
-        requires { self.transfer.count ≤ 8 }
-        ensures { result ≡ passedOf self nine }
+        ensures { result ≡ passedOf self.entry.state nine }
     {
-        self.with_transfer(Transfer {
-            count: self.transfer.count + 1,
+        let transfer = self.state.transfer;
+        self.state.with_transfer(Transfer {
+            count: transfer.count + 1,
             bytes: nine,
-            ..self.transfer
+            ..transfer
         })
     }
 }

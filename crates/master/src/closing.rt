@@ -1,54 +1,75 @@
 // Closing a transfer: as failed, sent with success, or received with success.
-ghost use Rattle.std.specs.Prelude.{true, ◌≡◌, ◌<◌};
-ghost use Rattle.cluster.specs.Check.{RightTable};
-ghost use Rattle.master.specs.Fits.{frame_there, message_fits};
-ghost use Rattle.master.specs.Transfers.{open_identifier};
+ghost use Rattle.std.specs.Prelude.{true, ◌≡◌};
+ghost use Rattle.master.specs.Fits.{state_fits};
+ghost use Rattle.master.specs.Transfers.{is_open};
 ghost use Rattle.master.specs.Closing.{closed as closedOf, failed as failedOf, sent as sentOf, received as receivedOf};
 
 use crate::state::{State, Transfer};
+use crate::transfer::Known;
+use cluster::right::Right;
 
-impl State {
-    // The transfer is over; it counts for status, with its outcome, where it had a response byte.
-    fn closed(self, t: &[u16], counts: bool, success: bool) -> State
-        requires { open_identifier t.now self.transfer.opened < 64 }
-        ensures { result ≡ closedOf t.now self counts success }
+// A state that fits a right table, with a transfer open.
+#[derive(Clone, Copy)]
+pub(crate) struct InTransfer<'a> {
+    pub(crate) t: Right<'a>,
+    pub(crate) state: State,
+    pub ghost fits: { state_fits t.words.now state ≡ true },
+    pub ghost opened: { is_open state.transfer.opened ≡ true },
+}
+
+impl<'a> InTransfer<'a> {
+    // What the transfer is of, which the table has.
+    pub(crate) fn known(self) -> Known<'a>
+        ensures table { result.t.words.now ≡ self.entry.t.words.now }
+        ensures opened { result.opened ≡ self.entry.state.transfer.opened }
     {
-        let last = self.transfer.opened.protected(t);
-        self.with_transfer(Transfer::none())
-            .with_status(self.status.after(counts, success, last))
+        Known {
+            t: self.t,
+            opened: self.state.transfer.opened,
+        }
+    }
+
+    // The transfer is over; it counts for status, with its outcome, where it had a response byte.
+    fn closed(self, counts: bool, success: bool) -> State
+        ensures { result ≡ closedOf self.entry.t.words.now self.entry.state counts success }
+    {
+        let last = self.known().protected();
+        self.state
+            .with_transfer(Transfer::none())
+            .with_status(self.state.status.after(counts, success, last))
     }
 
     // It failed.
     #[tactic(auto, unfolding(crate::specs::Closing::failed))]
-    pub(crate) fn failed(self, t: &[u16], counts: bool) -> State
-        requires { open_identifier t.now self.transfer.opened < 64 }
-        ensures { result ≡ failedOf t.now self counts }
+    pub(crate) fn failed(self, counts: bool) -> State
+        ensures { result ≡ failedOf self.entry.t.words.now self.entry.state counts }
     {
-        let opened = self.transfer.opened;
-        self.closed(t, counts, false)
-            .with_message(self.message.failed(opened))
+        let opened = self.state.transfer.opened;
+        self.closed(counts, false)
+            .with_message(self.state.message.failed(opened))
     }
 
     // The master sent it with success: its frame is no longer pending unless it was written since, or the message moves on.
     #[tactic(auto, unfolding(crate::specs::Closing::sent))]
-    pub(crate) fn sent(self, t: &[u16]) -> State
-        requires { RightTable t.now × (frame_there t.now self.transfer.opened ≡ true) × (message_fits self.message ≡ true) }
-        ensures { result ≡ sentOf t.now self }
+    pub(crate) fn sent(self) -> State
+        ensures { result ≡ sentOf self.entry.t.words.now self.entry.state }
     {
-        let opened = self.transfer.opened;
-        let cleared = opened.sent_pending(t, self.transfer.written, self.pending);
-        self.closed(t, true, true)
-            .with_message(self.message.sent(opened))
+        let state = self.state;
+        let cleared = self
+            .known()
+            .sent_pending(state.transfer.written, state.pending);
+        self.closed(true, true)
+            .with_message(state.message.sent(state.transfer.opened))
             .with_pending(cleared)
     }
 
     // The master received it with success: its placements are those received last.
     #[tactic(auto, unfolding(crate::specs::Closing::received))]
-    pub(crate) fn received(self, t: &[u16]) -> State
-        requires { open_identifier t.now self.transfer.opened < 64 }
-        ensures { result ≡ receivedOf t.now self }
+    pub(crate) fn received(self) -> State
+        ensures { result ≡ receivedOf self.entry.t.words.now self.entry.state }
     {
-        let received = self.transfer.opened.received_by(t, self.received);
-        self.closed(t, true, true).with_received(received)
+        let opened = self.state.transfer.opened;
+        let received = opened.received_by(self.t, self.state.received);
+        self.closed(true, true).with_received(received)
     }
 }

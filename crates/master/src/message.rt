@@ -1,5 +1,5 @@
 // The message being sent: from its first frame to completed or failed.
-ghost use Rattle.std.specs.Prelude.{true, ◌&&◌, ◌≡◌, length, ltb};
+ghost use Rattle.std.specs.Prelude.{true, ◌&&◌, ◌≡◌, ltb};
 ghost use Rattle.master.specs.Fits.{message_fits, is_sending, lent_fits};
 ghost use Rattle.transport.specs.Cutting.{is_length, message_frames};
 ghost use Rattle.master.specs.Message.{moved as movedOn, message_sent, message_failed, sending_at, told as told_of};
@@ -7,7 +7,6 @@ ghost use Rattle.master.specs.declared.state.Message.TheVariants as variant;
 
 use crate::send::MessageAnswer;
 use crate::state::{Message, Opened, Sending};
-use cluster::frames;
 use transport::cutting;
 
 impl Message {
@@ -31,12 +30,13 @@ impl Message {
     }
 
     // After a successful transfer: a request moves on to the next frame, or the message is completed.
+    #[tactic(auto, unfolding(crate::specs::Message::moved))]
     pub(crate) fn sent(self, opened: Opened) -> Message
         requires { message_fits self ≡ true }
         ensures { result ≡ message_sent opened self }
     {
-        match opened {
-            Opened::Request => self.moved(),
+        match (opened, self) {
+            (Opened::Request, Message::Sending(sending)) => sending.moved(),
             _ => self,
         }
     }
@@ -47,18 +47,6 @@ impl Message {
     {
         match opened {
             Opened::Request => Message::Failed,
-            _ => self,
-        }
-    }
-
-    // One frame further, or completed.
-    #[tactic(auto, unfolding(crate::specs::Message::moved))]
-    fn moved(self) -> Message
-        requires { message_fits self ≡ true }
-        ensures { result ≡ movedOn self }
-    {
-        match self {
-            Message::Sending(sending) => sending.moved(),
             _ => self,
         }
     }

@@ -1,23 +1,23 @@
 // The pending bits: whether they fit, what a success clears, and the pending members of a list.
-ghost use Rattle.std.specs.Prelude.{true, cond, false, ◌&&◌, ◌≡◌, ◌<◌, ◌≤◌, eqb, get_or};
-ghost use Rattle.cluster.specs.Check.{RightTable};
-ghost use Rattle.master.specs.Fits.{frame_there, bit_fits, pending_fits};
+ghost use Rattle.std.specs.Prelude.{true, false, ◌&&◌, ◌≡◌, ◌<◌, ◌≤◌, eqb, get_or};
+ghost use Rattle.master.specs.Fits.{bit_fits, pending_fits};
 ghost use Rattle.master.specs.Closing.{cleared_bit, pending_sent};
 ghost use Rattle.cluster.specs.Table.{most_frames, member_count, member_list, member_frame};
 ghost use Rattle.cluster.specs.Lists.{members_from, members as members_of};
 ghost use Rattle.master.specs.Ahead.{pending_count};
 ghost use Rattle.master.specs.Tick.{first_pending};
-ghost use Rattle.transport.specs.Reassembly.{written};
 
 use crate::state::Opened;
+use crate::transfer::Known;
+use cluster::right::Right;
 use cluster::{Limits, frames, members};
 
 // Whether every pending bit is that of a published frame.
 pub(crate) fn pending_fits(t: &[u16], pending: [bool; Limits::FRAMES]) -> bool
     ensures { result ≡ pending_fits t.now 0 pending }
 {
-    for f in 0..Limits::FRAMES {
-        if !bit_fits(t, f as u16, pending[f]) {
+    for (f, &bit) in pending.iter().enumerate() {
+        if !bit_fits(t, f as u16, bit) {
             return false;
         }
     }
@@ -32,19 +32,17 @@ fn bit_fits(t: &[u16], f: u16, bit: bool) -> bool
     !bit || f < frames::count(t) && frames::published(t, f)
 }
 
-impl Opened {
+impl<'a> Known<'a> {
     // The pending bits after a success: a frame that was not written since is no longer pending.
     #[tactic(auto, unfolding(crate::specs::Closing::pending_sent))]
     pub(crate) fn sent_pending(
         self,
-        t: &[u16],
         written: bool,
         pending: [bool; Limits::FRAMES],
     ) -> [bool; Limits::FRAMES]
-        requires { RightTable t.now × (frame_there t.now self ≡ true) }
-        ensures { result ≡ pending_sent self written pending }
+        ensures { result ≡ pending_sent self.entry.opened written pending }
     {
-        match self {
+        match self.opened {
             Opened::Frame(f) => cleared(f, written, pending),
             _ => pending,
         }
@@ -66,23 +64,22 @@ fn cleared(f: u16, written: bool, pending: [bool; Limits::FRAMES]) -> [bool; Lim
 }
 
 // The first pending member of a list.
-pub(crate) fn first_pending(t: &[u16], pending: [bool; Limits::FRAMES], l: u16) -> Opened
-    requires { RightTable t.now }
-    ensures { result ≡ first_pending pending (members_of t.now l) }
+pub(crate) fn first_pending(t: Right, pending: [bool; Limits::FRAMES], l: u16) -> Opened
+    ensures { result ≡ first_pending pending (members_of t.entry.words.now l) }
 {
-    let n = members::count(t);
+    let n = members::count(t.words);
     for m in 0..n {
         if is_pending_member(t, pending, l, m) {
-            return Opened::Frame(members::frame(t, m));
+            return Opened::Frame(members::frame(t.words, m));
         }
     }
     Opened::Nothing
 }
 
 // How many of a list's frames among the first members are pending.
-pub(crate) fn count_pending(t: &[u16], pending: [bool; Limits::FRAMES], l: u16, end: u16) -> u16
-    requires { RightTable t.now × (end ≤ member_count t.now) }
-    ensures { result ≡ pending_count pending (members_from t.now l 0 end) }
+pub(crate) fn count_pending(t: Right, pending: [bool; Limits::FRAMES], l: u16, end: u16) -> u16
+    requires { end ≤ member_count t.words.now }
+    ensures { result ≡ pending_count pending (members_from t.entry.words.now l 0 end) }
 {
     let mut n: u16 = 0;
     for m in 0..end {
@@ -92,9 +89,9 @@ pub(crate) fn count_pending(t: &[u16], pending: [bool; Limits::FRAMES], l: u16, 
 }
 
 // Whether a member is of a list and its frame is pending.
-fn is_pending_member(t: &[u16], pending: [bool; Limits::FRAMES], l: u16, m: u16) -> bool
-    requires { RightTable t.now × (m < member_count t.now) }
-    ensures { result ≡ (eqb (member_list t.now m) l && get_or pending (member_frame t.now m) false) }
+fn is_pending_member(t: Right, pending: [bool; Limits::FRAMES], l: u16, m: u16) -> bool
+    requires { m < member_count t.words.now }
+    ensures { result ≡ (eqb (member_list t.entry.words.now m) l && get_or pending (member_frame t.entry.words.now m) false) }
 {
-    members::list(t, m) == l && pending[members::frame(t, m) as usize]
+    members::list(t.words, m) == l && pending[members::frame(t.words, m) as usize]
 }

@@ -1,5 +1,6 @@
 // The reads: of a scalar, of an array, and of status.
 ghost use Rattle.std.specs.Prelude.{◌≡◌, []};
+ghost use Rattle.master.specs.Parts.{Judged};
 ghost use Rattle.master.specs.Read.{read_verdict, read_scalar_of, read_array_of};
 ghost use Rattle.master.specs.Status.{status_of};
 ghost use Rattle.master.specs.Answers.{handed, read_told, array_told, status_told};
@@ -9,6 +10,7 @@ ghost use Rattle.master.specs.Told.{call_told};
 
 use crate::admit::{buffer_size, refused};
 use crate::state::{State, Status};
+use cluster::right::Right;
 use cluster::values::Array;
 use cluster::{signals, values};
 use refusal::Refusal;
@@ -19,10 +21,10 @@ impl State {
         ensures value { result ≡ read_scalar_of t.now self bytes.now s }
         ensures told { read_told result ≡ call_told t.now (held self bytes.now) (call.read s) }
     {
-        self.judge_read(t, bytes.len(), s, false)?;
+        let t = self.judge_read(t, bytes.len(), s, false)?;
         match self.source(t, s) {
-            None => Ok(signals::start(t, s)),
-            Some(k) => Ok(values::scalar_at(t, bytes, s, k)),
+            None => Ok(signals::start(t.words, s)),
+            Some(k) => Ok(values::scalar_at(t.words, bytes, s, k)),
         }
     }
 
@@ -31,25 +33,25 @@ impl State {
         ensures value { result ≡ read_array_of t.now self bytes.now s }
         ensures told { array_told result ≡ call_told t.now (held self bytes.now) (call.read_array s) }
     {
-        self.judge_read(t, bytes.len(), s, true)?;
+        let t = self.judge_read(t, bytes.len(), s, true)?;
         match self.source(t, s) {
-            None => Ok(values::start_array(t, s)),
-            Some(k) => Ok(values::array_at(t, bytes, s, k)),
+            None => Ok(values::start_array(t.words, s)),
+            Some(k) => Ok(values::array_at(t.words, bytes, s, k)),
         }
     }
 
-    // The verdict on a read.
-    fn judge_read(self, t: &[u16], size: usize, s: u16, array: bool) -> Result<(), Refusal>
-        ensures { result ≡ read_verdict t.now size self s array }
+    // Judges a read, and hands the right table on.
+    fn judge_read(self, t: &[u16], size: usize, s: u16, array: bool) -> Result<Right, Refusal>
+        ensures { Judged t.now (read_verdict t.now size self s array) result }
     {
-        self.admit(t, size)?;
+        let right = self.right_table(t, size)?;
         if signals::count(t) <= s {
             return refused(Refusal::UNKNOWN);
         }
         if signals::is_array(t, s) != array {
             return refused(Refusal::KIND);
         }
-        Ok(())
+        Ok(right)
     }
 
     // Reads the status and sets it to 0.

@@ -1,7 +1,6 @@
 // The receptions: whether they fit, what a successful one sets, and where a read takes its value.
-ghost use Rattle.std.specs.Prelude.{◌≡◌, cond, eqb, Some};
-ghost use Rattle.cluster.specs.Check.{RightTable};
-ghost use Rattle.cluster.specs.Table.{most_signals, placement_count, placement_signal, placement_frame};
+ghost use Rattle.std.specs.Prelude.{◌≡◌, Some};
+ghost use Rattle.cluster.specs.Table.{placement_count};
 ghost use Rattle.master.specs.Received.{last_of, received_up_to, received_by, last_fits, received_fits, source_of};
 
 use crate::placed;
@@ -13,8 +12,8 @@ use cluster::{Limits, frames, placements, signals};
 pub(crate) fn received_fits(t: &[u16], received: [Reception; Limits::SIGNALS]) -> bool
     ensures { result ≡ received_fits t.now 0 received }
 {
-    for s in 0..Limits::SIGNALS {
-        if !received[s].fits(t, s as u16) {
+    for (s, reception) in received.iter().enumerate() {
+        if !reception.fits(t, s as u16) {
             return false;
         }
     }
@@ -49,10 +48,10 @@ impl Opened {
     #[tactic(auto, unfolding(crate::specs::Received::received_by))]
     pub(crate) fn received_by(
         self,
-        t: &[u16],
+        t: Right,
         received: [Reception; Limits::SIGNALS],
     ) -> [Reception; Limits::SIGNALS]
-        ensures { result ≡ received_by t.now self received }
+        ensures { result ≡ received_by t.entry.words.now self received }
     {
         match self {
             Opened::Frame(f) => received_in(t, f, received),
@@ -63,43 +62,31 @@ impl Opened {
 
 // The receptions after a success of a frame.
 fn received_in(
-    t: &[u16],
+    t: Right,
     f: u16,
     received: [Reception; Limits::SIGNALS],
 ) -> [Reception; Limits::SIGNALS]
-    ensures { result ≡ received_up_to t.now f (placement_count t.now) received }
+    ensures { result ≡ received_up_to t.entry.words.now f (placement_count t.entry.words.now) received }
 {
-    let n = placements::count(t);
+    let n = placements::count(t.words);
     let mut next = received;
     for k in 0..n {
-        let s = receiver(t, f, k);
-        if s < Limits::SIGNALS {
+        if placements::frame(t.words, k) == f {
+            let s = placements::signal(t.words, k) as usize;
             next[s] = Reception { last: Some(k) };
         }
     }
     next
 }
 
-// The signal of a placement in a frame; where the placement is in another one, the number behind the last signal.
-fn receiver(t: &[u16], f: u16, k: u16) -> usize
-    ensures { result ≡ cond (eqb (placement_frame t.now k) f) (placement_signal t.now k) most_signals }
-{
-    if placements::frame(t, k) == f {
-        placements::signal(t, k) as usize
-    } else {
-        Limits::SIGNALS
-    }
-}
-
 impl State {
     // Where a read of a signal takes its value: of a published one the first placement, of a received one that received last.
     #[tactic(auto, unfolding(crate::specs::Received::source_of))]
-    pub(crate) fn source(self, t: &[u16], s: u16) -> Option<u16>
-        requires { RightTable t.now }
-        ensures { result ≡ source_of t.now self.received s }
+    pub(crate) fn source(self, t: Right, s: u16) -> Option<u16>
+        ensures { result ≡ source_of t.entry.words.now self.received s }
     {
-        if placed::published(Right { words: t }, s) {
-            return Some(placed::first(Right { words: t }, s));
+        if placed::published(t, s) {
+            return Some(placed::first(t, s));
         }
         last_of(self.received, s)
     }
@@ -109,9 +96,5 @@ impl State {
 fn last_of(received: [Reception; Limits::SIGNALS], s: u16) -> Option<u16>
     ensures { result ≡ last_of received s }
 {
-    if (s as usize) < Limits::SIGNALS {
-        received[s as usize].last
-    } else {
-        None
-    }
+    received.get(s as usize)?.last
 }

@@ -1,8 +1,8 @@
 // A row of values: they are written as one by one in row order, or none of them.
-ghost use Rattle.std.specs.Prelude.{◌≡◌, length};
-ghost use Rattle.cluster.specs.Check.{RightTable};
+ghost use Rattle.std.specs.Prelude.{◌≡◌};
 ghost use Rattle.master.specs.Admit.{Leaves};
 ghost use Rattle.master.specs.Answers.{handed, write_told};
+ghost use Rattle.master.specs.Parts.{Judged};
 ghost use Rattle.master.specs.Put.{puts};
 ghost use Rattle.master.specs.Run.{held};
 ghost use Rattle.master.specs.Told.{row_told};
@@ -13,7 +13,7 @@ use crate::placed;
 use crate::state::{State, Transfer};
 use crate::write::writable;
 use cluster::right::Right;
-use cluster::values as values_of;
+use cluster::{Limits, values as values_of};
 use refusal::Refusal;
 
 impl State {
@@ -28,34 +28,34 @@ impl State {
         ensures leaves { Leaves (row_of t.now self.old bytes.old signals.now values.now) (handed self.new result) bytes.new }
         ensures told { write_told result ≡ row_told t.now (held self.old bytes.old) signals.now values.now }
     {
-        self.judge_row(t, bytes.len(), signals, values)?;
+        let t = self.judge_row(t, bytes.len(), signals, values)?;
         put_row(t, bytes, signals, values);
         *self = self.marked_row(t, signals);
         Ok(())
     }
 
-    // The verdict on a row.
-    fn judge_row(
+    // Judges a row, and hands the right table on.
+    fn judge_row<'a>(
         self,
-        t: &[u16],
+        t: &'a [u16],
         size: usize,
         signals: &[u16],
         values: &[u32],
-    ) -> Result<(), Refusal>
-        ensures { result ≡ row_verdict t.now size self signals.now values.now }
+    ) -> Result<Right<'a>, Refusal>
+        ensures { Judged t.now (row_verdict t.now size self signals.now values.now) result }
     {
-        self.admit(t, size)?;
+        let right = self.right_table(t, size)?;
         if signals.len() != values.len() {
             return refused(Refusal::ROWS);
         }
-        first_bad(t, signals, values)
+        first_bad(right, signals, values)?;
+        Ok(right)
     }
 
     // The frames of a row's signals are pending, and an open transfer of one of them was written since.
     #[tactic(auto, unfolding(crate::specs::WriteRow::marked_row))]
-    fn marked_row(self, t: &[u16], signals: &[u16]) -> State
-        requires { RightTable t.now }
-        ensures { result ≡ markedRowOf t.now signals.now self }
+    fn marked_row(self, t: Right, signals: &[u16]) -> State
+        ensures { result ≡ markedRowOf t.entry.words.now signals.now self }
     {
         let mut pending = self.pending;
         mark_row(t, signals, &mut pending);
@@ -66,9 +66,8 @@ impl State {
 
 impl Transfer {
     // Written since its opening, where a signal of a row touches its frame.
-    fn rewritten_by(self, t: &[u16], signals: &[u16]) -> Transfer
-        requires { RightTable t.now }
-        ensures { result ≡ rewritten_by t.now signals.now self }
+    fn rewritten_by(self, t: Right, signals: &[u16]) -> Transfer
+        ensures { result ≡ rewritten_by t.entry.words.now signals.now self }
     {
         let mut next = self;
         for &s in signals {
@@ -79,14 +78,12 @@ impl Transfer {
 }
 
 // Refusals 4 to 7 of a row: that of the first bad pair, with its place.
-fn first_bad(t: &[u16], signals: &[u16], values: &[u32]) -> Result<(), Refusal>
-    requires { RightTable t.now × (length signals.now ≡ length values.now) }
-    ensures { result ≡ first_bad t.now 0 (puts signals.now values.now) }
+fn first_bad(t: Right, signals: &[u16], values: &[u32]) -> Result<(), Refusal>
+    ensures { result ≡ first_bad t.entry.words.now 0 (puts signals.now values.now) }
 {
-    for i in 0..signals.len() {
-        let s = signals[i];
-        let fits = values_of::scalar_fits(t, s, values[i]);
-        if let Err(refusal) = writable(Right { words: t }, s, false, fits) {
+    for (i, (&s, &v)) in signals.iter().zip(values).enumerate() {
+        let fits = values_of::scalar_fits(t.words, s, v);
+        if let Err(refusal) = writable(t, s, false, fits) {
             return Err(Refusal::at(refusal.number, i));
         }
     }
@@ -94,23 +91,20 @@ fn first_bad(t: &[u16], signals: &[u16], values: &[u32]) -> Result<(), Refusal>
 }
 
 // Puts the values of a row into their signals.
-fn put_row(t: &[u16], bytes: &mut [u8], signals: &[u16], values: &[u32])
-    requires { RightTable t.now
-        × (length signals.now ≡ length values.now)
-        × (first_bad t.now 0 (puts signals.now values.now) ≡ Ok tt) }
-    ensures { bytes.new ≡ with_row t.now bytes.old (puts signals.now values.now) }
+fn put_row(t: Right, bytes: &mut [u8], signals: &[u16], values: &[u32])
+    requires { first_bad t.words.now 0 (puts signals.now values.now) ≡ Ok tt }
+    ensures { bytes.new ≡ with_row t.entry.words.now bytes.old (puts signals.now values.now) }
 {
-    for i in 0..signals.len() {
-        placed::put_scalar(Right { words: t }, bytes, signals[i], values[i] as u16);
+    for (&s, &v) in signals.iter().zip(values) {
+        placed::put_scalar(t, bytes, s, v as u16);
     }
 }
 
 // Marks the frames that a row's signals touch.
-fn mark_row(t: &[u16], signals: &[u16], pending: &mut [bool])
-    requires { RightTable t.now }
-    ensures { pending.new ≡ marked_bits t.now signals.now pending.old }
+fn mark_row(t: Right, signals: &[u16], pending: &mut [bool; Limits::FRAMES])
+    ensures { pending.new ≡ marked_bits t.entry.words.now signals.now pending.old }
 {
     for &s in signals {
-        placed::mark(Right { words: t }, s, pending);
+        placed::mark(t, s, pending);
     }
 }

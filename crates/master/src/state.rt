@@ -3,7 +3,7 @@ ghost use Rattle.std.specs.Prelude.{◌≡◌};
 ghost use Rattle.master.specs.Fresh.{fresh as freshState, never_received, limits as limitsOf};
 ghost use Rattle.master.specs.State.{with_pending, with_plan, with_transfer, with_message, with_status, with_received};
 
-use cluster::{Limits, fresh};
+use cluster::Limits;
 use transport::reassembly::Assembly;
 
 // Where the schedule stands.
@@ -31,7 +31,7 @@ pub enum Opened {
 pub struct Transfer {
     pub opened: Opened,
     // The response bytes that have passed.
-    // Kept: the nine bytes are there from the opening on, and this tells how many of them are passed; the definitions of the claim speak of both.
+    // Kept: `early`, `passed` (specs/Byte) and `count_fits` (Fits) go by this number; `opening` (Transfers) fills the nine bytes before any passes.
     pub count: u8,
     // Data and checksum: copied at the opening of a sent transfer, gathered in a received one; the unused ones are 255.
     pub bytes: [u8; 9],

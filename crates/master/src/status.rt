@@ -1,8 +1,7 @@
 // Status in its parts: what a closed transfer does to them, and the word.
-ghost use Rattle.std.specs.Prelude.{◌≡◌, ◌≤◌, ◌||◌};
+ghost use Rattle.std.specs.Prelude.{◌≡◌, ◌||◌};
 ghost use Rattle.master.specs.Fresh.{no_status};
 ghost use Rattle.master.specs.Status.{status_after, with_counted as countedOf, status_word};
-ghost use Rattle.wire.specs.Bits.{digit};
 
 use crate::state::Status;
 

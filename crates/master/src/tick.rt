@@ -1,10 +1,8 @@
 // The tick.
-ghost use Rattle.std.specs.Prelude.{true, cond, ◌≡◌, ◌<◌, length, Ok};
-ghost use Rattle.cluster.specs.Check.{RightTable};
-ghost use Rattle.master.specs.Admit.{buffer_size};
-ghost use Rattle.master.specs.Fits.{frame_there, is_sending};
+ghost use Rattle.std.specs.Prelude.{true, cond, ◌≡◌, length, Ok};
+ghost use Rattle.master.specs.Fits.{is_sending, state_fits};
 ghost use Rattle.master.specs.declared.state.Opened.TheVariants.{Request, Nothing};
-ghost use Rattle.master.specs.Transfers.{open_identifier};
+ghost use Rattle.master.specs.Parts.{Judged};
 ghost use Rattle.master.specs.Tick.{slot_opens, abandoned as abandonedOf, opens_or_silent, slot as slot_of, tick_verdict, tick_of};
 ghost use Rattle.master.specs.Answers.{handed, tick_told};
 ghost use Rattle.master.specs.Calls as call;
@@ -12,8 +10,11 @@ ghost use Rattle.master.specs.Run.{held};
 ghost use Rattle.master.specs.Told.{call_told};
 
 use crate::admit::refused;
+use crate::closing::InTransfer;
 use crate::pending::first_pending;
 use crate::state::{Message, Opened, Plan, State};
+use crate::transfer::{Known, Opening};
+use cluster::right::Right;
 use cluster::{Limits, entries};
 use refusal::Refusal;
 
@@ -42,7 +43,7 @@ impl State {
         ensures value { handed self.new result ≡ tick_of t.now bytes.now lent.now self.old }
         ensures tells { tick_told result ≡ call_told t.now (held self.old bytes.now) (call.tick lent.now) }
     {
-        self.judge_tick(t, bytes.len(), lent.len())?;
+        let t = self.judge_tick(t, bytes.len(), lent.len())?;
         if self.plan.waits() {
             self.plan = self.plan.waited();
             return Ok(TickAnswer::Waiting);
@@ -50,66 +51,69 @@ impl State {
         Ok(self.slot(t, bytes, lent))
     }
 
-    // The verdict on a tick.
-    fn judge_tick(self, t: &[u16], size: usize, lent: usize) -> Result<(), Refusal>
-        ensures { result ≡ tick_verdict t.now size lent self }
+    // Judges a tick, and hands the right table on.
+    fn judge_tick(self, t: &[u16], size: usize, lent: usize) -> Result<Right, Refusal>
+        ensures { Judged t.now (tick_verdict t.now size lent self) result }
     {
-        self.admit(t, size)?;
+        let right = self.right_table(t, size)?;
         if !self.message.lent_fits(lent) {
             return refused(Refusal::STATE);
         }
-        Ok(())
+        Ok(right)
     }
 
     // Starts a slot: an open transfer is closed as failed, and the entry due begins.
-    fn slot(&mut self, t: &[u16], bytes: &[u8], lent: &[u8]) -> TickAnswer
-        requires { tick_verdict t.now (length bytes.now) (length lent.now) self.old ≡ Ok tt }
-        ensures { handed self.new (Ok result) ≡ slot_of t.now bytes.now lent.now self.old }
+    fn slot<'a>(&mut self, t: Right<'a>, bytes: &'a [u8], lent: &'a [u8]) -> TickAnswer
+        requires { tick_verdict t.words.now (length bytes.now) (length lent.now) self.old ≡ Ok tt }
+        ensures { handed self.new (Ok result) ≡ slot_of t.entry.words.now bytes.now lent.now self.old }
     {
-        let due = self.plan.due(t);
+        let due = self.plan.due(t.words);
         *self = self.abandoned(t);
         match due {
             None => TickAnswer::Idle,
             Some(e) => {
                 let opened = slot_opens(t, self.pending, self.message, e);
-                self.plan = Plan::begun(t, e);
-                self.open(t, bytes, lent, opened)
+                self.plan = Plan::begun(t.words, e);
+                self.open(Opening {
+                    known: Known { t, opened },
+                    bytes,
+                    lent,
+                })
             }
         }
     }
 
     // Closes an open transfer as failed at a slot start.
-    fn abandoned(self, t: &[u16]) -> State
-        requires { open_identifier t.now self.transfer.opened < 64 }
-        ensures { result ≡ abandonedOf t.now self }
+    fn abandoned(self, t: Right) -> State
+        requires { state_fits t.words.now self ≡ true }
+        ensures { result ≡ abandonedOf t.entry.words.now self }
     {
         if self.transfer.opened.is_open() {
-            return self.failed(t, 0 < self.transfer.count);
+            return InTransfer { t, state: self }.failed(0 < self.transfer.count);
         }
         self
     }
 
     // Opens a transfer, or is silent.
-    fn open(&mut self, t: &[u16], bytes: &[u8], lent: &[u8], opened: Opened) -> TickAnswer
-        requires { RightTable t.now × (length bytes.now ≡ buffer_size t.now) × (frame_there t.now opened ≡ true) }
-        ensures { handed self.new (Ok result) ≡ opens_or_silent t.now bytes.now lent.now self.old opened }
+    fn open(&mut self, opening: Opening) -> TickAnswer
+        ensures { handed self.new (Ok result)
+            ≡ opens_or_silent opening.entry.known.t.words.now opening.entry.bytes.now opening.entry.lent.now self.old opening.entry.known.opened }
     {
-        if !opened.is_open() {
+        if !opening.known.opened.is_open() {
             return TickAnswer::Silent;
         }
-        self.transfer = opened.opening(t, bytes, self.message, lent);
-        TickAnswer::Opened(opened.protected(t))
+        self.transfer = opening.transfer(self.message);
+        TickAnswer::Opened(opening.known.protected())
     }
 }
 
 // What a slot opens.
 #[tactic(auto, unfolding(crate::specs::Tick::slot_opens))]
-fn slot_opens(t: &[u16], pending: [bool; Limits::FRAMES], message: Message, e: u16) -> Opened
-    requires { RightTable t.now }
-    ensures { result ≡ slot_opens t.now pending message e }
+fn slot_opens(t: Right, pending: [bool; Limits::FRAMES], message: Message, e: u16) -> Opened
+    ensures { result ≡ slot_opens t.entry.words.now pending message e }
 {
-    let target = entries::target(t, e);
-    match entries::kind(t, e) {
+    let target = entries::target(t.words, e);
+    match entries::kind(t.words, e) {
         0 => Opened::Frame(target),
         1 => first_pending(t, pending, target),
         2 => request_slot(message),

@@ -1,19 +1,16 @@
 // The transfer: what it is of, the nine bytes at its opening, each byte that passes, and which entries can open it.
-ghost use Rattle.std.specs.Prelude.{true, cond, ◌≡◌, ◌∷◌, ◌++◌, ◌+◌, ◌*◌, ◌-◌, ◌<◌, ◌≤◌, length, replicate, take};
-ghost use Rattle.wire.specs.Identifier.{protected_byte};
-ghost use Rattle.wire.specs.Checksum.{checksum_byte};
+ghost use Rattle.std.specs.Prelude.{true, cond, ◌≡◌, ◌+◌, ◌*◌, ◌≤◌, length, replicate, take};
 ghost use Rattle.cluster.specs.Table.{published};
-ghost use Rattle.cluster.specs.Check.{RightTable};
 ghost use Rattle.master.specs.Admit.{buffer_size};
 ghost use Rattle.master.specs.Fits.{frame_there, entry_opens, count_fits};
 ghost use Rattle.master.specs.declared.state.Opened.TheVariants.{Frame, Request};
-ghost use Rattle.master.specs.Transfers.{format_of, is_open, open_length, open_identifier, sends as sendsOf, open_protected};
+ghost use Rattle.master.specs.Transfers.{format_of, is_open, open_length, sends as sendsOf, open_protected};
 ghost use Rattle.master.specs.Transfers.{open_checksum, frame_data, request_data, copied, opening};
 ghost use Rattle.master.specs.Fresh.{no_transfer};
 ghost use Rattle.master.specs.Write.{touches_open, rewritten as rewrittenOf};
 ghost use Rattle.master.specs.declared.state.Message.TheVariants.{None};
 ghost use Rattle.transport.specs.Reassembly.{written};
-ghost use Rattle.master.specs.Byte.{early as earlyOf, checksum_right, with_byte};
+ghost use Rattle.master.specs.Byte.{early as earlyOf, checksum_right};
 
 use crate::placed;
 use crate::state::{Message, Opened, Transfer};
@@ -32,6 +29,23 @@ pub struct Format {
     pub model: Model,
     // The master sends the response.
     pub sends: bool,
+}
+
+// What a transfer is of, where its right table has it.
+#[derive(Clone, Copy)]
+pub(crate) struct Known<'a> {
+    pub(crate) t: Right<'a>,
+    pub(crate) opened: Opened,
+    pub ghost there: { frame_there t.words.now opened ≡ true },
+}
+
+// What a slot opens, with the frame bytes and the message that are lent to the tick.
+#[derive(Clone, Copy)]
+pub(crate) struct Opening<'a> {
+    pub(crate) known: Known<'a>,
+    pub(crate) bytes: &'a [u8],
+    pub(crate) lent: &'a [u8],
+    pub ghost size: { length bytes.now ≡ buffer_size known.t.words.now },
 }
 
 impl Opened {
@@ -74,78 +88,12 @@ impl Opened {
         self.format(t).sends
     }
 
-    // Its protected identifier.
-    #[tactic(auto, unfolding(crate::specs::Transfers::open_protected))]
-    pub(crate) fn protected(self, t: &[u16]) -> u8
-        requires { open_identifier t.now self < 64 }
-        ensures { result ≡ open_protected t.now self }
-    {
-        protected_byte(self.format(t).identifier as u8)
-    }
-
-    // Its checksum over some data.
-    #[tactic(auto, unfolding(crate::specs::Transfers::open_checksum))]
-    pub(crate) fn checksum(self, t: &[u16], bytes: &[u8]) -> u8
-        requires { (open_identifier t.now self < 64) × (1 ≤ length bytes.now) × (length bytes.now ≤ 8) }
-        ensures { result ≡ open_checksum t.now self bytes.now }
-    {
-        let format = self.format(t);
-        checksum_byte(format.identifier as u8, format.model, bytes)
-    }
-
-    // Data and checksum, the unused ones of the nine bytes 255.
-    #[tactic(auto, unfolding(crate::specs::Transfers::copied))]
-    pub(crate) fn copied(self, t: &[u16], bytes: &[u8]) -> [u8; 9]
-        requires { (open_identifier t.now self < 64) × (1 ≤ length bytes.now) × (length bytes.now ≤ 8) }
-        ensures { result ≡ copied t.now self bytes.now }
-    {
-        nine(bytes, self.checksum(t, bytes))
-    }
-
-    // The transfer record at the opening.
-    #[tactic(auto, unfolding(crate::specs::Transfers::opening))]
-    pub(crate) fn opening(self, t: &[u16], bytes: &[u8], message: Message, lent: &[u8]) -> Transfer
-        requires { RightTable t.now × (length bytes.now ≡ buffer_size t.now) × (frame_there t.now self ≡ true) }
-        ensures { result ≡ opening t.now bytes.now message lent.now self }
-    {
-        Transfer {
-            opened: self,
-            count: 0,
-            bytes: self.first_bytes(t, bytes, message, lent),
-            written: false,
-        }
-    }
-
-    // The nine bytes at the opening: a copy where the master sends, and 255 where it receives.
-    #[tactic(auto, unfolding(crate::specs::Transfers::opening, crate::specs::Transfers::sent_data, crate::specs::Transfers::format_of))]
-    fn first_bytes(self, t: &[u16], bytes: &[u8], message: Message, lent: &[u8]) -> [u8; 9]
-        requires { RightTable t.now × (length bytes.now ≡ buffer_size t.now) × (frame_there t.now self ≡ true) }
-        ensures { result ≡ (opening t.now bytes.now message lent.now self).bytes }
-    {
-        match self {
-            Opened::Frame(f) => frame_copy(t, bytes, f),
-            Opened::Request => request_copy(t, message, lent),
-            _ => [255; 9],
-        }
-    }
-
-    // Whether the byte behind the data is their checksum.
-    #[tactic(auto, unfolding(crate::specs::Byte::checksum_right))]
-    pub(crate) fn checksum_right(self, t: &[u16], nine: [u8; 9]) -> bool
-        requires { (open_identifier t.now self < 64) × (1 ≤ open_length t.now self) × (open_length t.now self ≤ 8) }
-        ensures { result ≡ checksum_right t.now self nine }
-    {
-        let n = self.length(t) as usize;
-        nine[n] == self.checksum(t, &nine[0..n])
-    }
-
     // Whether a signal touches the frame of the transfer.
-    fn touched(self, t: &[u16], s: u16) -> bool
-        requires { RightTable t.now }
-        ensures { result ≡ touches_open t.now s self }
+    fn touched(self, t: Right, s: u16) -> bool
+        ensures { result ≡ touches_open t.entry.words.now s self }
     {
         match self {
-            Opened::Frame(f) => placed::touches(Right { words: t }, s, f),
+            Opened::Frame(f) => placed::touches(t, s, f),
             _ => false,
         }
     }
@@ -171,6 +119,100 @@ impl Opened {
             Opened::Request => opens_request(t, message, e),
             Opened::Response => entries::kind(t, e) == 3,
         }
+    }
+}
+
+impl<'a> Known<'a> {
+    // Its protected identifier.
+    #[tactic(auto, unfolding(crate::specs::Transfers::open_protected))]
+    pub(crate) fn protected(self) -> u8
+        ensures { result ≡ open_protected self.entry.t.words.now self.entry.opened }
+    {
+        let format = self.opened.format(self.t.words);
+        identifier::build(format.identifier as u8).unwrap_or(0)
+    }
+
+    // Its checksum over some data.
+    #[tactic(auto, unfolding(crate::specs::Transfers::open_checksum))]
+    fn checksum(self, bytes: &[u8]) -> u8
+        requires { (1 ≤ length bytes.now) × (length bytes.now ≤ 8) }
+        ensures { result ≡ open_checksum self.entry.t.words.now self.entry.opened bytes.now }
+    {
+        let format = self.opened.format(self.t.words);
+        checksum::of(format.identifier as u8, format.model, bytes).unwrap_or(0)
+    }
+
+    // Data and checksum, the unused ones of the nine bytes 255.
+    #[tactic(auto, unfolding(crate::specs::Transfers::copied))]
+    fn copied(self, bytes: &[u8]) -> [u8; 9]
+        requires { (1 ≤ length bytes.now) × (length bytes.now ≤ 8) }
+        ensures { result ≡ copied self.entry.t.words.now self.entry.opened bytes.now }
+    {
+        let mut nine = [255; 9];
+        let n = bytes.len();
+        nine[..n].copy_from_slice(bytes);
+        nine[n] = self.checksum(bytes);
+        nine
+    }
+
+    // Whether the byte behind the data is their checksum.
+    #[tactic(auto, unfolding(crate::specs::Byte::checksum_right))]
+    pub(crate) fn checksum_right(self, nine: [u8; 9]) -> bool
+        requires { is_open self.opened ≡ true }
+        ensures { result ≡ checksum_right self.entry.t.words.now self.entry.opened nine }
+    {
+        let n = self.opened.length(self.t.words) as usize;
+        nine[n] == self.checksum(&nine[..n])
+    }
+}
+
+impl<'a> Opening<'a> {
+    // The transfer record at the opening.
+    #[tactic(auto, unfolding(crate::specs::Transfers::opening))]
+    pub(crate) fn transfer(self, message: Message) -> Transfer
+        ensures { result ≡ opening self.entry.known.t.words.now self.entry.bytes.now message self.entry.lent.now self.entry.known.opened }
+    {
+        Transfer {
+            opened: self.known.opened,
+            count: 0,
+            bytes: self.first_bytes(message),
+            written: false,
+        }
+    }
+
+    // The nine bytes at the opening: a copy where the master sends, and 255 where it receives.
+    #[tactic(auto, unfolding(crate::specs::Transfers::opening, crate::specs::Transfers::sent_data, crate::specs::Transfers::format_of))]
+    fn first_bytes(self, message: Message) -> [u8; 9]
+        ensures { result ≡ (opening self.entry.known.t.words.now self.entry.bytes.now message self.entry.lent.now self.entry.known.opened).bytes }
+    {
+        match self.known.opened {
+            Opened::Frame(f) => self.frame_copy(f),
+            Opened::Request => self.request_copy(message),
+            _ => [255; 9],
+        }
+    }
+
+    // The nine bytes at the opening of a frame.
+    fn frame_copy(self, f: u16) -> [u8; 9]
+        requires { self.known.opened ≡ Frame f }
+        ensures { result ≡ cond (published self.entry.known.t.words.now f)
+            (copied self.entry.known.t.words.now (Frame f) (frame_data self.entry.known.t.words.now self.entry.bytes.now f)) (replicate 9 255) }
+    {
+        let t = self.known.t.words;
+        if !frames::published(t, f) {
+            return [255; 9];
+        }
+        let at = 8 * (f as usize);
+        let end = at + frames::length(t, f) as usize;
+        self.known.copied(&self.bytes[at..end])
+    }
+
+    // The nine bytes at the opening of a request: the frame cut from the bytes lent now.
+    fn request_copy(self, message: Message) -> [u8; 9]
+        requires { self.known.opened ≡ Request }
+        ensures { result ≡ copied self.entry.known.t.words.now Request (request_data message self.entry.lent.now) }
+    {
+        self.known.copied(&request_data(message, self.lent))
     }
 }
 
@@ -208,21 +250,10 @@ impl Transfer {
         (self.count as u16) < self.opened.length(t)
     }
 
-    // The nine bytes with one more.
-    pub(crate) fn with_byte(self, b: u8) -> [u8; 9]
-        requires { self.count ≤ 8 }
-        ensures { result ≡ with_byte self b }
-    {
-        let mut nine = self.bytes;
-        nine[self.count as usize] = b;
-        nine
-    }
-
     // Written since its opening, where a signal touches its frame; where it was written before, that is not asked.
     #[tactic(auto, unfolding(crate::specs::Write::rewritten))]
-    pub(crate) fn rewritten(self, t: &[u16], s: u16) -> Transfer
-        requires { RightTable t.now }
-        ensures { result ≡ rewrittenOf t.now s self }
+    pub(crate) fn rewritten(self, t: Right, s: u16) -> Transfer
+        ensures { result ≡ rewrittenOf t.entry.words.now s self }
     {
         if self.written || !self.opened.touched(t, s) {
             return self;
@@ -242,27 +273,6 @@ impl Transfer {
     }
 }
 
-// The nine bytes at the opening of a frame.
-fn frame_copy(t: &[u16], bytes: &[u8], f: u16) -> [u8; 9]
-    requires { RightTable t.now × (length bytes.now ≡ buffer_size t.now) × (frame_there t.now (Frame f) ≡ true) }
-    ensures { result ≡ cond (published t.now f) (copied t.now (Frame f) (frame_data t.now bytes.now f)) (replicate 9 255) }
-{
-    if !frames::published(t, f) {
-        return [255; 9];
-    }
-    let at = 8 * (f as usize);
-    let end = at + frames::length(t, f) as usize;
-    Opened::Frame(f).copied(t, &bytes[at..end])
-}
-
-// The nine bytes at the opening of a request: the frame cut from the bytes lent now.
-fn request_copy(t: &[u16], message: Message, lent: &[u8]) -> [u8; 9]
-    ensures { result ≡ copied t.now Request (request_data message lent.now) }
-{
-    let bytes = request_data(message, lent);
-    Opened::Request.copied(t, &bytes[0..8])
-}
-
 // The eight data bytes of a request.
 fn request_data(message: Message, lent: &[u8]) -> [u8; 8]
     ensures { result ≡ request_data message lent.now }
@@ -274,34 +284,6 @@ fn request_data(message: Message, lent: &[u8]) -> [u8; 8]
         Ok(Some(bytes)) => bytes,
         _ => [255; 8],
     }
-}
-
-// Up to eight bytes with a checksum behind them, the unused ones of the nine 255.
-fn nine(bytes: &[u8], checksum: u8) -> [u8; 9]
-    requires { length bytes.now ≤ 8 }
-    ensures { result ≡ bytes.now ++ (checksum ∷ replicate (8 - length bytes.now) 255) }
-{
-    let mut all = [255; 9];
-    let n = bytes.len();
-    all[..n].copy_from_slice(bytes);
-    all[n] = checksum;
-    all
-}
-
-// The protected identifier of an identifier.
-fn protected_byte(id: u8) -> u8
-    requires { id < 64 }
-    ensures { result ≡ protected_byte id }
-{
-    identifier::build(id).unwrap_or(0)
-}
-
-// The checksum of 1 to 8 data bytes.
-fn checksum_byte(id: u8, wish: Model, bytes: &[u8]) -> u8
-    requires { (id < 64) × (1 ≤ length bytes.now) × (length bytes.now ≤ 8) }
-    ensures { result ≡ checksum_byte id wish bytes.now }
-{
-    checksum::of(id, wish, bytes).unwrap_or(0)
 }
 
 // Stores the data of a frame in its eight bytes of the buffer.

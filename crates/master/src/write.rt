@@ -1,7 +1,9 @@
 // The two writes.
 ghost use Rattle.std.specs.Prelude.{true, false, ◌≡◌};
-ghost use Rattle.master.specs.Admit.{Leaves};
-ghost use Rattle.master.specs.Write.{writable as writableOf, marked as markedOf, write_verdict, write_of};
+ghost use Rattle.cluster.specs.Check.{then};
+ghost use Rattle.master.specs.Admit.{Leaves, admitted};
+ghost use Rattle.master.specs.Parts.{Judged};
+ghost use Rattle.master.specs.Write.{writable as writableOf, marked as markedOf, write_of};
 ghost use Rattle.master.specs.Put.{scalar, array, put};
 ghost use Rattle.master.specs.Answers.{handed, write_told};
 ghost use Rattle.master.specs.Calls as call;
@@ -21,10 +23,9 @@ impl State {
         ensures leaves { Leaves (write_of t.now self.old bytes.old (put s (scalar v))) (handed self.new result) bytes.new }
         ensures told { write_told result ≡ call_told t.now (held self.old bytes.old) (call.write (put s (scalar v))) }
     {
-        self.judge_scalar(t, bytes.len(), s, v)?;
-        let right = Right { words: t };
-        placed::put_scalar(right, bytes, s, v as u16);
-        *self = self.marked(right, s);
+        let t = self.judge_write(t, bytes.len(), s, false, values::scalar_fits(t, s, v))?;
+        placed::put_scalar(t, bytes, s, v as u16);
+        *self = self.marked(t, s);
         Ok(())
     }
 
@@ -39,32 +40,26 @@ impl State {
         ensures leaves { Leaves (write_of t.now self.old bytes.old (put s (array values.now))) (handed self.new result) bytes.new }
         ensures told { write_told result ≡ call_told t.now (held self.old bytes.old) (call.write (put s (array values.now))) }
     {
-        self.judge_array(t, bytes.len(), s, values)?;
-        let right = Right { words: t };
-        placed::put_array(right, bytes, s, values);
-        *self = self.marked(right, s);
+        let t = self.judge_write(t, bytes.len(), s, true, values::array_fits(t, s, values))?;
+        placed::put_array(t, bytes, s, values);
+        *self = self.marked(t, s);
         Ok(())
     }
 
-    // The verdict on a write of a scalar.
-    fn judge_scalar(self, t: &[u16], size: usize, s: u16, v: u32) -> Result<(), Refusal>
-        ensures { result ≡ write_verdict t.now size self (put s (scalar v)) }
+    // Judges a write of a scalar or an array, which fits its signal or not, and hands the right table on.
+    fn judge_write(
+        self,
+        t: &[u16],
+        size: usize,
+        s: u16,
+        array: bool,
+        fits: bool,
+    ) -> Result<Right, Refusal>
+        ensures { Judged t.now (then (admitted t.now size self) (writableOf t.now s array fits)) result }
     {
-        self.admit(t, size)?;
-        writable(Right { words: t }, s, false, values::scalar_fits(t, s, v))
-    }
-
-    // The verdict on a write of an array.
-    fn judge_array(self, t: &[u16], size: usize, s: u16, values: &[u8]) -> Result<(), Refusal>
-        ensures { result ≡ write_verdict t.now size self (put s (array values.now)) }
-    {
-        self.admit(t, size)?;
-        writable(
-            Right { words: t },
-            s,
-            true,
-            values::array_fits(t, s, values),
-        )
+        let right = self.right_table(t, size)?;
+        writable(right, s, array, fits)?;
+        Ok(right)
     }
 
     // The frames of a signal are pending, and an open transfer of one of them was written since.
@@ -75,7 +70,7 @@ impl State {
         let mut pending = self.pending;
         placed::mark(t, s, &mut pending);
         self.with_pending(pending)
-            .with_transfer(self.transfer.rewritten(t.words, s))
+            .with_transfer(self.transfer.rewritten(t, s))
     }
 }
 

@@ -6,4 +6,7 @@ use Rattle.master.specs.Ahead.{pending_count}
 use Rattle.master.proofs.pending.count_pending.Given as goal
 
 abbrev pub invariant-loop-m : goal.invariant-loop-m
-invariant-loop-m l = (l.n ≤ l.m) × (l.n + pending_count l.pending (members_from l.t l.l l.m (l.end - l.m)) ≡ pending_count l.pending (members_from l.t l.l 0 l.end))
+invariant-loop-m l =
+    (l.n ≤ l.m)
+    × (l.n + pending_count l.pending (members_from l.t.words.now l.l l.m (l.end - l.m))
+    ≡ pending_count l.pending (members_from l.t.words.now l.l 0 l.end))

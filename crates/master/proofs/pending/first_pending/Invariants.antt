@@ -5,4 +5,4 @@ use Rattle.master.specs.Tick.{first_pending}
 use Rattle.master.proofs.pending.first_pending.Given as goal
 
 abbrev pub invariant-loop-m : goal.invariant-loop-m
-invariant-loop-m l = first_pending l.pending (members l.t l.l) ≡ first_pending l.pending (members_from l.t l.l l.m (l.n - l.m))
+invariant-loop-m l = first_pending l.pending (members l.t.words.now l.l) ≡ first_pending l.pending (members_from l.t.words.now l.l l.m (l.n - l.m))

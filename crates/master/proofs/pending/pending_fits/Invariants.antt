@@ -5,4 +5,4 @@ use Rattle.master.specs.Fits.{pending_fits}
 use Rattle.master.proofs.pending.pending_fits.Given as goal
 
 abbrev pub invariant-loop-f : goal.invariant-loop-f
-invariant-loop-f l = pending_fits l.t 0 l.pending ≡ pending_fits l.t l.f (drop l.f l.pending)
+invariant-loop-f l = pending_fits l.t 0 l.fn.pending ≡ pending_fits l.t l.f (drop l.f l.fn.pending)

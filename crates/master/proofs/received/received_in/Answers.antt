@@ -1,39 +1,28 @@
 -- The placements before are received.
-use mathlib.Core.Path.{◌≡◌, refl, ◌∙◌, ap}
+use mathlib.Core.Path.{refl, sym, ◌∙◌}
 use native.Mathlib.Omega.{arith}
-use borrow.Author.Rules.{rules}
-use lib.ListN.{length, length-set}
-use Rattle.cluster.specs.Table.{placement_count}
+use Rattle.cluster.proofs.HeaderLaws.{signal_count_lem}
+use Rattle.cluster.proofs.PlacementLaws.{placement_signal_below}
 use Rattle.master.specs.Received.{received_up_to}
 use Rattle.master.proofs.ReceivedSteps.{up_to_here, up_to_not}
-use Rattle.master.proofs.received.received_in.Lts.{then-s-lt-SIGNALS, else-s-lt-SIGNALS}
+use Rattle.master.proofs.received.received_in.Goals.{then-frame-f, else-frame-f}
 use Rattle.master.proofs.received.received_in.Goals as goal
 
 pub loop-k-init : goal.loop-k-init
 unfolding received_up_to
-loop-k-init c = (c.count-n.ensures, omega arith, search rules, refl)
+loop-k-init c = refl
+
+pub bounds-next-s : goal.bounds-next-s
+bounds-next-s c =
+    let ok = c.args.t.right in
+    let below = placement_signal_below _ ok c.loop-k.k (omega (arith, c.count-n.ensures, c.loop-k-test.true)) in
+    omega (arith, c.signal-s.ensures, below, signal_count_lem _ ok)
 
 pub loop-k-preserved : goal.loop-k-preserved
 loop-k-preserved c =
-    let loop = c.loop-k in
-    let is = c.receiver-s.ensures in
-    let more = c.loop-k-test.true in
-    elim c.if-s-lt-SIGNALS.branch [
-      | then-s-lt-SIGNALS w ↦ (
-        loop.invariant.0,
-        omega arith,
-        ap length w.next-is ∙ length-set loop.next _ _ ∙ loop.invariant.2,
-        w.next-is ∙ up_to_here _ _ loop.k _ _ loop.invariant.3 loop.invariant.2 _ is w.if-s-lt-SIGNALS.true,
-      )
-      | else-s-lt-SIGNALS w ↦ (
-        loop.invariant.0,
-        omega arith,
-        rw w.next-is loop.invariant.2,
-        w.next-is ∙ up_to_not _ _ loop.k _ _ loop.invariant.3 loop.invariant.2 _ is w.if-s-lt-SIGNALS.false,
-      )
+    let at = c.loop-k in
+    let is = c.frame.ensures in
+    elim c.if-frame-f.branch [
+      | then-frame-f w ↦ rw (w.next-is, w.signal-s.ensures) (up_to_here _ _ at.k _ _ at.invariant (sym is ∙ w.if-frame-f.true))
+      | else-frame-f w ↦ rw w.next-is (up_to_not _ _ at.k _ _ at.invariant (λ e. w.if-frame-f.false (is ∙ e)))
     ]
-
-pub returns : goal.returns
-returns c =
-    let e : c.loop-k.k ≡ placement_count c.args.t.now = omega (arith, c.loop-k-test.false, c.loop-k.invariant) in
-    rw e at c.loop-k.invariant.3

@@ -1,27 +1,30 @@
 -- The verdict on the pairs from here on is that on the pair at hand, and on those behind it.
-use Rattle.std.proofs.Common.{◌∙◌, sym, refl, arith}
-use Rattle.master.proofs.RowTurns.{first_turn, first_end}
+use mathlib.Core.Path.{sym, ◌∙◌}
+use mathlib.Core.Logic.{inl, inr}
+use Rattle.master.specs.WriteRow.{first_bad}
+use Rattle.master.proofs.RowTurns.{no_signal_left, no_value_left, first_turn}
 use Rattle.master.proofs.row.first_bad.Goals as goal
 
 pub loop-i-init : goal.loop-i-init
-loop-i-init c = refl
-
-pub bounds-values-i : goal.bounds-values-i
-bounds-values-i c = omega (arith, c.requires.1, c.loop-i-test.true)
+loop-i-init c =
+    let items = c.enumerate-i-items.ensures in
+    rw (c.into_iter-i-iterator.ensures.into_iter_gives, items.source, items.count, c.zip.ensures.first, c.zip.ensures.second.0, c.iter.ensures.rest)
 
 pub returns-in-Err : goal.returns-in-Err
 returns-in-Err c =
-    let a = c.args in
-    let turn = first_turn a.t.now a.signals.now a.values.now c.requires.1 c.loop-i.i c.loop-i-test.true in
-    sym (c.loop-i.invariant ∙ turn ∙ rw (← c.scalar_fits-fits.ensures, ← c.in-Err.ensures, c.at.ensures))
+    let step = c.in-Some.ensures.steps in
+    sym ((rw (step.0.0, step.0.1, first_turn) at c.loop-i.invariant) ∙ rw (← c.scalar_fits-fits.ensures, ← c.in-Err.ensures, c.at.ensures, step.1))
 
 pub loop-i-preserved : goal.loop-i-preserved
 loop-i-preserved c =
-    let a = c.args in
-    let turn = first_turn a.t.now a.signals.now a.values.now c.requires.1 c.loop-i.i c.loop-i-test.true in
-    c.loop-i.invariant ∙ turn ∙ rw (← c.scalar_fits-fits.ensures, ← c.in_default.ensures)
+    let step = c.in-Some.ensures.steps in
+    (rw (step.0.0, step.0.1, first_turn) at c.loop-i.invariant) ∙ rw (← c.scalar_fits-fits.ensures, ← c.in_default.ensures, step.2)
 
 pub returns : goal.returns
+unfolding first_bad
 returns c =
-    let a = c.args in
-    sym (c.loop-i.invariant ∙ first_end a.t.now a.signals.now a.values.now c.requires.1 c.loop-i.i (omega (arith, c.loop-i-test.false)) (omega (arith, c.loop-i.auto.i-end)))
+    let left = c.loop-i.i-iterator.iter in
+    elim c.in-None.ensures.steps.0 [
+      | inl e ↦ sym (c.loop-i.invariant ∙ rw (no_signal_left left.a.rest.now left.b.rest.now e.1.0))
+      | inr e ↦ sym (c.loop-i.invariant ∙ rw (no_value_left left.a.rest.now left.b.rest.now e.1.0))
+    ]

@@ -1,48 +1,45 @@
--- The bytes so far, with the later pairs of the row put in, are what is wanted.
+-- The bytes so far, with the pairs of the row that are left put in, are what is wanted.
 use mathlib.Core.Path.{refl, sym, ◌∙◌}
+use mathlib.Core.Logic.{inl, inr}
 use native.Mathlib.Omega.{arith}
+use Rattle.std.proofs.Common.{length-append}
 use Rattle.master.specs.Put.{scalar}
+use Rattle.master.specs.WriteRow.{with_row}
 use Rattle.master.proofs.ReadBack.{value_length}
-use Rattle.master.proofs.RowTurns.{put_turn, put_end, good_turn, good_value}
+use Rattle.master.proofs.RowTurns.{no_signal_left, no_value_left, put_turn, good_turn, good_value}
 use Rattle.master.proofs.row.put_row.Goals as goal
 
-pub loop-i-init : goal.loop-i-init
-loop-i-init c = (omega arith, refl, c.requires.2, refl)
+pub loop-s-init : goal.loop-s-init
+loop-s-init c =
+    let zip = c.zip-s-items.ensures in (
+      refl,
+      rw (c.into_iter-s-iterator.ensures.into_iter_gives, zip.first, zip.second.0, c.iter.ensures.rest) c.requires,
+      rw (c.into_iter-s-iterator.ensures.into_iter_gives, zip.first, zip.second.0, c.iter.ensures.rest),
+    )
 
-pub bounds-values-i : goal.bounds-values-i
-bounds-values-i c = omega (arith, c.requires.1, c.loop-i-test.true)
+pub overflow_cast-v : goal.overflow_cast-v
+overflow_cast-v c =
+    let step = c.in-Some.ensures.steps in
+    record { fits = omega (arith, good_value _ _ _ _ _ _ (rw (step.0, step.1) at c.loop-s.invariant.1) c.args.t.right) }
 
-pub overflow_cast-values : goal.overflow_cast-values
-overflow_cast-values c =
-    let a = c.args in
-    let at = c.loop-i in
-    let below = c.loop-i-test.true in
-    record {
-      fits = omega (
-        arith,
-        good_value a.t.now a.signals.now a.values.now c.requires.1 at.i below at.invariant.2 c.requires.0,
-      );
-    }
-
-pub loop-i-preserved : goal.loop-i-preserved
-loop-i-preserved c =
-    let a = c.args in
-    let pre = c.requires in
-    let at = c.loop-i in
-    let below = c.loop-i-test.true in
+pub loop-s-preserved : goal.loop-s-preserved
+loop-s-preserved c =
+    let at = c.loop-s.invariant in
+    let step = c.in-Some.ensures.steps in
     let put = c.put_scalar.ensures in (
-      omega (arith, below),
-      rw put (value_length a.t.now at.bytes _ (scalar _)) ∙ at.invariant.1,
-      good_turn a.t.now a.signals.now a.values.now pre.1 at.i below at.invariant.2,
-      at.invariant.3 ∙ put_turn a.t.now a.signals.now a.values.now pre.1 at.i below at.bytes ∙ rw put,
+      rw put (value_length _ c.loop-s.bytes _ (scalar _)) ∙ at.0,
+      rw (length-append c.loop-s.yielded _) (good_turn _ _ _ _ _ _ (rw (step.0, step.1) at at.1)),
+      (rw (step.0, step.1) at at.2) ∙ put_turn _ 0 _ _ _ _ c.loop-s.bytes ∙ rw put,
     )
 
 pub shape_of-bytes : goal.shape_of-bytes
-shape_of-bytes c = c.loop-i.invariant.1
+shape_of-bytes c = c.loop-s.invariant.0
 
 pub returns : goal.returns
+unfolding with_row
 returns c =
-    let a = c.args in
-    let at = c.loop-i in
-    sym
-    (at.invariant.3 ∙ put_end a.t.now a.signals.now a.values.now c.requires.1 at.i c.loop-i-test.false at.invariant.0 at.bytes)
+    let left = c.loop-s.s-iterator in
+    elim c.in-None.ensures.steps [
+      | inl e ↦ sym (c.loop-s.invariant.2 ∙ rw (no_signal_left left.a.rest.now left.b.rest.now e.1.0))
+      | inr e ↦ sym (c.loop-s.invariant.2 ∙ rw (no_value_left left.a.rest.now left.b.rest.now e.1.0))
+    ]

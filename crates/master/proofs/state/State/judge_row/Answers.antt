@@ -1,23 +1,25 @@
 -- Each way out has the tests that led to it, and what the calls answer is put in.
-use Rattle.std.proofs.Common.{◌∙◌, sym}
 use borrow.Author.Tests.{eq-eqb, ne_eqb}
 use Rattle.refusal.proofs.PassedOn.{passed_on}
-use Rattle.master.proofs.Admitted.{admitted_table}
 use Rattle.master.specs.WriteRow.{row_verdict}
 use Rattle.master.proofs.state.State.judge_row.Goals as goal
 
-pub returns-in_err-admit : goal.returns-in_err-admit
+pub returns-in_err-right : goal.returns-in_err-right
 unfolding row_verdict
-returns-in_err-admit c = passed_on _ _ c.from_residual.ensures.1 ∙ rw (← c.in_err-admit.ensures.value)
-
-pub first_bad-requires : goal.first_bad-requires
-first_bad-requires c = (admitted_table _ _ _ (sym c.in_ok-admit.ensures.value), c.if-signals-values.false)
+returns-in_err-right c = rw (passed_on _ _ c.from_residual.ensures.1) (rw c.in_err-right.ensures)
 
 pub returns-then-signals-values : goal.returns-then-signals-values
 unfolding row_verdict
-returns-then-signals-values c =
-    rw (← c.in_ok-admit.ensures.value, ne_eqb _ _ c.if-signals-values.true) c.refused.ensures
+returns-then-signals-values c = rw c.refused.ensures (rw (c.in_ok-right.ensures.0, ne_eqb _ _ c.if-signals-values.true))
+
+pub returns-in_err-first_bad : goal.returns-in_err-first_bad
+unfolding row_verdict
+returns-in_err-first_bad c =
+    let bad = rw c.in_ok-right.ensures.1 at c.in_err-first_bad.ensures in
+    rw (passed_on _ _ c.from_residual-in_err-first_bad.ensures.1) (rw (c.in_ok-right.ensures.0, eq-eqb _ _ c.if-signals-values.false, ← bad))
 
 pub returns : goal.returns
 unfolding row_verdict
-returns c = rw (← c.in_ok-admit.ensures.value, eq-eqb _ _ c.if-signals-values.false) c.first_bad.ensures
+returns c =
+    let good = rw c.in_ok-right.ensures.1 at c.in_ok-first_bad.ensures in
+    (rw (c.in_ok-right.ensures.0, eq-eqb _ _ c.if-signals-values.false, ← good), c.in_ok-right.ensures.1)

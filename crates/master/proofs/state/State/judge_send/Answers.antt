@@ -25,9 +25,14 @@ returns-then-size-lt1 c =
 pub returns-then-is_sending : goal.returns-then-is_sending
 unfolding send_verdict
 returns-then-is_sending c =
-    rw (← c.buffer_size.ensures, ← c.in_ok-admit.ensures.value, le-leb _ _ c.if-size-lt1.false, le-leb _ _ c.if-size.false, ← c.is_sending.ensures, c.if-is_sending.true) c.refused-then-is_sending.ensures
+    let low = le-leb _ _ c.if-size-lt1.false in
+    let high = le-leb _ _ c.if-size.false in
+    rw (← c.buffer_size.ensures, ← c.in_ok-admit.ensures.value, low, high, ← c.is_sending.ensures, c.if-is_sending.true)
+    c.refused-then-is_sending.ensures
 
 pub returns : goal.returns
 unfolding send_verdict
 returns c =
-    rw (← c.buffer_size.ensures, ← c.in_ok-admit.ensures.value, le-leb _ _ c.if-size-lt1.false, le-leb _ _ c.if-size.false, ← c.is_sending.ensures, c.if-is_sending.false)
+    let low = le-leb _ _ c.if-size-lt1.false in
+    let high = le-leb _ _ c.if-size.false in
+    rw (← c.buffer_size.ensures, ← c.in_ok-admit.ensures.value, low, high, ← c.is_sending.ensures, c.if-is_sending.false)

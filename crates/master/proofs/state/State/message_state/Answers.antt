@@ -9,7 +9,9 @@ pub returns-in_err-admit : goal.returns-in_err-admit
 unfolding message_of
 returns-in_err-admit c =
     let a = c.args in
-    let all = message_told_lem a.t.now a.self (c.from_residual.result) (passed_on _ _ c.from_residual.ensures.1 ∙ rw (← c.buffer_size.ensures, ← c.in_err-admit.ensures.value)) in
+    let all =
+    message_told_lem a.t.now a.self (c.from_residual.result)
+    (passed_on _ _ c.from_residual.ensures.1 ∙ rw (← c.buffer_size.ensures, ← c.in_err-admit.ensures.value)) in
     record { value = all.0; told = all.1 }
 
 pub returns : goal.returns

@@ -1,28 +1,30 @@
 -- Each way out has the tests that led to it, and what the calls answer is put in.
-use Rattle.std.proofs.Common.{◌∙◌, sym, arith, Ok}
+use Rattle.std.proofs.Common.{◌∙◌, arith, Ok}
 use Rattle.refusal.proofs.PassedOn.{passed_on}
 use Rattle.cluster.specs.Lists.{frames_ahead}
 use Rattle.master.specs.Ahead.{ahead_of}
-use Rattle.master.proofs.Verdicts.{ahead_member, ahead_table}
+use Rattle.master.proofs.Verdicts.{ahead_member}
 use Rattle.master.proofs.ToldLaws.{ahead_told_lem}
 use Rattle.master.proofs.state.State.number_ahead.Goals as goal
 
-pub returns-in_err-judge_ahead : goal.returns-in_err-judge_ahead
+pub returns-in_err-t : goal.returns-in_err-t
 unfolding ahead_of frames_ahead
-returns-in_err-judge_ahead c =
+returns-in_err-t c =
     let a = c.args in
-    let all = ahead_told_lem a.t.now a.self a.f (c.from_residual.result) (passed_on _ _ c.from_residual.ensures.1 ∙ rw (← c.in_err-judge_ahead.ensures)) in
+    let all = ahead_told_lem a.t.now a.self a.f c.from_residual.result (passed_on _ _ c.from_residual.ensures.1 ∙ rw c.in_err-t.ensures) in
     record { value = all.0; told = all.1 }
 
 pub count_pending-requires : goal.count_pending-requires
 count_pending-requires c =
-    let a = c.args in
-    let e = sym c.in_ok-judge_ahead.ensures in
-    (ahead_table a.t.now a.self a.f e, omega (arith, c.of_frame-m.ensures, ahead_member a.t.now a.self a.f e))
+    let t = c.in_ok-t.ensures in
+    omega (arith, c.of_frame-m.ensures, rw (← t.1) at (ahead_member _ _ _ t.0))
 
 pub returns : goal.returns
 unfolding ahead_of frames_ahead
 returns c =
     let a = c.args in
-    let all = ahead_told_lem a.t.now a.self a.f (Ok c.count_pending.result) (rw (← c.in_ok-judge_ahead.ensures, c.count_pending.ensures, c.list-l.ensures, c.of_frame-m.ensures)) in
+    let t = c.in_ok-t.ensures in
+    let all =
+    ahead_told_lem a.t.now a.self a.f (Ok c.count_pending.result)
+    (rw (t.0, ← t.1, c.count_pending.ensures, c.list-l.ensures, c.of_frame-m.ensures)) in
     record { value = all.0; told = all.1 }

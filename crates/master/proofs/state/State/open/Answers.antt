@@ -1,15 +1,11 @@
 -- Each way out has the tests that led to it, and what the calls answer is put in.
 use Rattle.master.specs.Tick.{opens_or_silent}
-use Rattle.master.proofs.Admitted.{open_identifier_lem}
 use Rattle.master.proofs.state.State.open.Goals as goal
 
 pub returns-then-not-is_open : goal.returns-then-not-is_open
 unfolding opens_or_silent
 returns-then-not-is_open c = rw (← c.is_open.ensures, c.if-not-is_open.true)
 
-pub protected-requires : goal.protected-requires
-protected-requires c = open_identifier_lem c.args.t.now c.requires.0 c.args.opened c.requires.2
-
 pub returns : goal.returns
 unfolding opens_or_silent
-returns c = rw (← c.is_open.ensures, c.if-not-is_open.false, c.protected.ensures, c.opening-self.ensures)
+returns c = rw (← c.is_open.ensures, c.if-not-is_open.false, c.protected.ensures, c.transfer-self.ensures)

@@ -11,12 +11,16 @@ pub returns-in_err-judge_select : goal.returns-in_err-judge_select
 unfolding select_of
 returns-in_err-judge_select c =
     let a = c.args in
-    let all = select_told_lem a.t.now a.self.now a.n (handed a.self.now c.from_residual.result) (ap (handed a.self.now) (passed_on _ _ c.from_residual.ensures.1) ∙ rw (← c.in_err-judge_select.ensures)) in
+    let all =
+    select_told_lem a.t.now a.self.now a.n (handed a.self.now c.from_residual.result)
+    (ap (handed a.self.now) (passed_on _ _ c.from_residual.ensures.1) ∙ rw (← c.in_err-judge_select.ensures)) in
     record { value = all.0; told = all.1 }
 
 pub returns : goal.returns
 unfolding select_of
 returns c =
     let a = c.args in
-    let all = select_told_lem a.t.now a.self.now a.n (handed (with_plan a.self.now c.asking-self.result) (Ok tt)) (rw (← c.in_ok-judge_select.ensures, c.asking-self.ensures)) in
+    let all =
+    select_told_lem a.t.now a.self.now a.n (handed (with_plan a.self.now c.asking-self.result) (Ok tt))
+    (rw (← c.in_ok-judge_select.ensures, c.asking-self.ensures)) in
     record { value = all.0; told = all.1 }

@@ -13,7 +13,9 @@ pub returns-in_err-judge_send : goal.returns-in_err-judge_send
 unfolding send_of
 returns-in_err-judge_send c =
     let a = c.args in
-    let all = send_told_lem a.t.now a.self.now a.nad a.size (handed a.self.now c.from_residual.result) (ap (handed a.self.now) (passed_on _ _ c.from_residual.ensures.1) ∙ rw (← c.in_err-judge_send.ensures)) in
+    let all =
+    send_told_lem a.t.now a.self.now a.nad a.size (handed a.self.now c.from_residual.result)
+    (ap (handed a.self.now) (passed_on _ _ c.from_residual.ensures.1) ∙ rw (← c.in_err-judge_send.ensures)) in
     record { value = all.0; told = all.1 }
 
 pub overflow_cast-self : goal.overflow_cast-self
@@ -24,5 +26,7 @@ pub returns : goal.returns
 unfolding send_of
 returns c =
     let a = c.args in
-    let all = send_told_lem a.t.now a.self.now a.nad a.size (handed (with_message a.self.now (Sending (record { nad = a.nad; length = a.size; next = 0 }))) (Ok tt)) (rw (← c.in_ok-judge_send.ensures)) in
+    let all =
+    send_told_lem a.t.now a.self.now a.nad a.size (handed (with_message a.self.now (Sending (record { nad = a.nad; length = a.size; next = 0 }))) (Ok tt))
+    (rw (← c.in_ok-judge_send.ensures)) in
     record { value = all.0; told = all.1 }

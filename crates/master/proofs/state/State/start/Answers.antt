@@ -10,12 +10,19 @@ pub returns-in_err-judge : goal.returns-in_err-judge
 unfolding fresh_of
 returns-in_err-judge c =
     let a = c.args in
-    let all = start_told a.t.now a.bytes.now (started c.from_residual.result) a.bytes.now (record { handed = ap started (passed_on _ _ c.from_residual.ensures.1) ∙ rw (← c.in_err-judge.ensures); kept = rw (← c.in_err-judge.ensures) }) in
+    let all =
+    start_told a.t.now a.bytes.now (started c.from_residual.result) a.bytes.now
+    (record { handed = ap started (passed_on _ _ c.from_residual.ensures.1) ∙ rw (← c.in_err-judge.ensures); kept = rw (← c.in_err-judge.ensures) }) in
     record { leaves = all.0; told = all.1 }
 
 pub returns : goal.returns
 unfolding fresh_of
 returns c =
     let a = c.args in
-    let all = start_told a.t.now a.bytes.now (started (Ok c.fresh.result)) c.fill.new.bytes (record { handed = rw (← c.in_ok-judge.ensures, c.fresh.ensures); kept = rw (← c.in_ok-judge.ensures, c.fill.ensures) (filled_fresh a.t.now a.bytes.now (sym c.in_ok-judge.ensures)) }) in
+    let all =
+    start_told a.t.now a.bytes.now (started (Ok c.fresh.result)) c.fill.new.bytes
+    (record {
+      handed = rw (← c.in_ok-judge.ensures, c.fresh.ensures);
+      kept = rw (← c.in_ok-judge.ensures, c.fill.ensures) (filled_fresh a.t.now a.bytes.now (sym c.in_ok-judge.ensures));
+    }) in
     record { leaves = all.0; told = all.1 }

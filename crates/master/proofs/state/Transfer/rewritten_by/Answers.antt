@@ -11,10 +11,10 @@ pub loop-s-preserved : goal.loop-s-preserved
 loop-s-preserved c =
     let a = c.args in
     let at = c.loop-s in
-    at.invariant ∙ rewrites_turn a.t.now a.signals.now at.s-index c.loop-s-test.true at.next ∙ rw c.rewritten-next.ensures
+    at.invariant ∙ rewrites_turn a.t.words.now a.signals.now at.s-index c.loop-s-test.true at.next ∙ rw c.rewritten-next.ensures
 
 pub returns : goal.returns
 returns c =
     let a = c.args in
     let at = c.loop-s in
-    sym (at.invariant ∙ rewrites_end a.t.now a.signals.now at.s-index c.loop-s-test.false (omega (arith, at.auto.s-index-end)) at.next)
+    sym (at.invariant ∙ rewrites_end a.t.words.now a.signals.now at.s-index c.loop-s-test.false (omega (arith, at.auto.s-index-end)) at.next)

@@ -5,4 +5,4 @@ use Rattle.master.specs.WriteRow.{rewritten_by}
 use Rattle.master.proofs.state.Transfer.rewritten_by.Given as goal
 
 abbrev pub invariant-loop-s : goal.invariant-loop-s
-invariant-loop-s l = rewritten_by l.t l.signals l.initial.next ≡ rewritten_by l.t (drop l.s-index l.signals) l.next
+invariant-loop-s l = rewritten_by l.t.words.now l.signals l.initial.next ≡ rewritten_by l.t.words.now (drop l.s-index l.signals) l.next

@@ -1,14 +1,6 @@
 -- Each way out has the tests that led to it, and what the calls answer is put in.
-use Rattle.std.proofs.Common.{length}
 use Rattle.master.specs.Byte.{received_byte}
-use Rattle.master.proofs.Verdicts.{byte_count_high}
-use Rattle.master.proofs.state.State.received_byte.Goals as goal
-
-pub with_byte-nine-requires : goal.with_byte-nine-requires
-with_byte-nine-requires c = byte_count_high c.args.t.now (length c.args.bytes.now) c.args.self.now c.requires
-
-pub passed-requires : goal.passed-requires
-passed-requires c = byte_count_high c.args.t.now (length c.args.bytes.now) c.args.self.now c.requires
+use Rattle.master.proofs.closing.InTransfer.received_byte.Goals as goal
 
 pub returns-then-early : goal.returns-then-early
 unfolding received_byte
