@@ -2,7 +2,7 @@
 ghost use Rattle.std.specs.Prelude.{◌≡◌, ◌+◌, ◌<◌, ◌≤◌, length};
 ghost use Rattle.cluster.specs.Check.{entry_faults};
 ghost use Rattle.cluster.specs.Columns.{target_right};
-ghost use Rattle.cluster.specs.Kinds.{kind_of};
+ghost use Rattle.cluster.specs.Kinds.{kind_of, KindSays};
 ghost use Rattle.cluster.specs.Lists.{first_entry, next_entry};
 ghost use Rattle.cluster.specs.Passed.{EntriesPassed};
 ghost use Rattle.cluster.specs.Right.{entry_right};
@@ -29,6 +29,7 @@ pub fn schedule(t: &[u16], e: u16) -> u16
 }
 
 // The kind of an entry: 0 frame, 1 list, 2 request, 3 response.
+// Kept: the number that this public function promises; `kind_of` stands beside it.
 pub fn kind(t: &[u16], e: u16) -> u16
     ensures { result ≡ entry_kind t.now e }
 {
@@ -48,7 +49,8 @@ impl EntryKind {
     // The kind that a word of the table stands for.
     #[tactic(auto, unfolding(crate::specs::Kinds::kind_of))]
     pub fn of(word: u16) -> Option<EntryKind>
-        ensures { result ≡ kind_of word }
+        ensures value { result ≡ kind_of word }
+        ensures says { KindSays word result }
     {
         match word {
             0 => Some(EntryKind::Frame),
@@ -62,7 +64,8 @@ impl EntryKind {
 
 // The kind of an entry by its name; none where the word is no kind, as in no right table.
 pub fn kind_of(t: &[u16], e: u16) -> Option<EntryKind>
-    ensures { result ≡ kind_of (entry_kind t.now e) }
+    ensures value { result ≡ kind_of (entry_kind t.now e) }
+    ensures says { KindSays (entry_kind t.now e) result }
 {
     EntryKind::of(kind(t, e))
 }

@@ -21,6 +21,7 @@ pub fn count(t: &[u16]) -> u16
 }
 
 // The kind of a signal: 0 scalar, 1 array.
+// Kept: the number that this public function promises; `is_array` stands beside it.
 pub fn kind(t: &[u16], s: u16) -> u16
     ensures { result ≡ signal_kind t.now s }
 {

@@ -9,24 +9,26 @@ use crate::send::MessageAnswer;
 use crate::state::{Message, Opened, Sending};
 use transport::cutting;
 
+// The message state that is told of a message.
+impl From<Message> for MessageAnswer {
+    ghost from_gives = { λ message answer. answer ≡ told_of message };
+
+    fn from(message: Message) -> MessageAnswer {
+        match message {
+            Message::None => MessageAnswer::None,
+            Message::Sending(_) => MessageAnswer::Sending,
+            Message::Completed => MessageAnswer::Completed,
+            Message::Failed => MessageAnswer::Failed,
+        }
+    }
+}
+
 impl Message {
     // Whether a message is being sent.
     pub fn is_sending(self) -> bool
         ensures { result ≡ is_sending self }
     {
         matches!(self, Message::Sending(_))
-    }
-
-    // The message state.
-    pub(crate) fn told(self) -> MessageAnswer
-        ensures { result ≡ told_of self }
-    {
-        match self {
-            Message::None => MessageAnswer::None,
-            Message::Sending(_) => MessageAnswer::Sending,
-            Message::Completed => MessageAnswer::Completed,
-            Message::Failed => MessageAnswer::Failed,
-        }
     }
 
     // After a successful transfer: a request moves on to the next frame, or the message is completed.

@@ -41,7 +41,7 @@ impl State {
         ensures told { message_told result ≡ call_told t.now (held self []) call.message_state }
     {
         self.admit(t, buffer_size(t))?;
-        Ok(self.message.told())
+        Ok(self.message.into())
     }
 
     // The verdict on a send.

@@ -14,6 +14,7 @@ use crate::closing::InTransfer;
 use crate::pending::first_pending;
 use crate::state::{Message, Opened, Plan, State};
 use crate::transfer::{Known, Opening};
+use cluster::entries::EntryKind;
 use cluster::right::Right;
 use cluster::{Limits, entries};
 use refusal::Refusal;
@@ -113,10 +114,10 @@ fn slot_opens(t: Right, pending: [bool; Limits::FRAMES], message: Message, e: u1
     ensures { result ≡ slot_opens t.entry.words.now pending message e }
 {
     let target = entries::target(t.words, e);
-    match entries::kind(t.words, e) {
-        0 => Opened::Frame(target),
-        1 => first_pending(t, pending, target),
-        2 => request_slot(message),
+    match entries::kind_of(t.words, e) {
+        Some(EntryKind::Frame) => Opened::Frame(target),
+        Some(EntryKind::List) => first_pending(t, pending, target),
+        Some(EntryKind::Request) => request_slot(message),
         _ => Opened::Response,
     }
 }

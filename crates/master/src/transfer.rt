@@ -3,7 +3,7 @@ ghost use Rattle.std.specs.Prelude.{true, cond, ◌≡◌, ◌+◌, ◌*◌, ◌
 ghost use Rattle.cluster.specs.Table.{published};
 ghost use Rattle.master.specs.Admit.{buffer_size};
 ghost use Rattle.master.specs.Fits.{frame_there, entry_opens, count_fits};
-ghost use Rattle.master.specs.declared.state.Opened.TheVariants.{Frame, Request};
+ghost use Rattle.master.specs.declared.state.Opened.TheVariants.{Frame, Request, Response};
 ghost use Rattle.master.specs.Transfers.{format_of, is_open, open_length, sends as sendsOf, open_protected};
 ghost use Rattle.master.specs.Transfers.{open_checksum, frame_data, request_data, copied, opening};
 ghost use Rattle.master.specs.Fresh.{no_transfer};
@@ -14,6 +14,7 @@ ghost use Rattle.master.specs.Byte.{early as earlyOf, checksum_right};
 
 use crate::placed;
 use crate::state::{Message, Opened, Transfer};
+use cluster::entries::EntryKind;
 use cluster::right::Right;
 use cluster::{entries, frames, members};
 use transport::cutting;
@@ -117,7 +118,7 @@ impl Opened {
             Opened::Nothing => true,
             Opened::Frame(f) => opens_frame(t, e, f),
             Opened::Request => opens_request(t, message, e),
-            Opened::Response => entries::kind(t, e) == 3,
+            Opened::Response => opens_response(t, e),
         }
     }
 }
@@ -302,9 +303,9 @@ fn opens_frame(t: &[u16], e: u16, f: u16) -> bool
     ensures { result ≡ entry_opens t.now None e (Frame f) }
 {
     let target = entries::target(t, e);
-    match entries::kind(t, e) {
-        0 => target == f,
-        1 => members::has(t, target, f),
+    match entries::kind_of(t, e) {
+        Some(EntryKind::Frame) => target == f,
+        Some(EntryKind::List) => members::has(t, target, f),
         _ => false,
     }
 }
@@ -314,5 +315,13 @@ fn opens_frame(t: &[u16], e: u16, f: u16) -> bool
 fn opens_request(t: &[u16], message: Message, e: u16) -> bool
     ensures { result ≡ entry_opens t.now message e Request }
 {
-    entries::kind(t, e) == 2 && message.is_sending()
+    matches!(entries::kind_of(t, e), Some(EntryKind::Request)) && message.is_sending()
+}
+
+// Whether an entry can open a response.
+#[tactic(auto, unfolding(crate::specs::Fits::entry_opens))]
+fn opens_response(t: &[u16], e: u16) -> bool
+    ensures { result ≡ entry_opens t.now None e Response }
+{
+    matches!(entries::kind_of(t, e), Some(EntryKind::Response))
 }

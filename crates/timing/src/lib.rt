@@ -80,6 +80,7 @@ fn longest_members(t: Right) -> [u16; Limits::MEMBERS]
 }
 
 // The data bytes of an entry's longest frame, with the longest member of each list at hand.
+#[tactic(auto, unfolding(crate::specs::Slots::entry_bytes))]
 fn entry_bytes(t: Right, e: u16, longest: &[u16; Limits::MEMBERS]) -> u16
     requires { (e < entry_count t.words.now) × Longest t.words.now longest.now }
     ensures { result ≡ entry_bytes t.entry.words.now e }
@@ -88,9 +89,7 @@ fn entry_bytes(t: Right, e: u16, longest: &[u16; Limits::MEMBERS]) -> u16
     match entries::kind_of(t.words, e) {
         Some(EntryKind::Frame) => frames::length(t.words, target),
         Some(EntryKind::List) => longest[target as usize],
-        Some(EntryKind::Request) => 8,
-        Some(EntryKind::Response) => 8,
-        None => 8,
+        _ => 8,
     }
 }
 

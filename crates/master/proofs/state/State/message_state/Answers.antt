@@ -18,5 +18,5 @@ pub returns : goal.returns
 unfolding message_of
 returns c =
     let a = c.args in
-    let all = message_told_lem a.t.now a.self (Ok c.told.result) (rw (← c.buffer_size.ensures, ← c.in_ok-admit.ensures.value, c.told.ensures)) in
+    let all = message_told_lem a.t.now a.self (Ok c.into.result) (rw (← c.buffer_size.ensures, ← c.in_ok-admit.ensures.value, c.into.ensures)) in
     record { value = all.0; told = all.1 }
