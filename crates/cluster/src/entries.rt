@@ -85,7 +85,7 @@ pub fn delay(t: &[u16], e: u16) -> u16
 }
 
 // How many schedules there are.
-// Kept: a twin of `members::lists`, one chain each: a function for both would take the field as a closure, and be as long as both.
+// Kept: a twin of `members::lists`, one chain each: a function for both would take the field as a closure, with a contract longer than both.
 pub fn schedules(t: &[u16]) -> usize
     ensures value { result ≡ schedule_count t.now }
     ensures upper_bound { result ≤ 65536 }
