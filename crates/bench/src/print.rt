@@ -11,7 +11,7 @@ use script::print;
 #[derive(Drop)]
 pub(crate) struct Printer {
     out: [u8; OUTPUT_BYTES],
-    // Kept: how many there are stands beside the buffer, since memory is fixed.
+    // Kept: `script::print` puts a text at a place of a lent buffer and tells where it ends, which this is.
     printed: usize,
     failed: bool,
     ghost in_buffer: { printed ≤ OUTPUT_BYTES },

@@ -1,12 +1,13 @@
 -- What reading a line comes to, pair by pair.
-use Rattle.std.proofs.Common.{◌≡◌, ℕ, suc, ◌+◌, ◌*◌, ◌<◌, ◌≤◌, true, false, Option, Some, None, List, [], ◌∷◌, ◌++◌, length, get_or, take, set, sym, refl, ◌∙◌, add-one, arith, length-set, take-suc-set, le-ltb, lt-ltb, eq-eqb, ne_eqb, le-leb}
+use Rattle.std.proofs.Common.{◌≡◌, ℕ, suc, ◌+◌, ◌*◌, ◌<◌, ◌≤◌, true, false, Option, Some, None, List, [], ◌∷◌, ◌++◌, length, get_or, sym, refl, ◌∙◌, add-one, arith, length-append, le-ltb, lt-ltb, eq-eqb, ne_eqb, le-leb}
 use Rattle.std.proofs.Common.{Bool, ◌%◌, min, ap, append-nil}
 use mathlib.Core.Bool.{and-false}
-use borrow.Author.Tests.{lt-leb}
+use borrow.Author.Tests.{lt-leb, eqb-true, eqb-false}
+use Rattle.std.proofs.Common.{eqb}
+use Rattle.buslog.specs.Parts.{part_byte}
 use lib.Seq.{append_snoc}
 use Rattle.wire.proofs.Tests.{whether}
 use Rattle.buslog.specs.Pairs.{digit_of, is_pair, byte_of, pair_byte, are_pairs, pair_bytes, line_bytes}
-use Rattle.buslog.specs.Parts.{Holds}
 
 -- ---- one pair
 
@@ -86,95 +87,81 @@ more : (xs : List ℕ) → 0 < length xs → go_on xs ≡ are_pairs xs
 more [] h = absurd (omega arith)
 more (x ∷ xs) h = refl
 
--- the bytes of the pairs passed are at the front, and the line is what they and the rest make of it
-pub record LeftPairs (line rest : List ℕ) (size n : ℕ) (bytes : List ℕ) : Type 0 where
+-- the line is what the bytes of the pairs passed and the rest make of it
+pub record LeftPairs (line rest : List ℕ) (size : ℕ) (bytes : List ℕ) : Type 0 where
   pub three : size ≡ 3
   pub whole : 0 < length rest → length rest % 3 ≡ 2
-  pub room : 3 * n + length rest ≤ 30
-  pub going : 0 < length rest → 3 * n + length rest ≡ length line
-  pub gone : length rest ≡ 0 → 3 * n ≡ length line + 1
-  pub ten : length bytes ≡ 10
+  pub room : 3 * length bytes + length rest ≤ 30
+  pub some : length rest ≡ 0 → 1 ≤ length bytes
   pub pairs : are_pairs line ≡ go_on rest
-  pub front : pair_bytes line ≡ take n bytes ++ pair_bytes rest
+  pub front : pair_bytes line ≡ bytes ++ pair_bytes rest
 
-pub pairs_begin : (line bytes : List ℕ) → length line ≤ 29 → length line % 3 ≡ 2 → length bytes ≡ 10 → LeftPairs line line 3 0 bytes
-pairs_begin line bytes h e t = record {
+pub pairs_begin : (line : List ℕ) → length line ≤ 29 → length line % 3 ≡ 2 → LeftPairs line line 3 []
+pairs_begin line h e = record {
   three = refl;
   whole = λ k. e;
   room = omega arith;
-  going = λ k. omega arith;
-  gone = λ k. absurd (omega arith);
-  ten = t;
+  some = λ k. absurd (omega arith);
   pairs = sym (more line (omega arith));
   front = refl;
 }
 
--- one byte more at the front
-module _ (bytes : List ℕ) (n b : ℕ) (h : n < length bytes) where
-  one_more : take (n + 1) (set bytes n b) ≡ take n bytes ++ (b ∷ [])
-  one_more = rw add-one (take-suc-set bytes n b h)
-
-  turn : (all old rest : List ℕ) → all ≡ take n bytes ++ old → old ≡ b ∷ rest → all ≡ take (n + 1) (set bytes n b) ++ rest
-  turn all old rest e q = e ∙ rw (q, one_more) (sym (append_snoc (take n bytes) b rest))
-
 -- the next three characters, or the last two
-module _ (line : List ℕ) (n : ℕ) (bytes : List ℕ) where
-  by_byte : (x rest : List ℕ) → LeftPairs line (x ++ rest) 3 n bytes → length x ≡ min 3 (length (x ++ rest)) → 0 < length (x ++ rest)
-      → byte_of (get_or x 0 0) (get_or x 1 0) ≡ None → are_pairs line ≡ false
-  by_byte [] rest l e h q = absurd (omega arith)
-  by_byte (a ∷ []) rest l e h q =
+module _ (line bytes : List ℕ) where
+  by_none : (x rest : List ℕ) → LeftPairs line (x ++ rest) 3 bytes → length x ≡ min 3 (length (x ++ rest)) → 0 < length (x ++ rest)
+      → part_byte x ≡ None → are_pairs line ≡ false
+  unfolding part_byte
+  by_none [] rest l e h q = absurd (omega arith)
+  by_none (a ∷ []) rest l e h q =
       let p : 0 < suc (length rest) = omega arith in
       let w : suc (length rest) % 3 ≡ 2 = l.whole p in
       let m : 1 ≡ min 3 (suc (length rest)) = e in
       absurd (omega arith)
-  by_byte (a ∷ b ∷ x) rest l e h q = l.pairs ∙ pairs_wrong a b (x ++ rest) (no_byte a b q)
+  by_none (a ∷ b ∷ []) rest l e h q = l.pairs ∙ pairs_wrong a b rest (no_byte a b q)
+  by_none (a ∷ b ∷ s ∷ []) rest l e h q =
+      whether (eqb s 32)
+      (λ t. l.pairs ∙ pairs_wrong a b (s ∷ rest) (no_byte a b (rw t at q)))
+      (λ t. l.pairs ∙ pairs_unspaced a b s rest (eqb-false s 32 t))
+  by_none (a ∷ b ∷ s ∷ f ∷ x) rest l e h q = absurd (omega arith)
 
-  by_space : (x rest : List ℕ) → LeftPairs line (x ++ rest) 3 n bytes → length x ≡ 3 → (get_or x 2 0 ≡ 32 → ⊥) → are_pairs line ≡ false
-  by_space [] rest l e q = absurd (omega arith)
-  by_space (a ∷ []) rest l e q = absurd (omega arith)
-  by_space (a ∷ b ∷ []) rest l e q = absurd (omega arith)
-  by_space (a ∷ b ∷ s ∷ x) rest l e q = l.pairs ∙ pairs_unspaced a b s (x ++ rest) q
-
-  by_pair : (x rest : List ℕ) (b : ℕ) → LeftPairs line (x ++ rest) 3 n bytes → length x ≡ min 3 (length (x ++ rest)) → 0 < length (x ++ rest)
-      → byte_of (get_or x 0 0) (get_or x 1 0) ≡ Some b → (length x ≡ 3 → get_or x 2 0 ≡ 32) → LeftPairs line rest 3 (n + 1) (set bytes n b)
-  unfolding are_pairs pair_bytes
-  by_pair [] rest b l e h q s = absurd (omega arith)
-  by_pair (a ∷ []) rest b l e h q s =
+  by_pair : (x rest : List ℕ) (b : ℕ) → LeftPairs line (x ++ rest) 3 bytes → length x ≡ min 3 (length (x ++ rest)) → 0 < length (x ++ rest)
+      → part_byte x ≡ Some b → LeftPairs line rest 3 (bytes ++ (b ∷ []))
+  unfolding are_pairs pair_bytes part_byte
+  by_pair [] rest b l e h q = absurd (omega arith)
+  by_pair (a ∷ []) rest b l e h q =
       let p : 0 < suc (length rest) = omega arith in
       let w : suc (length rest) % 3 ≡ 2 = l.whole p in
       let m : 1 ≡ min 3 (suc (length rest)) = e in
       absurd (omega arith)
-  by_pair (a ∷ c ∷ []) [] b l e h q s = record {
+  by_pair (a ∷ c ∷ []) [] b l e h q = record {
     three = refl;
     whole = λ k. absurd (omega arith);
-    room = omega (arith, l.room);
-    going = λ k. absurd (omega arith);
-    gone = λ k. omega (arith, l.going (omega arith));
-    ten = simp length-set l.ten;
+    room = omega (arith, l.room, length-append bytes (b ∷ []));
+    some = λ k. omega (arith, length-append bytes (b ∷ []));
     pairs = l.pairs ∙ is_pair_lem a c q;
-    front = turn bytes n b (omega (arith, l.room, l.ten)) _ _ _ l.front (ap (λ (k : ℕ). k ∷ []) (sym (is_byte a c q)));
+    front = l.front ∙ rw (is_byte a c q) (sym (append_snoc bytes (pair_byte a c) []));
   }
-  by_pair (a ∷ c ∷ []) (d ∷ rest) b l e h q s = absurd (omega arith)
-  by_pair (a ∷ c ∷ d ∷ []) rest b l e h q s =
+  by_pair (a ∷ c ∷ []) (d ∷ rest) b l e h q = absurd (omega arith)
+  by_pair (a ∷ c ∷ d ∷ []) rest b l e h q =
       let p : 0 < suc (suc (suc (length rest))) = omega arith in
       let v : suc (suc (suc (length rest))) % 3 ≡ 2 = l.whole p in
       let w : length rest % 3 ≡ 2 = omega arith in
-      let o : 3 * n + suc (suc (suc (length rest))) ≤ 30 = l.room in
+      let space : d ≡ 32 = whether (eqb d 32) (λ t. eqb-true d 32 t) (λ t. let bad : ◌≡◌ {A = Option ℕ} None (Some b) = rw t at q in cc) in
+      let q2 : byte_of a c ≡ Some b = rw (eq-eqb d 32 space) at q in
+      let o : 3 * length bytes + suc (suc (suc (length rest))) ≤ 30 = l.room in
       record {
         three = refl;
         whole = λ k. w;
-        room = omega (arith, l.room);
-        going = λ k. omega (arith, l.going (omega arith));
-        gone = λ k. absurd (omega arith);
-        ten = simp length-set l.ten;
-        pairs = l.pairs ∙ pairs_more a c d rest (is_pair_lem a c q) (s refl) ∙ sym (more rest (omega arith));
-        front = turn bytes n b (omega (arith, l.room, l.ten)) _ _ _ l.front (ap (λ (k : ℕ). k ∷ pair_bytes rest) (sym (is_byte a c q)));
+        room = omega (arith, o, length-append bytes (b ∷ []));
+        some = λ k. omega (arith, length-append bytes (b ∷ []));
+        pairs = l.pairs ∙ pairs_more a c d rest (is_pair_lem a c q2) space ∙ sym (more rest (omega arith));
+        front = l.front ∙ rw (is_byte a c q2) (sym (append_snoc bytes (pair_byte a c) (pair_bytes rest)));
       }
-  by_pair (a ∷ c ∷ d ∷ f ∷ x) rest b l e h q s = absurd (omega arith)
+  by_pair (a ∷ c ∷ d ∷ f ∷ x) rest b l e h q = absurd (omega arith)
 
-  module _ {rest : List ℕ} {size : ℕ} (l : LeftPairs line rest size n bytes) (x after : List ℕ) (size2 : ℕ)
+  module _ {rest : List ℕ} {size : ℕ} (l : LeftPairs line rest size bytes) (x after : List ℕ) (size2 : ℕ)
       (step : (size2 ≡ size) × ((rest ≡ x ++ after) × (length x ≡ min size (length rest)) × (0 < length rest))) where
-    here : LeftPairs line (x ++ after) 3 n bytes
+    here : LeftPairs line (x ++ after) 3 bytes
     here = rw (step.1.0, l.three) at l
 
     taken : length x ≡ min 3 (length (x ++ after))
@@ -183,27 +170,16 @@ module _ (line : List ℕ) (n : ℕ) (bytes : List ℕ) where
     left : 0 < length (x ++ after)
     left = rw step.1.0 at step.1.2
 
-    pub no_pair : None ≡ byte_of (get_or x 0 0) (get_or x 1 0) → line_bytes line ≡ []
-    no_pair q = is_text line (by_byte x after here taken left (sym q))
+    pub no_pair : None ≡ part_byte x → line_bytes line ≡ []
+    no_pair q = is_text line (by_none x after here taken left (sym q))
 
-    pub no_space : length x ≡ 3 → (get_or x 2 0 ≡ 32 → ⊥) → line_bytes line ≡ []
-    no_space e q = is_text line (by_space x after here e q)
+    pub room_left : length bytes < 10
+    room_left = omega (arith, l.room, step.1.2)
 
-    next_pair : {b : ℕ} → Some b ≡ byte_of (get_or x 0 0) (get_or x 1 0) → (length x ≡ 3 → get_or x 2 0 ≡ 32) → LeftPairs line after size2 (n + 1) (set bytes n b)
-    next_pair {b} q s = let z : size2 ≡ 3 = step.0 ∙ l.three in rw z (by_pair x after b here taken left (sym q) s)
+    pub next_pair : {b : ℕ} → Some b ≡ part_byte x → LeftPairs line after size2 (bytes ++ (b ∷ []))
+    next_pair {b} q = let z : size2 ≡ 3 = step.0 ∙ l.three in rw z (by_pair x after b here taken left (sym q))
 
-    pub next_counted : {k m b : ℕ} → k ≡ n → m ≡ n + 1 → Some b ≡ byte_of (get_or x 0 0) (get_or x 1 0) → (length x ≡ 3 → get_or x 2 0 ≡ 32)
-        → LeftPairs line after size2 m (set bytes k b)
-    next_counted d e q s = rw (d, e) (next_pair q s)
-
-  pub all_pairs : (rest : List ℕ) {size k : ℕ} → LeftPairs line rest size n bytes → length line ≤ 29 → length rest ≡ 0 → 3 * k ≡ length line + 1
-      → Holds line (record { count = k; bytes = bytes })
+  pub all_pairs : (rest : List ℕ) {size : ℕ} → LeftPairs line rest size bytes → length line ≤ 29 → length rest ≡ 0 → (1 ≤ length bytes) × (bytes ≡ line_bytes line)
   unfolding pair_bytes
-  all_pairs [] {k = k} l h e q =
-      let z : k ≡ n = omega (arith, l.gone refl) in
-      rw z record {
-        within = omega (arith, l.room, l.ten);
-        some = omega (arith, l.gone refl);
-        front = sym (is_bytes_lem line h l.pairs ∙ l.front ∙ append-nil (take n bytes));
-      }
-  all_pairs (c ∷ cs) l h e q = absurd (omega arith)
+  all_pairs [] l h e = (l.some refl, sym (is_bytes_lem line h l.pairs ∙ l.front ∙ append-nil bytes))
+  all_pairs (c ∷ cs) l h e = absurd (omega arith)

@@ -40,7 +40,7 @@ pub(crate) fn of_line(t: Right, line: &[u8]) -> Verdict
     let Some(read) = pairs::read(line) else {
         return Verdict::Text;
     };
-    of_bytes(t, &read.bytes[..read.count])
+    of_bytes(t, read.as_slice())
 }
 
 // The verdict on one byte or more: protected identifier, data, checksum.

@@ -1,33 +1,33 @@
 // Bytes as upper-case hexadecimal pairs, and the bytes of a line: pairs with one space between.
 ghost use Rattle.std.specs.Prelude.{◌≡◌, ◌<◌, SomeIff};
 ghost use Rattle.buslog.specs.Pairs.{digit_of, byte_of, digit_character, pair_of};
-ghost use Rattle.buslog.specs.Parts.{Reads};
+ghost use Rattle.buslog.specs.Parts.{Reads, part_byte};
 
-// The bytes of a line, one at least, at the front, and how many.
-// Kept: fixed memory; a Vec needs the heap.
-#[derive(Clone, Copy)]
-pub(crate) struct Pairs {
-    pub(crate) count: usize,
-    pub(crate) bytes: [u8; 10],
-}
+use arrayvec::ArrayVec;
 
-// Reads a line; none where it is text.
-pub(crate) fn read(line: &[u8]) -> Option<Pairs>
+// Reads the bytes of a line, one at least; none where it is text.
+pub(crate) fn read(line: &[u8]) -> Option<ArrayVec<u8, 10>>
     ensures { Reads line.now result }
 {
     if 29 < line.len() || line.len() % 3 != 2 {
         return None;
     }
-    let parts = line.chunks(3);
-    let count = parts.len();
-    let mut bytes = [255; 10];
-    for (k, part) in parts.enumerate() {
-        match part {
-            [high, low] | [high, low, b' '] => bytes[k] = byte(*high, *low)?,
-            _ => return None,
-        }
+    let mut bytes = ArrayVec::<u8, 10>::new();
+    for part in line.chunks(3) {
+        bytes.push(part_byte(part)?);
     }
-    Some(Pairs { count, bytes })
+    Some(bytes)
+}
+
+// The byte of a part of a line: a pair, with a space behind it where the line goes on.
+#[tactic(auto, unfolding(crate::specs::Parts::part_byte))]
+fn part_byte(part: &[u8]) -> Option<u8>
+    ensures { result ≡ part_byte part.now }
+{
+    match part {
+        [high, low] | [high, low, b' '] => byte(*high, *low),
+        _ => None,
+    }
 }
 
 // The byte that two characters are the pair of, if they are one.

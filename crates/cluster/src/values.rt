@@ -5,7 +5,7 @@ ghost use Rattle.cluster.specs.Values.{value_fits, array_fits, scalar_at, with_s
 use crate::{placements, signals};
 
 // A byte array as it is handed out: eight bytes, the unused ones 255, and how many are used.
-// Kept: fixed memory; a Vec needs the heap, and a slice would have to lie in a buffer of the caller's.
+// Kept: `array_read` and `start_read` (specs/Values) say that the unused bytes are 255, which an `ArrayVec` would not hand out.
 #[derive(Clone, Copy)]
 pub struct Array {
     pub bytes: [u8; 8],

@@ -27,7 +27,7 @@ pub(crate) struct Reading {
 }
 
 // The numbers that were read, and how many.
-// Kept: fixed memory; a Vec needs the heap.
+// Kept: the array with zeros behind is what is answered; out of an `ArrayVec` it would have to be copied.
 #[derive(Clone, Copy)]
 pub(crate) struct Numbers {
     pub(crate) values: [u32; MOST],

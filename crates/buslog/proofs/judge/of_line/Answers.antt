@@ -7,4 +7,4 @@ pub returns-in_default : goal.returns-in_default
 returns-in_default c = no_bytes _ _ c.in_default.ensures
 
 pub returns : goal.returns
-returns c = c.of_bytes.ensures ∙ by_bytes _ _ _ c.in-Some.ensures.front
+returns c = c.of_bytes.ensures ∙ by_bytes _ _ _ (c.as_slice.ensures.value ∙ c.in-Some.ensures.1)

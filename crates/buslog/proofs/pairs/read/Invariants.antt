@@ -1,6 +1,6 @@
--- The bytes of the pairs passed are at the front, and the line is what they and the rest make of it.
+-- The line is what the bytes of the pairs passed and the rest make of it.
 use Rattle.buslog.proofs.Reading.{LeftPairs}
 use Rattle.buslog.proofs.pairs.read.Given as goal
 
-abbrev pub invariant-loop-k : goal.invariant-loop-k
-invariant-loop-k l = LeftPairs l.line l.k-iterator.iter.rest.now l.k-iterator.iter.size l.k-iterator.count l.bytes
+abbrev pub invariant-loop-part : goal.invariant-loop-part
+invariant-loop-part l = LeftPairs l.line l.part-iterator.rest.now l.part-iterator.size l.bytes.items
