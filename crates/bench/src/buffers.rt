@@ -2,8 +2,9 @@
 ghost use Rattle.std.specs.Prelude.{◌≡◌, take};
 
 use crate::print::Printer;
-use desk::{Desk, size, state};
+use desk::{Desk, LIST, size, state};
 use master::state::State;
+use script::lists::{self, Element};
 use streams::within;
 
 // The longest line that can be right.
@@ -39,7 +40,8 @@ pub(crate) type Message = [u8; MESSAGE_BYTES];
 pub(crate) type Room = [u8; ROOM_BYTES];
 
 // What a run works on: the desk, the buffers, and the answers.
-// Kept: how much of each buffer is in use stands on the desk (`desk::WORDS_USED` and the names behind it), since memory is fixed.
+// Kept: how much of each buffer is in use stands on the desk as the script gave it (`buffer`, `room`), above the buffer's end too; an `ArrayVec`
+// has no such length.
 #[derive(Drop)]
 pub(crate) struct Bench {
     pub(crate) desk: Desk,
@@ -64,6 +66,16 @@ impl Bench {
             printer: Printer::new(),
         }
     }
+}
+
+// The list that ends the line at hand, read into a buffer; none where a field is malformed or there is no room for all.
+pub(crate) fn read_list<'b, T: Element>(
+    line: &[u8],
+    desk: &Desk,
+    room: &'b mut [T],
+) -> Option<&'b [T]> {
+    let n = lists::read(line, size(desk[LIST]), room)?;
+    Some(&room[..within(n, room)])
 }
 
 // What is in use of a buffer: so many elements at its front, at most all.

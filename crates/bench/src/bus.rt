@@ -1,9 +1,8 @@
 // Bytes on the bus: protected identifiers and checksums, and the frames that the reassembler takes.
-use crate::buffers::LINE_BYTES;
+use crate::buffers::{LINE_BYTES, read_list};
 use crate::replies::Reply;
 use crate::texts::Text;
-use desk::{Desk, LIST, NUMBERS, ROOM_USED, assembly, byte, size};
-use script::lists;
+use desk::{Desk, NUMBERS, ROOM_USED, assembly, byte, size};
 use streams::within;
 use wire::checksum::Model;
 use wire::{checksum, identifier};
@@ -21,24 +20,20 @@ pub(crate) fn id(desk: &Desk) -> Reply {
 // Makes the checksum of the bytes that end the line under an identifier.
 pub(crate) fn sum(model: Model, line: &[u8], desk: &Desk) -> Reply {
     let mut data = [0u8; LINE_BYTES];
-    let Some(count) = lists::read(line, size(desk[LIST]), &mut data) else {
+    let Some(data) = read_list(line, desk, &mut data) else {
         return Reply::malformed();
     };
-    let n = within(count, &data);
-    Reply::number(
-        Text::CHECKSUM,
-        checksum::of(byte(desk[NUMBERS]), model, &data[..n]),
-    )
+    let id = byte(desk[NUMBERS]);
+    Reply::number(Text::CHECKSUM, checksum::of(id, model, data))
 }
 
 // The reassembler takes a frame, the bytes that end the line.
 pub(crate) fn take(line: &[u8], desk: &mut Desk, room: &mut [u8]) -> Reply {
     let mut frame = [0u8; LINE_BYTES];
-    let Some(count) = lists::read(line, size(desk[LIST]), &mut frame) else {
-        return Reply::malformed();
-    };
-    let n = within(count, &frame);
-    take_frame(desk, &frame[..n], room)
+    match read_list(line, desk, &mut frame) {
+        Some(frame) => take_frame(desk, frame, room),
+        None => Reply::malformed(),
+    }
 }
 
 // The reassembler takes a frame.

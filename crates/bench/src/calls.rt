@@ -1,6 +1,6 @@
 // The calls of the master: the state is taken from the desk, the call is made on what is in use of each buffer, and the state that it
 // leaves is put back.
-use crate::buffers::{Bench, LINE_BYTES, LINE_WORDS, used, used_mut};
+use crate::buffers::{Bench, LINE_BYTES, LINE_WORDS, read_list, used, used_mut};
 use crate::forms::Call;
 use crate::replies::Reply;
 use crate::texts::Text;
@@ -9,7 +9,7 @@ use desk::{
 };
 use master::byte::ByteAnswer;
 use master::state::State;
-use script::{lists, rows};
+use script::rows;
 use streams::within;
 
 impl Bench {
@@ -68,14 +68,13 @@ impl Bench {
     // Writes an array, the bytes that end the line.
     pub(crate) fn write_array(&mut self, line: &[u8]) -> Reply {
         let mut values = [0u8; LINE_BYTES];
-        let Some(count) = lists::read(line, size(self.desk[LIST]), &mut values) else {
+        let Some(values) = read_list(line, &self.desk, &mut values) else {
             return Reply::malformed();
         };
-        let n = within(count, &values);
         let t = used(self.desk[WORDS_USED], &self.table);
         let frames = used_mut(self.desk[FRAMES_USED], &mut self.frames);
         let mut state = state::take(&self.desk);
-        let answer = state.write_array(t, frames, word(self.desk[NUMBERS]), &values[..n]);
+        let answer = state.write_array(t, frames, word(self.desk[NUMBERS]), values);
         state::put(&mut self.desk, state);
         Reply::done(Text::WRITTEN, answer)
     }

@@ -12,7 +12,7 @@ impl Bench {
     // that are kept; at the end of the input a newline is put there, which ends the last line.
     pub(crate) fn run(&mut self, rt: HostRuntime, text: &mut [u8; TEXT_BYTES]) {
         let mut kept: usize = 0;
-        for turns in 0..u64::MAX {
+        for _ in 0..u64::MAX {
             let Some(more) = streams::read(rt, "bench: standard input", &mut text[kept..]) else {
                 return;
             };

@@ -52,7 +52,7 @@ fn digit(c: u8) -> Option<u8>
 }
 
 // The pair of a byte.
-// Kept: as `decimal` (row): each row of a log has one.
+// Kept: by `{:02X}` a text would have to be written and its two bytes taken out of it.
 pub fn pair(byte: u8) -> [u8; 2]
     ensures { result ≡ pair_of byte }
 {

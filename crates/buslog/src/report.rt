@@ -36,7 +36,8 @@ fn rows(t: Right, number: u64, text: &[u8], out: &mut [u8]) -> Written
     let mut lines: usize = 0;
     let mut used: usize = 0;
     let mut put: usize = 0;
-    // Kept: the room that the rows leave ends the loop, and not a place of the text; a `for` over the lines would need a break at that test.
+    // Kept: in a `for` over the parts of a split the last part, which is no whole line, would have to be told from the others, and each turn
+    // would still ask for the room.
     while 33 <= out.len() - put {
         let end = scan::find(text, used, text.len(), b'\n');
         if end == text.len() {

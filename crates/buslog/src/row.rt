@@ -37,7 +37,7 @@ pub fn decimal(number: u64) -> ([u8; 20], usize)
     let mut first: usize = 19;
     digits[19] = b'0' + (number % 10) as u8;
     let mut rest = number / 10;
-    // Kept: what is left of the number ends the loop, and not a place; a `for` over the places would need a break.
+    // Kept: a `for` over the places from the end on would need a break where nothing is left of the number.
     while 0 < rest {
         first -= 1;
         digits[first] = b'0' + (rest % 10) as u8;

@@ -7,12 +7,14 @@ pub mod state;
 
 ghost use Rattle.std.specs.Prelude.{◌≡◌, ◌%◌};
 
+use cluster::Limits;
+
 pub const SIZE: usize = 384;
 
 pub type Desk = [u32; SIZE];
 
 // The pending bits, one a frame, stand first; then the plan.
-pub const FRAMES: usize = 60;
+pub const FRAMES: usize = Limits::FRAMES;
 
 pub const WAIT: usize = 60;
 
@@ -68,7 +70,7 @@ pub const NUMBERS: usize = 98;
 pub const ANSWER: usize = 110;
 
 // The placements received last, one a signal, behind all else.
-pub const SIGNALS: usize = 256;
+pub const SIGNALS: usize = Limits::SIGNALS;
 
 pub const RECEIVED: usize = 128;
 
@@ -81,6 +83,7 @@ pub const OPEN_REQUEST: u32 = 65537;
 pub const OPEN_RESPONSE: u32 = 65538;
 
 // The kinds of a message.
+// Kept: as `NONE`.
 pub const SENDING: u32 = 1;
 
 pub const COMPLETED: u32 = 2;

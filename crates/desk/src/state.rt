@@ -49,6 +49,7 @@ fn plan(desk: &Desk) -> Plan
 }
 
 // An entry, a schedule or a placement, if there is one.
+// Kept: this and the three conversions below can't be a `From`, since neither type is this crate's.
 fn chosen(n: u32) -> Option<u16>
     ensures { result ≡ chosen_of n }
 {

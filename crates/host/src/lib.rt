@@ -68,6 +68,7 @@ pub extern "C" fn lin_judge(table: &[u16], tick: u32, bit: u32) -> u32
 }
 
 // An answer as one number.
+// Kept: the C interface.
 fn coded(answer: Result<u8, Refusal>) -> u16
     ensures { result ≡ codedOf answer }
 {

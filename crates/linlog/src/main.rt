@@ -52,6 +52,7 @@ fn usage(rt: HostRuntime) {
 }
 
 // Writes text out and tells whether that went well; a failure is told on standard error.
+// Kept: as `streams::write_all`.
 fn write_out(rt: HostRuntime, text: &[u8]) -> bool {
     streams::write_all(rt, "linlog: standard output", text)
 }

@@ -52,6 +52,8 @@ fn due(transfer: Transfer) -> u8 {
     transfer.bytes.get(i).copied().unwrap_or(0)
 }
 
+// The number of an answer in the digest.
+// Kept: numbers, since benchmarks/meter.c has the same ones in its digest.
 fn tick_code(answer: Result<TickAnswer, Refusal>) -> u64 {
     match answer {
         Ok(TickAnswer::Waiting) => 0,

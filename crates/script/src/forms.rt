@@ -11,7 +11,7 @@ pub const MOST: usize = 12;
 
 // A line by its form: the form's number, the place where its list begins, and its numbers with zeros behind them. The form's number is
 // that of all forms where the line has none.
-// Kept: `read` cannot fail, and every line gets a number; in an Option a line that has no form would be a failure.
+// Kept: `read` is a public function that cannot fail, and its clause `line_of` gives every line a number.
 #[derive(Clone, Copy)]
 pub struct Line {
     pub form: usize,
@@ -76,7 +76,8 @@ impl Numbers {
 pub fn read(line: &[u8], forms: &[u8]) -> Line
     ensures { result ≡ line_of forms.now line.now }
 {
-    // Kept: of a line that has no form the number of forms is told, which an `enumerate` has no longer behind the loop.
+    // Kept: of a line that has no form the number of forms is told, which an `enumerate` has no longer behind the loop; for a `count` the forms
+    // would be split twice.
     let mut k: usize = 0;
     for form in forms.split(|c| *c == b'|') {
         if let Some(read) = read_as(line, form) {

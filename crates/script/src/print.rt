@@ -55,6 +55,9 @@ pub fn pairs(out: &mut [u8], at: usize, bytes: &[u8]) -> usize
     end
 }
 
+// Kept: from here on buffer and place as two parameters; the public functions above take them apart and tell the place that comes next, as
+// each of these does.
+
 // The number at a place, and 0 where there is none.
 fn number(numbers: &[u32], place: usize) -> u32
     ensures { result ≡ get_or (drop place numbers.now) 0 0 }

@@ -15,6 +15,7 @@ pub(crate) struct Row {
 
 // Reads two rows with a colon between them, numbers of 16 bits and numbers of 32 bits, and tells how many each has. The second row is read
 // where the first is right.
+// Kept: two slices: document 02 lends a row so (Req 01), and `State::write_row` takes it so.
 pub fn read(
     line: &[u8],
     at: usize,

@@ -3,7 +3,6 @@ ghost use Rattle.std.specs.Prelude.{◌≡◌, ◌%◌, ◌<◌, ltb, [], ◌∷
 ghost use Rattle.wire.specs.Answers.{told};
 ghost use Rattle.refusal.specs.Answers.{test, first_failing};
 ghost use Rattle.wire.specs.Identifier.{protected_byte, protected_of, right_parity, read_of};
-ghost use Rattle.wire.specs.Parts.{Listed};
 
 use crate::refused;
 use refusal::Refusal;
@@ -14,7 +13,7 @@ pub fn build(id: u8) -> Result<u8, Refusal>
     ensures told { told result ≡ first_failing (test 11 (ltb id 64) ∷ []) (protected_byte id ∷ []) }
 {
     if id < 64 {
-        Ok(protected_in(&PROTECTED, id))
+        Ok(protected_byte(id))
     } else {
         refused()
     }
@@ -26,30 +25,19 @@ pub fn read(protected: u8) -> Result<u8, Refusal>
     ensures told { told result ≡ first_failing (test 11 (right_parity protected) ∷ []) (protected % 64 ∷ []) }
 {
     let id = protected % 64;
-    if protected_in(&PROTECTED, id) == protected {
+    if protected_byte(id) == protected {
         Ok(id)
     } else {
         refused()
     }
 }
 
-// The identifier with its two parity bits above it.
+// The protected identifier of an identifier, as the list has it.
 pub(crate) fn protected_byte(id: u8) -> u8
     requires { id < 64 }
     ensures { result ≡ protected_byte id }
 {
-    let p0 = (id ^ (id >> 1) ^ (id >> 2) ^ (id >> 4)) % 2;
-    let p1 = 1 - ((id >> 1) ^ (id >> 3) ^ (id >> 4) ^ (id >> 5)) % 2;
-    id + 64 * p0 + 128 * p1
-}
-
-// The protected identifier of an identifier, as a list of them has it.
-pub(crate) fn protected_in(list: &[u8; 64], id: u8) -> u8
-    requires listed { Listed list.now }
-    requires id_bound { id < 64 }
-    ensures { result ≡ protected_byte id }
-{
-    list[id as usize]
+    PROTECTED[id as usize]
 }
 
 // ISO 17987-3, Table A.2: the protected identifier of each identifier, which stands beside it.

@@ -6,18 +6,13 @@ use borrow.Author.Tests.{lt-ltb, le-ltb}
 use Rattle.wire.specs.Bits.{bit}
 use Rattle.wire.specs.Identifier.{protected_of, protected_byte, p0, p1}
 use Rattle.wire.proofs.AnswerLaws.{build_told}
-use Rattle.wire.proofs.ListLaws.{right_at, listed}
 use Rattle.wire.proofs.identifier.build.Goals as goal
-
-pub protected_in-requires : goal.protected_in-requires
-unfolding right_at protected_byte p0 p1 bit xor
-protected_in-requires c = record { listed = listed _ refl refl; id_bound = c.if-id-lt64.true }
 
 pub returns-then-id-lt64 : goal.returns-then-id-lt64
 unfolding protected_of
 returns-then-id-lt64 c =
     let both = let id = c.args.id in
-    build_told id _ (simp (lt-ltb id 64 (omega arith), c.protected_in.ensures)) in
+    build_told id _ (simp (lt-ltb id 64 (omega arith), c.protected_byte.ensures)) in
     record { value = both.0; told = both.1 }
 
 pub returns-else-id-lt64 : goal.returns-else-id-lt64

@@ -8,27 +8,22 @@ use Rattle.wire.specs.Bits.{bit}
 use Rattle.wire.specs.Identifier.{read_of, protected_byte, p0, p1}
 use Rattle.wire.proofs.IdentifierLaws.{parity_built}
 use Rattle.wire.proofs.AnswerLaws.{read_told_lem}
-use Rattle.wire.proofs.ListLaws.{right_at, listed}
 use Rattle.wire.proofs.identifier.read.Goals as goal
 
-pub protected_in-requires : goal.protected_in-requires
-unfolding right_at protected_byte p0 p1 bit xor
-protected_in-requires c = record { listed = listed _ refl refl; id_bound = omega arith }
-
-pub returns-then-protected_in-protected : goal.returns-then-protected_in-protected
+pub returns-then-protected_byte-protected : goal.returns-then-protected_byte-protected
 unfolding read_of
-returns-then-protected_in-protected c =
+returns-then-protected_byte-protected c =
     let both = let b : c.args.protected < 256 = omega arith in
-    read_told_lem _ _ (simp (parity_built _ b, eq-eqb _ _ (sym c.protected_in.ensures ∙ c.if-protected_in-protected.true))) in
+    read_told_lem _ _ (simp (parity_built _ b, eq-eqb _ _ (sym c.protected_byte.ensures ∙ c.if-protected_byte-protected.true))) in
     record { value = both.0; told = both.1 }
 
-pub returns-else-protected_in-protected : goal.returns-else-protected_in-protected
+pub returns-else-protected_byte-protected : goal.returns-else-protected_byte-protected
 unfolding read_of
-returns-else-protected_in-protected c =
+returns-else-protected_byte-protected c =
     let both = let b : c.args.protected < 256 = omega arith in
     read_told_lem _ _ (simp (
       parity_built _ b,
-      ne_eqb _ _ (λ e. c.if-protected_in-protected.false (c.protected_in.ensures ∙ e)),
+      ne_eqb _ _ (λ e. c.if-protected_byte-protected.false (c.protected_byte.ensures ∙ e)),
       c.refused.ensures,
     )) in
     record { value = both.0; told = both.1 }
