@@ -1,10 +1,10 @@
 // The answer to a line.
 use crate::buffers::{Bench, used};
-use crate::forms::{Form, Shown};
+use crate::forms::Form;
 use crate::replies::Reply;
 use crate::texts::Text;
-use crate::{bus, forms, sets, setup, shows};
-use desk::{ANSWER, FRAMES_USED, NUMBERS, ROOM_USED, WORDS_USED};
+use crate::{bus, forms, sets};
+use desk::{ANSWER, NUMBERS, WORDS_USED};
 
 impl Bench {
     // Answers a line, and passes over an empty one and a comment.
@@ -27,11 +27,11 @@ impl Bench {
             Form::Writes => self.write_array(line),
             Form::Row => self.write_row(line),
             Form::Fresh => self.fresh(),
-            Form::Table => setup::table(line, &mut self.desk, &mut self.table, &mut self.frames),
-            Form::Buffer => setup::buffer(&mut self.desk, &mut self.frames),
-            Form::Lend => setup::lend(line, &mut self.desk, &mut self.message),
-            Form::Room => setup::room(&mut self.desk, &mut self.room),
-            Form::Take => bus::take(line, &mut self.desk, &mut self.room),
+            Form::Table => self.lay_table(line),
+            Form::Buffer => self.lay_frames(),
+            Form::Lend => self.lay_message(line),
+            Form::Room => self.lay_room(),
+            Form::Take => self.take(line),
             Form::Judge => self.judge(),
             Form::Pid => bus::pid(&self.desk),
             Form::Id => bus::id(&self.desk),
@@ -55,20 +55,5 @@ impl Bench {
     fn judge(&self) -> Reply {
         let t = used(self.desk[WORDS_USED], &self.table);
         Reply::judge(timing::judge(t, self.desk[NUMBERS], self.desk[NUMBERS + 1]))
-    }
-
-    // Shows what the line at hand asks for.
-    fn show(&mut self, shown: Shown) {
-        let desk = &self.desk;
-        let out = &mut self.printer;
-        match shown {
-            Shown::Pending => shows::pending(desk, out),
-            Shown::Frames => shows::bytes(Text::FRAMES, used(desk[FRAMES_USED], &self.frames), out),
-            Shown::Out => shows::sent(desk, used(desk[WORDS_USED], &self.table), out),
-            Shown::State => shows::state(desk, out),
-            Shown::Taken => shows::bytes(Text::TAKEN, used(desk[ROOM_USED], &self.room), out),
-            Shown::Assembly => shows::assembly(desk, out),
-            Shown::Received => shows::received(desk, out),
-        }
     }
 }

@@ -1,9 +1,8 @@
 // Bytes on the bus: protected identifiers and checksums, and the frames that the reassembler takes.
-use crate::buffers::{LINE_BYTES, read_list};
+use crate::buffers::{Bench, LINE_BYTES, read_list, used_mut};
 use crate::replies::Reply;
 use crate::texts::Text;
-use desk::{Desk, NUMBERS, ROOM_USED, assembly, byte, size};
-use streams::within;
+use desk::{Desk, NUMBERS, ROOM_USED, assembly, byte};
 use wire::checksum::Model;
 use wire::{checksum, identifier};
 
@@ -27,20 +26,22 @@ pub(crate) fn sum(model: Model, line: &[u8], desk: &Desk) -> Reply {
     Reply::number(Text::CHECKSUM, checksum::of(id, model, data))
 }
 
-// The reassembler takes a frame, the bytes that end the line.
-pub(crate) fn take(line: &[u8], desk: &mut Desk, room: &mut [u8]) -> Reply {
-    let mut frame = [0u8; LINE_BYTES];
-    match read_list(line, desk, &mut frame) {
-        Some(frame) => take_frame(desk, frame, room),
-        None => Reply::malformed(),
+impl Bench {
+    // The reassembler takes a frame, the bytes that end the line.
+    pub(crate) fn take(&mut self, line: &[u8]) -> Reply {
+        let mut frame = [0u8; LINE_BYTES];
+        match read_list(line, &self.desk, &mut frame) {
+            Some(frame) => self.take_frame(frame),
+            None => Reply::malformed(),
+        }
     }
-}
 
-// The reassembler takes a frame.
-fn take_frame(desk: &mut Desk, frame: &[u8], room: &mut [u8]) -> Reply {
-    let end = within(size(desk[ROOM_USED]), room);
-    let mut reassembly = assembly::take(desk);
-    let answer = reassembly.take(frame, &mut room[..end]);
-    assembly::put(desk, reassembly);
-    Reply::take(answer)
+    // The reassembler takes a frame.
+    fn take_frame(&mut self, frame: &[u8]) -> Reply {
+        let room = used_mut(self.desk[ROOM_USED], &mut self.room);
+        let mut reassembly = assembly::take(&self.desk);
+        let answer = reassembly.take(frame, room);
+        assembly::put(&mut self.desk, reassembly);
+        Reply::take(answer)
+    }
 }

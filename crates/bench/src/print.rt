@@ -32,8 +32,9 @@ impl Printer {
         self.printed = print::by_number(&mut self.out, self.printed, text.0, 0, numbers, 0);
     }
 
-    // Prints bytes as pairs, with a space before each.
-    pub(crate) fn bytes(&mut self, bytes: &[u8]) {
+    // Prints a text with bytes behind it as pairs, a space before each.
+    pub(crate) fn put_bytes(&mut self, text: Text, bytes: &[u8]) {
+        self.put(text, &[]);
         self.printed = print::pairs(&mut self.out, self.printed, bytes);
     }
 
