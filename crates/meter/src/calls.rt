@@ -27,6 +27,8 @@ fn write_six(state: &mut State, t: &[u16], bytes: &mut [u8]) {
 }
 
 // The call of a letter, and its answer as a number.
+// Kept: state, table and bytes as three parameters; tried, a struct of them: a call on its two references at once is what the check says that its
+// borrow checker does not cover yet.
 // Kept: a match on the letter; a table of closures would lend the state and the bytes in each.
 fn call(state: &mut State, t: &[u16], bytes: &mut [u8], letter: u8, row: &Row) -> u64 {
     match letter {
