@@ -5,6 +5,7 @@ pub mod Bits
 pub mod ByteExactly
 pub mod ByteLaws
 pub mod Cases
+pub mod Chunks
 pub mod Counted
 pub mod Filling
 pub mod FitsExactly
