@@ -1,7 +1,6 @@
 pub mod Admitted
 pub mod AheadLaws
 pub mod Answered
-pub mod Bits
 pub mod ByteExactly
 pub mod ByteLaws
 pub mod Cases
@@ -21,6 +20,7 @@ pub mod RowExactly
 pub mod LowestNumber
 pub mod MessageFits
 pub mod Nine
+pub mod Numbered
 pub mod OpenLaws
 pub mod Parts
 pub mod PlacedTurns

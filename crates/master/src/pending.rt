@@ -16,12 +16,10 @@ use cluster::{Limits, frames, members};
 pub(crate) fn pending_fits(t: &[u16], pending: [bool; Limits::FRAMES]) -> bool
     ensures { result ≡ pending_fits t.now 0 pending }
 {
-    for (f, &bit) in pending.iter().enumerate() {
-        if !bit_fits(t, f as u16, bit) {
-            return false;
-        }
-    }
-    true
+    pending
+        .iter()
+        .enumerate()
+        .all(|(f, &bit)| bit_fits(t, f as u16, bit))
 }
 
 // Whether a pending bit may stand at a frame: it is not set, or the frame is there and published.
@@ -68,12 +66,10 @@ pub(crate) fn first_pending(t: Right, pending: [bool; Limits::FRAMES], l: u16) -
     ensures { result ≡ first_pending pending (members_of t.entry.words.now l) }
 {
     let n = members::count(t.words);
-    for m in 0..n {
-        if is_pending_member(t, pending, l, m) {
-            return Opened::Frame(members::frame(t.words, m));
-        }
+    match (0..n).find(|&m| is_pending_member(t, pending, l, m)) {
+        Some(m) => Opened::Frame(members::frame(t.words, m)),
+        None => Opened::Nothing,
     }
-    Opened::Nothing
 }
 
 // How many of a list's frames among the first members are pending.
@@ -81,11 +77,9 @@ pub(crate) fn count_pending(t: Right, pending: [bool; Limits::FRAMES], l: u16, e
     requires { end ≤ member_count t.words.now }
     ensures { result ≡ pending_count pending (members_from t.entry.words.now l 0 end) }
 {
-    let mut n: u16 = 0;
-    for m in 0..end {
-        n += is_pending_member(t, pending, l, m) as u16;
-    }
-    n
+    (0..end)
+        .filter(|&m| is_pending_member(t, pending, l, m))
+        .count() as u16
 }
 
 // Whether a member is of a list and its frame is pending.

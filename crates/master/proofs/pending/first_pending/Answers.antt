@@ -1,31 +1,33 @@
--- A member of the list whose frame is pending is found, and another one is passed over.
-use Rattle.std.proofs.Common.{arith, ap, sym, ◌∙◌}
-use Rattle.master.proofs.Walks.{members_all, members_start, pending_end, pending_here, pending_later}
+-- The member that `find` answers is the first pending one, and where it answers none there is none.
+use Rattle.std.proofs.Common.{◌≡◌, sym, true, false, rules, MatchOption}
+use Rattle.std.proofs.lemmas.Iterator.{first_from_Range}
+use Rattle.cluster.specs.Lists.{members, members_from}
+use Rattle.cluster.specs.Table.{member_frame}
 use Rattle.master.specs.Tick.{first_pending}
+use Rattle.master.specs.declared.state.Opened.TheVariants.{Nothing, Frame}
+use Rattle.master.proofs.Walks.{Pends, pending_found}
 use Rattle.master.proofs.pending.first_pending.Goals as goal
 
-pub loop-m-init : goal.loop-m-init
-loop-m-init c =
+pub returns-in-Some : goal.returns-in-Some
+unfolding members
+returns-in-Some c =
     let a = c.args in
-    ap (first_pending a.pending) (members_all a.t.words.now a.l ∙ rw (← c.count-n.ensures) (sym (members_start a.t.words.now a.l c.count-n.result)))
+    let t = a.t.words.now in
+    let pends = Pends t a.pending a.l in
+    let all = first_pending a.pending (members_from t a.l 0 c.count-n.result) in
+    let found : MatchOption c.find.result (all ≡ Nothing) (λ i. all ≡ Frame (member_frame t i)) =
+      pending_found t a.pending a.l c.count-n.result c.find.result
+      (first_from_Range _ _ _ _ (λ j. pends j ≡ true) (λ j. pends j ≡ false) c.find.ensures.ran (λ x q k. search rules) (λ x q k. search rules)) in
+    rw (c.frame.ensures, ← c.count-n.ensures) (sym (rw c.in-Some.is at found))
 
-pub is_pending_member-requires : goal.is_pending_member-requires
-is_pending_member-requires c = omega (arith, c.count-n.ensures, c.loop-m-test.true)
-
-pub returns-then-is_pending_member : goal.returns-then-is_pending_member
-returns-then-is_pending_member c =
+pub returns-in-None : goal.returns-in-None
+unfolding members
+returns-in-None c =
     let a = c.args in
-    let here = rw c.is_pending_member.ensures at c.if-is_pending_member.true in
-    rw c.frame.ensures
-    (sym (c.loop-m.invariant ∙ pending_here a.t.words.now a.l c.loop-m.m c.count-n.result c.loop-m-test.true a.pending here))
-
-pub loop-m-preserved : goal.loop-m-preserved
-loop-m-preserved c =
-    let a = c.args in
-    let not = rw c.is_pending_member.ensures at c.if-is_pending_member.false in
-    c.loop-m.invariant ∙ pending_later a.t.words.now a.l c.loop-m.m c.count-n.result c.loop-m-test.true a.pending not
-
-pub returns : goal.returns
-returns c =
-    let a = c.args in
-    sym (c.loop-m.invariant ∙ pending_end a.t.words.now a.l c.loop-m.m c.count-n.result a.pending c.loop-m-test.false)
+    let t = a.t.words.now in
+    let pends = Pends t a.pending a.l in
+    let all = first_pending a.pending (members_from t a.l 0 c.count-n.result) in
+    let found : MatchOption c.find.result (all ≡ Nothing) (λ i. all ≡ Frame (member_frame t i)) =
+      pending_found t a.pending a.l c.count-n.result c.find.result
+      (first_from_Range _ _ _ _ (λ j. pends j ≡ true) (λ j. pends j ≡ false) c.find.ensures.ran (λ x q k. search rules) (λ x q k. search rules)) in
+    rw (← c.count-n.ensures) (sym (rw c.in-None.is at found))

@@ -1,5 +1,5 @@
 -- The records of lower signals are those before the first placement.
-use Rattle.std.proofs.Common.{arith, ◌≡◌, ◌<◌, ◌≤◌, ◌-◌, ℕ, List, [], true, false, get_or, ltb, length, sym, ◌∙◌, rules, tests}
+use Rattle.std.proofs.Common.{arith, ◌<◌, ◌≤◌, ◌-◌, ℕ, List, [], get_or, ltb, rules}
 use Rattle.std.proofs.lemmas.Bool.{ltb-true, ltb-false}
 use Rattle.std.proofs.lemmas.List.Sorted.{IsPartitionPoint-from_clause, IsPartitionedBy-ltb, IsNonDecreasingBy-from_default}
 use Rattle.signal.proofs.Inside.{order}
@@ -28,7 +28,8 @@ returns c =
       let up = up_monotone (placement_signal t) (placement_count t) (signals_up t ok) i j h (omega (arith, all, b)) in
       omega (arith, up, each i [] (omega (arith, all, b)), each j [] (omega (arith, all, b)))) in
     let point =
-      IsPartitionPoint-from_clause (λ x. ltb (head x) s) xs r c.partition_point.ensures.partitioned (IsPartitionedBy-ltb head xs s rise) (λ a r q k. search rules) in
+      IsPartitionPoint-from_clause (λ x. ltb (head x) s) xs r c.partition_point.ensures.partitioned
+      (IsPartitionedBy-ltb head xs s rise) (λ a r q k. search rules) in
     let low : r ≤ first_placement t s =
       order (first_placement t s) r
       (λ b.

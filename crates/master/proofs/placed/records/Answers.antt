@@ -1,7 +1,7 @@
 -- The records stand in the table, three words each.
-use Rattle.std.proofs.Common.{arith, ◌≡◌, ◌+◌, ◌*◌, ◌-◌, ◌/◌, ◌∙◌, sym, length, take, drop, get_or, ap}
+use Rattle.std.proofs.Common.{arith, ◌≡◌, ◌+◌, ◌*◌, ◌-◌, ◌/◌, ◌∙◌, length, take, drop, get_or, ap}
 use Rattle.std.proofs.lemmas.List.{get_or-take, get_or-drop, length-take, length-drop}
-use Rattle.cluster.proofs.HeaderLaws.{table_length, frame_count_lem, signal_count_lem, placement_count_lem}
+use Rattle.cluster.proofs.HeaderLaws.{table_length}
 use Rattle.cluster.specs.Table.{word, placement_signal, placement_count}
 use Rattle.master.proofs.Chunks.{chunk_head}
 use Rattle.master.proofs.placed.records.Goals as goal

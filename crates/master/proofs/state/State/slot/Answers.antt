@@ -30,4 +30,5 @@ returns-in-None c = rw (← c.due.ensures, c.in-None.is, c.abandoned-closed.ensu
 pub returns-in-Some : goal.returns-in-Some
 unfolding slot slot_at
 returns-in-Some c =
-    c.open.ensures ∙ rw (← c.due.ensures, c.in-Some.is, c.with_plan.ensures, c.begun.ensures, c.slot_opens-opened.ensures, c.abandoned-closed.ensures)
+    c.open.ensures
+    ∙ rw (← c.due.ensures, c.in-Some.is, c.with_plan.ensures, c.begun.ensures, c.slot_opens-opened.ensures, c.abandoned-closed.ensures)
