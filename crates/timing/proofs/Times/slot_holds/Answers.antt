@@ -3,7 +3,7 @@ use native.Mathlib.Omega.{arith}
 use Rattle.timing.specs.Slots.{slot_holds}
 use Rattle.timing.specs.FrameTime.{minimum_bits, maximum_tenths}
 use Rattle.timing.proofs.Steps.{product_fits}
-use Rattle.timing.proofs.slot_holds.Goals as goal
+use Rattle.timing.proofs.Times.slot_holds.Goals as goal
 
 pub overflow_mul-result : goal.overflow_mul-result
 unfolding minimum_bits
