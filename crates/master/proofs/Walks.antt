@@ -44,10 +44,10 @@ module _ (t : List ℕ) (bits : List Bool) (l : ℕ) where
   pending_first m zero i low high is before = absurd (omega arith)
   pending_first m (suc k) i low high is before =
       elim (ℕ_discrete m i) [
-      | yes p ↦ pending_here m k (ap Pends p ∙ is) ∙ ap (λ j. Frame (member_frame t j)) p
-      | no p ↦
-        pending_later m k (before m (omega arith) (omega (arith, p)))
-        ∙ pending_first (suc m) k i (omega (arith, p)) (omega arith) is (λ j a b. before j (omega arith) b)
+        | yes p ↦ pending_here m k (ap Pends p ∙ is) ∙ ap (λ j. Frame (member_frame t j)) p
+        | no p ↦
+            pending_later m k (before m (omega arith) (omega (arith, p)))
+            ∙ pending_first (suc m) k i (omega (arith, p)) (omega arith) is (λ j a b. before j (omega arith) b)
       ]
 
   -- what `find` answers over the first k members is what the search finds

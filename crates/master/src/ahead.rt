@@ -8,7 +8,7 @@ ghost use Rattle.master.specs.Run.{held};
 ghost use Rattle.master.specs.Told.{call_told};
 
 use crate::admit::{buffer_size, refused};
-use crate::pending::count_pending;
+use crate::pending::PendingList;
 use crate::state::State;
 use cluster::members;
 use cluster::right::Right;
@@ -22,8 +22,9 @@ impl State {
     {
         let t = self.judge_ahead(t, f)?;
         let m = members::of_frame(t.words, f);
-        let l = members::list(t.words, m);
-        Ok(count_pending(t, self.pending, l, m))
+        let list = members::list(t.words, m);
+        let pending = self.pending;
+        Ok(PendingList { t, pending, list }.count(m))
     }
 
     // Judges number ahead, and hands the right table on.

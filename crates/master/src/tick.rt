@@ -11,7 +11,7 @@ ghost use Rattle.master.specs.Told.{call_told};
 
 use crate::admit::refused;
 use crate::closing::InTransfer;
-use crate::pending::first_pending;
+use crate::pending::PendingList;
 use crate::state::{Message, Opened, Plan, State};
 use crate::transfer::{Known, Opening};
 use cluster::entries::EntryKind;
@@ -107,7 +107,12 @@ fn slot_opens(t: Right, pending: [bool; Limits::FRAMES], message: Message, e: u1
     let target = entries::target(t.words, e);
     match entries::kind_of(t.words, e) {
         Some(EntryKind::Frame) => Opened::Frame(target),
-        Some(EntryKind::List) => first_pending(t, pending, target),
+        Some(EntryKind::List) => PendingList {
+            t,
+            pending,
+            list: target,
+        }
+        .first(),
         Some(EntryKind::Request) => request_slot(message),
         _ => Opened::Response,
     }

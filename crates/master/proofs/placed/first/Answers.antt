@@ -25,22 +25,22 @@ returns c =
     let each = c.records.ensures.each in
     let head : List ℕ → ℕ = (λ x. get_or x 0 0) in
     let rise = IsNonDecreasingBy-from_default head xs [] (λ i j h b.
-      let up = up_monotone (placement_signal t) (placement_count t) (signals_up t ok) i j h (omega (arith, all, b)) in
-      omega (arith, up, each i [] (omega (arith, all, b)), each j [] (omega (arith, all, b)))) in
+    let up = up_monotone (placement_signal t) (placement_count t) (signals_up t ok) i j h (omega (arith, all, b)) in
+    omega (arith, up, each i [] (omega (arith, all, b)), each j [] (omega (arith, all, b)))) in
     let point =
-      IsPartitionPoint-from_clause (λ x. ltb (head x) s) xs r c.partition_point.ensures.partitioned
-      (IsPartitionedBy-ltb head xs s rise) (λ a r q k. search rules) in
+    IsPartitionPoint-from_clause (λ x. ltb (head x) s) xs r c.partition_point.ensures.partitioned
+    (IsPartitionedBy-ltb head xs s rise) (λ a r q k. search rules) in
     let low : r ≤ first_placement t s =
-      order (first_placement t s) r
-      (λ b.
-      let h : r - 1 < placement_count t = omega (arith, all, b, c.partition_point.ensures.bound) in
-      let l = ltb-true _ _ (point.0 (r - 1) [] (omega arith) (omega (arith, b))) in
-      absurd (omega (arith, b, lower_before t ok s (r - 1) h (omega (arith, l, each (r - 1) [] h)))))
-      (λ b. b) in
+    order (first_placement t s) r
+    (λ b.
+    let h : r - 1 < placement_count t = omega (arith, all, b, c.partition_point.ensures.bound) in
+    let l = ltb-true _ _ (point.0 (r - 1) [] (omega arith) (omega (arith, b))) in
+    absurd (omega (arith, b, lower_before t ok s (r - 1) h (omega (arith, l, each (r - 1) [] h)))))
+    (λ b. b) in
     let high : first_placement t s ≤ r =
-      order r (placement_count t)
-      (λ b.
-      let l = ltb-false _ _ (point.1 r [] (omega arith) (omega (arith, all, b))) in
-      higher_behind t ok s r b (omega (arith, l, each r [] b)))
-      (λ b. omega (arith, b, first_high t s)) in
+    order r (placement_count t)
+    (λ b.
+    let l = ltb-false _ _ (point.1 r [] (omega arith) (omega (arith, all, b))) in
+    higher_behind t ok s r b (omega (arith, l, each r [] b)))
+    (λ b. omega (arith, b, first_high t s)) in
     omega (arith, low, high)

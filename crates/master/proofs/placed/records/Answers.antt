@@ -19,14 +19,14 @@ returns c =
     let long = table_length _ c.args.t.right in
     let part = take (end - at) (drop at t) in
     let l : length part ≡ 3 * n =
-      omega (arith, length-take (end - at) (drop at t), length-drop at t, long, c.count.ensures, c.count-2.ensures, c.count-3.ensures) in
+    omega (arith, length-take (end - at) (drop at t), length-drop at t, long, c.count.ensures, c.count-2.ensures, c.count-3.ensures) in
     let e : length part / 3 ≡ n = omega (arith, l) in
     record {
       all = c.as_chunks.ensures.front_len ∙ e;
       each = λ k d h.
-        ap (λ xs. get_or (get_or xs k d) 0 0) (c.as_chunks.ensures.front)
-        ∙ chunk_head 3 (length part / 3) part k d (omega arith) (omega (arith, e, h))
-        ∙ get_or-take (end - at) (drop at t) (3 * k) 0 (omega (arith, h, c.count-3.ensures))
-        ∙ get_or-drop at t (3 * k) 0
-        ∙ ap (λ i. get_or t i 0) (omega (arith, c.count.ensures, c.count-2.ensures));
+          ap (λ xs. get_or (get_or xs k d) 0 0) (c.as_chunks.ensures.front)
+          ∙ chunk_head 3 (length part / 3) part k d (omega arith) (omega (arith, e, h))
+          ∙ get_or-take (end - at) (drop at t) (3 * k) 0 (omega (arith, h, c.count-3.ensures))
+          ∙ get_or-drop at t (3 * k) 0
+          ∙ ap (λ i. get_or t i 0) (omega (arith, c.count.ensures, c.count-2.ensures));
     }

@@ -38,11 +38,11 @@ returns c =
     let all =
     byte_told_lem a.t.now a.self a.bytes.now a.b (handed c.if-sends.answer.0 (Ok c.if-sends.answer.1)) c.if-sends.bytes
     (elim c.if-sends.branch [
-      then-sends w ↦ record {
+      | then-sends w ↦ record {
         handed = rw (w.answer-is, t.0, ← t.1, ← c.sends.ensures, w.if-sends.true) w.sent_byte.ensures;
         kept = rw (w.bytes-is, t.0, ← t.1, ← c.sends.ensures, w.if-sends.true);
       }
-    | else-sends w ↦ record {
+      | else-sends w ↦ record {
         handed = rw (w.answer-is, t.0, ← t.1, ← c.sends.ensures, w.if-sends.false) w.received_byte.ensures.handed;
         kept = rw (w.bytes-is, t.0, ← t.1, ← c.sends.ensures, w.if-sends.false) w.received_byte.ensures.kept;
       }

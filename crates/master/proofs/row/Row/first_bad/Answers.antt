@@ -3,7 +3,7 @@ use mathlib.Core.Path.{sym, ◌∙◌}
 use mathlib.Core.Logic.{inl, inr}
 use Rattle.master.specs.WriteRow.{first_bad}
 use Rattle.master.proofs.RowTurns.{no_signal_left, no_value_left, first_turn}
-use Rattle.master.proofs.row.first_bad.Goals as goal
+use Rattle.master.proofs.row.Row.first_bad.Goals as goal
 
 pub loop-i-init : goal.loop-i-init
 loop-i-init c =

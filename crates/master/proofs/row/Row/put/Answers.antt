@@ -7,7 +7,7 @@ use Rattle.master.specs.Put.{scalar}
 use Rattle.master.specs.WriteRow.{with_row}
 use Rattle.master.proofs.ReadBack.{value_length}
 use Rattle.master.proofs.RowTurns.{no_signal_left, no_value_left, put_turn, good_turn, good_value}
-use Rattle.master.proofs.row.put_row.Goals as goal
+use Rattle.master.proofs.row.Row.put.Goals as goal
 
 pub loop-s-init : goal.loop-s-init
 loop-s-init c =
