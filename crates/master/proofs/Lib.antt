@@ -10,6 +10,7 @@ pub mod Filling
 pub mod FitsExactly
 pub mod FitsKept
 pub mod History
+pub mod Judging
 pub mod Keeps
 pub mod LastByte
 pub mod Lengths

@@ -46,6 +46,7 @@ impl State {
     }
 
     // Judges a byte in, and hands the right table on.
+    #[tactic(auto, using(crate::proofs::Judging::refused_before), unfolding(crate::specs::Byte::byte_verdict))]
     fn judge_byte(self, t: &[u16], size: usize) -> Result<Right, Refusal>
         ensures { Judged t.now (byte_verdict t.now size self) result }
     {

@@ -43,6 +43,7 @@ impl State {
     }
 
     // Judges a row, and hands the right table on.
+    #[tactic(auto, using(crate::proofs::Judging::refused_before), unfolding(crate::specs::WriteRow::row_verdict))]
     fn judge_row<'a>(self, t: &'a [u16], size: usize, row: Row) -> Result<Right<'a>, Refusal>
         ensures { Judged t.now (row_verdict t.now size self row.entry.signals.now row.entry.values.now) result }
     {

@@ -46,6 +46,7 @@ impl State {
     }
 
     // Judges a tick, and hands the right table on.
+    #[tactic(auto, using(crate::proofs::Judging::refused_before), unfolding(crate::specs::Tick::tick_verdict))]
     fn judge_tick(self, t: &[u16], size: usize, lent: usize) -> Result<Right, Refusal>
         ensures { Judged t.now (tick_verdict t.now size lent self) result }
     {
