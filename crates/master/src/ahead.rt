@@ -28,6 +28,7 @@ impl State {
     }
 
     // Judges number ahead, and hands the right table on.
+    #[tactic(auto, using(crate::proofs::Judging::refused_before), unfolding(crate::specs::Ahead::ahead_verdict))]
     fn judge_ahead(self, t: &[u16], f: u16) -> Result<Right, Refusal>
         ensures { Judged t.now (ahead_verdict t.now self f) result }
     {
