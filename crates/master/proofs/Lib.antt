@@ -1,15 +1,16 @@
 pub mod Admitted
 pub mod AheadLaws
 pub mod Answered
-pub mod Bits
 pub mod ByteExactly
 pub mod ByteLaws
 pub mod Cases
+pub mod Chunks
 pub mod Counted
 pub mod Filling
 pub mod FitsExactly
 pub mod FitsKept
 pub mod History
+pub mod Judging
 pub mod Keeps
 pub mod LastByte
 pub mod Lengths
@@ -20,6 +21,7 @@ pub mod RowExactly
 pub mod LowestNumber
 pub mod MessageFits
 pub mod Nine
+pub mod Numbered
 pub mod OpenLaws
 pub mod Parts
 pub mod PlacedTurns

@@ -1,90 +1,69 @@
--- The walks over the members of a table: what one member does to the search in a list and to the count of its pending frames.
-use Prim.Native.Nat.{ℕ, suc, ◌+◌, ◌-◌, ◌≤◌, ◌<◌}
-use mathlib.Core.Path.{◌≡◌, refl}
-use mir.Val.{bool_byte}
-use mathlib.Core.Bool.{Bool, true, false, cond, ◌&&◌, true≢false, false≢true}
-use mathlib.Core.List.{List, [], ◌∷◌}
+-- The walks over the members of a table: the search in a list for a pending frame, and the count of its pending frames.
+use Rattle.std.proofs.Common.{ℕ, zero, suc, ◌+◌, ◌≤◌, ◌<◌, ◌≡◌, ◌∙◌, refl, Bool, true, false, ◌&&◌, List, length, get_or, eqb, ap, arith, Option, Some, None, MatchOption}
+use mathlib.Core.Bool.{true≢false, false≢true}
+use native.Mathlib.Decide.{ℕ_discrete}
 use native.Mathlib.Numerals.{add-one}
-use native.Mathlib.Omega.{arith}
-use lib.Dec.{eqb}
-use lib.ListN.{get_or}
+use Rattle.std.specs.List.{filter, range_with_len}
 use Rattle.transport.proofs.Tests.{whether}
-use Rattle.cluster.specs.Table.{member_count, member_list, member_frame}
-use Rattle.cluster.specs.Lists.{members, members_from}
+use Rattle.cluster.specs.Table.{member_list, member_frame}
+use Rattle.cluster.specs.Lists.{members_from}
 use Rattle.master.specs.declared.state.Opened.TheVariants.{Nothing, Frame}
 use Rattle.master.specs.Tick.{first_pending}
 use Rattle.master.specs.Ahead.{pending_count}
 
--- what a member adds to the count of its list
-module _ (t : List ℕ) (l m n : ℕ) (h : m < n) where
-  abbrev rest : List ℕ
-  rest = members_from t l (m + 1) (n - (m + 1))
-
-  turn : members_from t l m (n - m) ≡ cond (eqb (member_list t m) l) (member_frame t m ∷ rest) rest
-  unfolding members_from
-  turn = let e : n - m ≡ suc (n - (m + 1)) = omega arith in rw (e, add-one)
-
-  pub count_turn : (bits : List Bool) → pending_count bits (members_from t l m (n - m))
-      ≡ cond (eqb (member_list t m) l && get_or bits (member_frame t m) false) 1 0 + pending_count bits rest
-  unfolding pending_count
-  count_turn bits =
-      whether (eqb (member_list t m) l)
-      (λ a. whether (get_or bits (member_frame t m) false) (λ b. rw (turn, a, b) (omega arith)) (λ b. rw (turn, a, b) (omega arith)))
-      (λ a. rw (turn, a) (omega arith))
-
-  -- the count goes on with what the member adds
-  pub count_on : (bits : List Bool) (k c : ℕ) → c ≡ cond (eqb (member_list t m) l && get_or bits (member_frame t m) false) 1 0
-      → k + pending_count bits (members_from t l m (n - m)) ≡ pending_count bits (members_from t l 0 n)
-      → k + c + pending_count bits rest ≡ pending_count bits (members_from t l 0 n)
-  count_on bits k c e q = omega (arith, e, q, count_turn bits)
+module _ (t : List ℕ) (bits : List Bool) (l : ℕ) where
+  -- a member is of the list and its frame is pending
+  abbrev pub Pends : ℕ → Bool
+  Pends m = eqb (member_list t m) l && get_or bits (member_frame t m) false
 
   -- a pending member is the first pending frame of those from it on, and another one is passed over
-  pub pending_here : (bits : List Bool) → (eqb (member_list t m) l && get_or bits (member_frame t m) false) ≡ true
-      → first_pending bits (members_from t l m (n - m)) ≡ Frame (member_frame t m)
-  unfolding first_pending
-  pending_here bits e =
+  pending_here : (m k : ℕ) → Pends m ≡ true → first_pending bits (members_from t l m (suc k)) ≡ Frame (member_frame t m)
+  unfolding first_pending members_from
+  pending_here m k e =
       whether (eqb (member_list t m) l)
-      (λ a. whether (get_or bits (member_frame t m) false) (λ b. rw (turn, a, b)) (λ b. absurd (false≢true (rw (a, b) at e))))
+      (λ a. whether (get_or bits (member_frame t m) false) (λ b. rw (a, b)) (λ b. absurd (false≢true (rw (a, b) at e))))
       (λ a. absurd (false≢true (rw a at e)))
 
-  pub pending_later : (bits : List Bool) → (eqb (member_list t m) l && get_or bits (member_frame t m) false) ≡ false
-      → first_pending bits (members_from t l m (n - m)) ≡ first_pending bits rest
-  unfolding first_pending
-  pending_later bits e =
+  pending_later : (m k : ℕ) → Pends m ≡ false → first_pending bits (members_from t l m (suc k)) ≡ first_pending bits (members_from t l (suc m) k)
+  unfolding first_pending members_from
+  pending_later m k e =
       whether (eqb (member_list t m) l)
-      (λ a. whether (get_or bits (member_frame t m) false) (λ b. absurd (true≢false (rw (a, b) at e))) (λ b. rw (turn, a, b)))
-      (λ a. rw (turn, a))
+      (λ a. whether (get_or bits (member_frame t m) false) (λ b. absurd (true≢false (rw (a, b) at e))) (λ b. rw (a, b)))
+      (λ a. rw a)
 
--- behind the last member there is nothing
-pub members_end : (t : List ℕ) (l m n : ℕ) → n ≤ m → members_from t l m (n - m) ≡ []
-unfolding members_from
-members_end t l m n h = let e : n - m ≡ 0 = omega arith in rw e
+  -- where none is pending, nothing is found
+  pending_none : (m k : ℕ) → ((j : ℕ) → m ≤ j → j < m + k → Pends j ≡ false) → first_pending bits (members_from t l m k) ≡ Nothing
+  unfolding first_pending members_from
+  pending_none m zero none = refl
+  pending_none m (suc k) none =
+      pending_later m k (none m (omega arith) (omega arith)) ∙ pending_none (suc m) k (λ j a b. none j (omega arith) (omega arith))
 
-pub members_start : (t : List ℕ) (l n : ℕ) → members_from t l 0 (n - 0) ≡ members_from t l 0 n
-members_start t l n = let e : n - 0 ≡ n = omega arith in rw e
+  -- the first one that is pending is found
+  pending_first : (m k i : ℕ) → m ≤ i → i < m + k → Pends i ≡ true → ((j : ℕ) → m ≤ j → j < i → Pends j ≡ false)
+      → first_pending bits (members_from t l m k) ≡ Frame (member_frame t i)
+  pending_first m zero i low high is before = absurd (omega arith)
+  pending_first m (suc k) i low high is before =
+      elim (ℕ_discrete m i) [
+        | yes p ↦ pending_here m k (ap Pends p ∙ is) ∙ ap (λ j. Frame (member_frame t j)) p
+        | no p ↦
+            pending_later m k (before m (omega arith) (omega (arith, p)))
+            ∙ pending_first (suc m) k i (omega (arith, p)) (omega arith) is (λ j a b. before j (omega arith) b)
+      ]
 
--- the members from the first on are those of the list
-pub members_all : (t : List ℕ) (l : ℕ) → members t l ≡ members_from t l 0 (member_count t)
-unfolding members
-members_all t l = refl
+  -- what `find` answers over the first k members is what the search finds
+  pub pending_found : (k : ℕ) (r : Option ℕ)
+      → MatchOption r ((j : ℕ) → 0 ≤ j → j < k → Pends j ≡ false)
+      (λ i. (0 ≤ i) × (i < k) × (Pends i ≡ true) × ((j : ℕ) → 0 ≤ j → j < i → Pends j ≡ false))
+      → MatchOption r (first_pending bits (members_from t l 0 k) ≡ Nothing) (λ i. first_pending bits (members_from t l 0 k) ≡ Frame (member_frame t i))
+  pending_found k None none = pending_none 0 k (λ j a b. none j a (omega arith))
+  pending_found k (Some i) found = pending_first 0 k i found.0 (omega (arith, found.1)) found.2 found.3
 
--- and nothing is pending
-pub pending_end : (t : List ℕ) (l m n : ℕ) (bits : List Bool) → n ≤ m → first_pending bits (members_from t l m (n - m)) ≡ Nothing
-unfolding first_pending
-pending_end t l m n bits h = rw (members_end t l m n h)
-
--- and nothing is left to count
-pub count_end : (t : List ℕ) (l m n : ℕ) (bits : List Bool) (k : ℕ) → n ≤ m
-    → k + pending_count bits (members_from t l m (n - m)) ≡ pending_count bits (members_from t l 0 n)
-    → k ≡ pending_count bits (members_from t l 0 n)
-unfolding pending_count
-count_end t l m n bits k h q = let p = rw (members_end t l m n h) at q in omega (arith, p)
-
--- a yes counts as one, a no as none
-pub counted_as : (b : Bool) → bool_byte b ≡ cond b 1 0
-counted_as true = refl
-counted_as false = refl
-
-pub at_most_one : (b : Bool) → bool_byte b ≤ 1
-at_most_one true = omega arith
-at_most_one false = omega arith
+  -- those that pass are as many as the list's pending frames
+  pub pending_counted : (m k : ℕ) → length (filter Pends (range_with_len m k)) ≡ pending_count bits (members_from t l m k)
+  unfolding pending_count members_from
+  pending_counted m zero = refl
+  pending_counted m (suc k) =
+      let more = pending_counted (suc m) k in
+      whether (eqb (member_list t m) l)
+      (λ a. whether (get_or bits (member_frame t m) false) (λ b. rw (a, b, add-one) (ap suc more)) (λ b. rw (a, b, add-one) more))
+      (λ a. rw (a, add-one) more)

@@ -8,7 +8,7 @@ ghost use Rattle.master.specs.Run.{held};
 ghost use Rattle.master.specs.Told.{call_told};
 
 use crate::admit::{buffer_size, refused};
-use crate::pending::count_pending;
+use crate::pending::PendingList;
 use crate::state::State;
 use cluster::members;
 use cluster::right::Right;
@@ -22,11 +22,13 @@ impl State {
     {
         let t = self.judge_ahead(t, f)?;
         let m = members::of_frame(t.words, f);
-        let l = members::list(t.words, m);
-        Ok(count_pending(t, self.pending, l, m))
+        let list = members::list(t.words, m);
+        let pending = self.pending;
+        Ok(PendingList { t, pending, list }.count(m))
     }
 
     // Judges number ahead, and hands the right table on.
+    #[tactic(auto, using(crate::proofs::Judging::refused_before), unfolding(crate::specs::Ahead::ahead_verdict))]
     fn judge_ahead(self, t: &[u16], f: u16) -> Result<Right, Refusal>
         ensures { Judged t.now (ahead_verdict t.now self f) result }
     {

@@ -32,29 +32,21 @@ impl State {
         ensures leaves { Leaves (byte_of t.now self bytes.old b) (handed result.0 result.1) bytes.new }
         ensures told { byte_told result.1 ≡ call_told t.now (held self bytes.old) (call.byte_in b) }
     {
-        let mut next = self;
-        let answer = next.taken(t, bytes, b);
-        (next, answer)
-    }
-
-    // The byte on the state in place.
-    fn taken(&mut self, t: &[u16], bytes: &mut [u8], b: u8) -> Result<ByteAnswer, Refusal>
-        ensures leaves { Leaves (byte_of t.now self.old bytes.old b) (handed self.new result) bytes.new }
-        ensures tells { byte_told result ≡ call_told t.now (held self.old bytes.old) (call.byte_in b) }
-    {
-        let t = self.judge_byte(t, bytes.len())?;
-        let open = InTransfer { t, state: *self };
-        if self.transfer.opened.sends(t.words) {
-            let (next, answer) = open.sent_byte(b);
-            *self = next;
-            return Ok(answer);
-        }
-        let (next, answer) = open.received_byte(bytes, b);
-        *self = next;
-        Ok(answer)
+        let t = match self.judge_byte(t, bytes.len()) {
+            Ok(right) => right,
+            Err(refusal) => return (self, Err(refusal)),
+        };
+        let open = InTransfer { t, state: self };
+        let (next, answer) = if self.transfer.opened.sends(t.words) {
+            open.sent_byte(b)
+        } else {
+            open.received_byte(bytes, b)
+        };
+        (next, Ok(answer))
     }
 
     // Judges a byte in, and hands the right table on.
+    #[tactic(auto, using(crate::proofs::Judging::refused_before), unfolding(crate::specs::Byte::byte_verdict))]
     fn judge_byte(self, t: &[u16], size: usize) -> Result<Right, Refusal>
         ensures { Judged t.now (byte_verdict t.now size self) result }
     {

@@ -13,8 +13,8 @@ use cluster::right::Right;
 pub(crate) struct InTransfer<'a> {
     pub(crate) t: Right<'a>,
     pub(crate) state: State,
-    pub ghost fits: { state_fits t.words.now state ≡ true },
-    pub ghost opened: { is_open state.transfer.opened ≡ true },
+    pub(crate) ghost fits: { state_fits t.words.now state ≡ true },
+    pub(crate) ghost opened: { is_open state.transfer.opened ≡ true },
 }
 
 impl<'a> InTransfer<'a> {

@@ -16,12 +16,10 @@ use cluster::{Limits, frames, members};
 pub(crate) fn pending_fits(t: &[u16], pending: [bool; Limits::FRAMES]) -> bool
     ensures { result ≡ pending_fits t.now 0 pending }
 {
-    for (f, &bit) in pending.iter().enumerate() {
-        if !bit_fits(t, f as u16, bit) {
-            return false;
-        }
-    }
-    true
+    pending
+        .iter()
+        .enumerate()
+        .all(|(f, &bit)| bit_fits(t, f as u16, bit))
 }
 
 // Whether a pending bit may stand at a frame: it is not set, or the frame is there and published.
@@ -63,35 +61,41 @@ fn cleared(f: u16, written: bool, pending: [bool; Limits::FRAMES]) -> [bool; Lim
     next
 }
 
-// The first pending member of a list.
-pub(crate) fn first_pending(t: Right, pending: [bool; Limits::FRAMES], l: u16) -> Opened
-    ensures { result ≡ first_pending pending (members_of t.entry.words.now l) }
-{
-    let n = members::count(t.words);
-    for m in 0..n {
-        if is_pending_member(t, pending, l, m) {
-            return Opened::Frame(members::frame(t.words, m));
+// A list of a right table, beside the pending bits.
+#[derive(Clone, Copy)]
+pub(crate) struct PendingList<'a> {
+    pub(crate) t: Right<'a>,
+    pub(crate) pending: [bool; Limits::FRAMES],
+    pub(crate) list: u16,
+}
+
+impl<'a> PendingList<'a> {
+    // Its first pending member.
+    pub(crate) fn first(self) -> Opened
+        ensures { result ≡ first_pending self.entry.pending (members_of self.entry.t.words.now self.entry.list) }
+    {
+        let n = members::count(self.t.words);
+        match (0..n).find(|&m| self.has_pending(m)) {
+            Some(m) => Opened::Frame(members::frame(self.t.words, m)),
+            None => Opened::Nothing,
         }
     }
-    Opened::Nothing
-}
 
-// How many of a list's frames among the first members are pending.
-pub(crate) fn count_pending(t: Right, pending: [bool; Limits::FRAMES], l: u16, end: u16) -> u16
-    requires { end ≤ member_count t.words.now }
-    ensures { result ≡ pending_count pending (members_from t.entry.words.now l 0 end) }
-{
-    let mut n: u16 = 0;
-    for m in 0..end {
-        n += is_pending_member(t, pending, l, m) as u16;
+    // How many of its frames among the first members are pending.
+    pub(crate) fn count(self, end: u16) -> u16
+        requires { end ≤ member_count self.t.words.now }
+        ensures { result ≡ pending_count self.entry.pending (members_from self.entry.t.words.now self.entry.list 0 end) }
+    {
+        (0..end).filter(|&m| self.has_pending(m)).count() as u16
     }
-    n
-}
 
-// Whether a member is of a list and its frame is pending.
-fn is_pending_member(t: Right, pending: [bool; Limits::FRAMES], l: u16, m: u16) -> bool
-    requires { m < member_count t.words.now }
-    ensures { result ≡ (eqb (member_list t.entry.words.now m) l && get_or pending (member_frame t.entry.words.now m) false) }
-{
-    members::list(t.words, m) == l && pending[members::frame(t.words, m) as usize]
+    // Whether a member is of the list and its frame is pending.
+    fn has_pending(self, m: u16) -> bool
+        requires { m < member_count self.t.words.now }
+        ensures { result ≡ (eqb (member_list self.entry.t.words.now m) self.entry.list
+            && get_or self.entry.pending (member_frame self.entry.t.words.now m) false) }
+    {
+        let frame = members::frame(self.t.words, m);
+        members::list(self.t.words, m) == self.list && self.pending[frame as usize]
+    }
 }

@@ -1,29 +1,27 @@
 // The placements of a signal in a right table: they stand together, from the first one on.
 ghost use Rattle.std.specs.Prelude.{◌≡◌};
 ghost use Rattle.cluster.specs.Values.{first_placement, signal_published, touches as touchesOf, with_scalar, with_array};
-ghost use Rattle.master.specs.Parts.{OfSignal};
+ghost use Rattle.master.specs.Parts.{OfSignal, Records};
 ghost use Rattle.master.specs.Write.{marked_from};
 
 use cluster::right::Right;
-use cluster::{Limits, frames, placements, values};
+use cluster::{Limits, frames, placements, signals, values};
 use std::ops::Range;
 
-// Where the placements of a signal begin, found by halving: the first placement that is not of a lower signal, as `partition_point` has it.
+// The records of the placements, behind the header and the records of the frames and signals.
+fn records<'a>(t: Right<'a>) -> &'a [[u16; 3]]
+    ensures { Records t.entry.words.now result.now }
+{
+    let at = 5 + 3 * (frames::count(t.words) as usize) + 3 * (signals::count(t.words) as usize);
+    let end = at + 3 * (placements::count(t.words) as usize);
+    t.words[at..end].as_chunks().0
+}
+
+// Where the placements of a signal begin: the first placement that is not of a lower signal.
 pub(crate) fn first(t: Right, s: u16) -> u16
     ensures { result ≡ first_placement t.entry.words.now s }
 {
-    let mut low: u16 = 0;
-    let mut high = placements::count(t.words);
-    // Kept: `partition_point` goes over a slice, and the placements are records of three words within the table's.
-    while low < high {
-        let middle = (low + high) / 2;
-        if placements::signal(t.words, middle) < s {
-            low = middle + 1;
-        } else {
-            high = middle;
-        }
-    }
-    low
+    records(t).partition_point(|record| record[0] < s) as u16
 }
 
 // Whether the master publishes a signal.

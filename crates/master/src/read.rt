@@ -41,6 +41,7 @@ impl State {
     }
 
     // Judges a read, and hands the right table on.
+    #[tactic(auto, using(crate::proofs::Judging::refused_before), unfolding(crate::specs::Read::read_verdict))]
     fn judge_read(self, t: &[u16], size: usize, s: u16, array: bool) -> Result<Right, Refusal>
         ensures { Judged t.now (read_verdict t.now size self s array) result }
     {

@@ -12,12 +12,10 @@ use cluster::{Limits, frames, placements, signals};
 pub(crate) fn received_fits(t: &[u16], received: [Reception; Limits::SIGNALS]) -> bool
     ensures { result ≡ received_fits t.now 0 received }
 {
-    for (s, reception) in received.iter().enumerate() {
-        if !reception.fits(t, s as u16) {
-            return false;
-        }
-    }
-    true
+    received
+        .iter()
+        .enumerate()
+        .all(|(s, reception)| reception.fits(t, s as u16))
 }
 
 impl Reception {

@@ -16,6 +16,13 @@ use cluster::right::Right;
 use cluster::{Limits, values as values_of};
 use refusal::Refusal;
 
+// The signals of a row, and the value of each.
+#[derive(Clone, Copy)]
+struct Row<'a> {
+    signals: &'a [u16],
+    values: &'a [u32],
+}
+
 impl State {
     // Writes a row of scalars, each to its signal, and marks their frames as written.
     pub fn write_row(
@@ -28,27 +35,23 @@ impl State {
         ensures leaves { Leaves (row_of t.now self.old bytes.old signals.now values.now) (handed self.new result) bytes.new }
         ensures told { write_told result ≡ row_told t.now (held self.old bytes.old) signals.now values.now }
     {
-        let t = self.judge_row(t, bytes.len(), signals, values)?;
-        put_row(t, bytes, signals, values);
+        let row = Row { signals, values };
+        let t = self.judge_row(t, bytes.len(), row)?;
+        row.put(t, bytes);
         *self = self.marked_row(t, signals);
         Ok(())
     }
 
     // Judges a row, and hands the right table on.
-    fn judge_row<'a>(
-        self,
-        t: &'a [u16],
-        size: usize,
-        signals: &[u16],
-        values: &[u32],
-    ) -> Result<Right<'a>, Refusal>
-        ensures { Judged t.now (row_verdict t.now size self signals.now values.now) result }
+    #[tactic(auto, using(crate::proofs::Judging::refused_before), unfolding(crate::specs::WriteRow::row_verdict))]
+    fn judge_row<'a>(self, t: &'a [u16], size: usize, row: Row) -> Result<Right<'a>, Refusal>
+        ensures { Judged t.now (row_verdict t.now size self row.entry.signals.now row.entry.values.now) result }
     {
         let right = self.right_table(t, size)?;
-        if signals.len() != values.len() {
+        if row.signals.len() != row.values.len() {
             return refused(Refusal::ROWS);
         }
-        first_bad(right, signals, values)?;
+        row.first_bad(right)?;
         Ok(right)
     }
 
@@ -77,26 +80,28 @@ impl Transfer {
     }
 }
 
-// Refusals 4 to 7 of a row: that of the first bad pair, with its place.
-fn first_bad(t: Right, signals: &[u16], values: &[u32]) -> Result<(), Refusal>
-    ensures { result ≡ first_bad t.entry.words.now 0 (puts signals.now values.now) }
-{
-    for (i, (&s, &v)) in signals.iter().zip(values).enumerate() {
-        let fits = values_of::scalar_fits(t.words, s, v);
-        if let Err(refusal) = writable(t, s, false, fits) {
-            return Err(Refusal::at(refusal.number, i));
+impl<'a> Row<'a> {
+    // Refusals 4 to 7 of a row: that of the first bad pair, with its place.
+    fn first_bad(self, t: Right) -> Result<(), Refusal>
+        ensures { result ≡ first_bad t.entry.words.now 0 (puts self.entry.signals.now self.entry.values.now) }
+    {
+        for (i, (&s, &v)) in self.signals.iter().zip(self.values).enumerate() {
+            let fits = values_of::scalar_fits(t.words, s, v);
+            if let Err(refusal) = writable(t, s, false, fits) {
+                return Err(Refusal::at(refusal.number, i));
+            }
         }
+        Ok(())
     }
-    Ok(())
-}
 
-// Puts the values of a row into their signals.
-fn put_row(t: Right, bytes: &mut [u8], signals: &[u16], values: &[u32])
-    requires { first_bad t.words.now 0 (puts signals.now values.now) ≡ Ok tt }
-    ensures { bytes.new ≡ with_row t.entry.words.now bytes.old (puts signals.now values.now) }
-{
-    for (&s, &v) in signals.iter().zip(values) {
-        placed::put_scalar(t, bytes, s, v as u16);
+    // Puts the values of a row into their signals.
+    fn put(self, t: Right, bytes: &mut [u8])
+        requires { first_bad t.words.now 0 (puts self.signals.now self.values.now) ≡ Ok tt }
+        ensures { bytes.new ≡ with_row t.entry.words.now bytes.old (puts self.entry.signals.now self.entry.values.now) }
+    {
+        for (&s, &v) in self.signals.iter().zip(self.values) {
+            placed::put_scalar(t, bytes, s, v as u16);
+        }
     }
 }
 

@@ -23,6 +23,7 @@ impl State {
     }
 
     // The verdict on a select.
+    #[tactic(auto, using(refusal::proofs::PassedOn::passed_on), unfolding(crate::specs::Select::select_verdict))]
     fn judge_select(self, t: &[u16], n: u16) -> Result<(), Refusal>
         ensures { result ≡ select_verdict t.now self n }
     {

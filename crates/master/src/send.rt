@@ -45,6 +45,7 @@ impl State {
     }
 
     // The verdict on a send.
+    #[tactic(auto, using(refusal::proofs::PassedOn::passed_on), unfolding(crate::specs::Message::send_verdict))]
     fn judge_send(self, t: &[u16], size: u32) -> Result<(), Refusal>
         ensures { result ≡ send_verdict t.now self size }
     {

@@ -23,6 +23,7 @@ impl State {
 }
 
 // Judges the table and the number of frame bytes.
+#[tactic(auto, using(refusal::proofs::PassedOn::passed_on), unfolding(crate::specs::Start::fresh_verdict))]
 fn judge(t: &[u16], size: usize) -> Result<(), Refusal>
     ensures { result ≡ fresh_verdict t.now size }
 {

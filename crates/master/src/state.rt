@@ -20,6 +20,7 @@ pub struct Plan {
 // What an open transfer is of: a frame by its number, the request (60) or the response (61).
 #[derive(Clone, Copy)]
 pub enum Opened {
+    // Kept: `is_open` (specs/Transfers), `no_transfer` (Fresh), `opened_of` (desk, Taken) and the claim's `open_after ≡ Nothing` go by this case.
     Nothing,
     Frame(u16),
     Request,
@@ -50,6 +51,7 @@ pub struct Sending {
 // The diagnostic message.
 #[derive(Clone, Copy)]
 pub enum Message {
+    // Kept: `told` (specs/Message), `is_sending` (Fits), and the replies' `message_after` and `message_reply` go by this case.
     None,
     Sending(Sending),
     Completed,

@@ -11,7 +11,7 @@ ghost use Rattle.master.specs.Told.{call_told};
 
 use crate::admit::refused;
 use crate::closing::InTransfer;
-use crate::pending::first_pending;
+use crate::pending::PendingList;
 use crate::state::{Message, Opened, Plan, State};
 use crate::transfer::{Known, Opening};
 use cluster::entries::EntryKind;
@@ -34,25 +34,19 @@ impl State {
         ensures value { handed result.0 result.1 ≡ tick_of t.now bytes.now lent.now self }
         ensures told { tick_told result.1 ≡ call_told t.now (held self bytes.now) (call.tick lent.now) }
     {
-        let mut next = self;
-        let answer = next.ticked(t, bytes, lent);
-        (next, answer)
-    }
-
-    // The tick on the state in place.
-    fn ticked(&mut self, t: &[u16], bytes: &[u8], lent: &[u8]) -> Result<TickAnswer, Refusal>
-        ensures value { handed self.new result ≡ tick_of t.now bytes.now lent.now self.old }
-        ensures tells { tick_told result ≡ call_told t.now (held self.old bytes.now) (call.tick lent.now) }
-    {
-        let t = self.judge_tick(t, bytes.len(), lent.len())?;
+        let t = match self.judge_tick(t, bytes.len(), lent.len()) {
+            Ok(right) => right,
+            Err(refusal) => return (self, Err(refusal)),
+        };
         if self.plan.waits() {
-            self.plan = self.plan.waited();
-            return Ok(TickAnswer::Waiting);
+            return (self.with_plan(self.plan.waited()), Ok(TickAnswer::Waiting));
         }
-        Ok(self.slot(t, bytes, lent))
+        let (next, answer) = self.slot(t, bytes, lent);
+        (next, Ok(answer))
     }
 
     // Judges a tick, and hands the right table on.
+    #[tactic(auto, using(crate::proofs::Judging::refused_before), unfolding(crate::specs::Tick::tick_verdict))]
     fn judge_tick(self, t: &[u16], size: usize, lent: usize) -> Result<Right, Refusal>
         ensures { Judged t.now (tick_verdict t.now size lent self) result }
     {
@@ -64,18 +58,16 @@ impl State {
     }
 
     // Starts a slot: an open transfer is closed as failed, and the entry due begins.
-    fn slot<'a>(&mut self, t: Right<'a>, bytes: &'a [u8], lent: &'a [u8]) -> TickAnswer
-        requires { tick_verdict t.words.now (length bytes.now) (length lent.now) self.old ≡ Ok tt }
-        ensures { handed self.new (Ok result) ≡ slot_of t.entry.words.now bytes.now lent.now self.old }
+    fn slot<'a>(self, t: Right<'a>, bytes: &'a [u8], lent: &'a [u8]) -> (State, TickAnswer)
+        requires { tick_verdict t.words.now (length bytes.now) (length lent.now) self ≡ Ok tt }
+        ensures { handed result.0 (Ok result.1) ≡ slot_of t.entry.words.now bytes.now lent.now self }
     {
-        let due = self.plan.due(t.words);
-        *self = self.abandoned(t);
-        match due {
-            None => TickAnswer::Idle,
+        let closed = self.abandoned(t);
+        match self.plan.due(t.words) {
+            None => (closed, TickAnswer::Idle),
             Some(e) => {
-                let opened = slot_opens(t, self.pending, self.message, e);
-                self.plan = Plan::begun(t.words, e);
-                self.open(Opening {
+                let opened = slot_opens(t, closed.pending, closed.message, e);
+                closed.with_plan(Plan::begun(t.words, e)).open(Opening {
                     known: Known { t, opened },
                     bytes,
                     lent,
@@ -96,15 +88,15 @@ impl State {
     }
 
     // Opens a transfer, or is silent.
-    fn open(&mut self, opening: Opening) -> TickAnswer
-        ensures { handed self.new (Ok result)
-            ≡ opens_or_silent opening.entry.known.t.words.now opening.entry.bytes.now opening.entry.lent.now self.old opening.entry.known.opened }
+    fn open(self, opening: Opening) -> (State, TickAnswer)
+        ensures { handed result.0 (Ok result.1)
+            ≡ opens_or_silent opening.entry.known.t.words.now opening.entry.bytes.now opening.entry.lent.now self opening.entry.known.opened }
     {
         if !opening.known.opened.is_open() {
-            return TickAnswer::Silent;
+            return (self, TickAnswer::Silent);
         }
-        self.transfer = opening.transfer(self.message);
-        TickAnswer::Opened(opening.known.protected())
+        let next = self.with_transfer(opening.transfer(self.message));
+        (next, TickAnswer::Opened(opening.known.protected()))
     }
 }
 
@@ -116,7 +108,12 @@ fn slot_opens(t: Right, pending: [bool; Limits::FRAMES], message: Message, e: u1
     let target = entries::target(t.words, e);
     match entries::kind_of(t.words, e) {
         Some(EntryKind::Frame) => Opened::Frame(target),
-        Some(EntryKind::List) => first_pending(t, pending, target),
+        Some(EntryKind::List) => PendingList {
+            t,
+            pending,
+            list: target,
+        }
+        .first(),
         Some(EntryKind::Request) => request_slot(message),
         _ => Opened::Response,
     }

@@ -37,7 +37,7 @@ pub struct Format {
 pub(crate) struct Known<'a> {
     pub(crate) t: Right<'a>,
     pub(crate) opened: Opened,
-    pub ghost there: { frame_there t.words.now opened ≡ true },
+    pub(crate) ghost there: { frame_there t.words.now opened ≡ true },
 }
 
 // What a slot opens, with the frame bytes and the message that are lent to the tick.
@@ -46,7 +46,7 @@ pub(crate) struct Opening<'a> {
     pub(crate) known: Known<'a>,
     pub(crate) bytes: &'a [u8],
     pub(crate) lent: &'a [u8],
-    pub ghost size: { length bytes.now ≡ buffer_size known.t.words.now },
+    pub(crate) ghost size: { length bytes.now ≡ buffer_size known.t.words.now },
 }
 
 impl Opened {

@@ -47,6 +47,7 @@ impl State {
     }
 
     // Judges a write of a scalar or an array, which fits its signal or not, and hands the right table on.
+    #[tactic(auto, using(crate::proofs::Judging::refused_before))]
     fn judge_write(
         self,
         t: &[u16],

@@ -1,7 +1,7 @@
 -- The steps of the judge over plain numbers and lists: the longest member of each list, an entry's longest frame, and what is answered.
 use Prim.Native.Nat.{ℕ, suc, ◌+◌, ◌*◌, ◌^◌, ◌≤◌, ◌<◌, max}
 use mathlib.Core.Path.{◌≡◌, refl, sym, ◌∙◌}
-use mathlib.Core.Bool.{Bool, true, false, cond, not, ◌&&◌}
+use mathlib.Core.Bool.{Bool, true, false, cond, ◌&&◌}
 use mathlib.Core.List.{List, [], ◌∷◌}
 use native.Mathlib.Decide.{ℕ_discrete}
 use native.Mathlib.Nat.{mul-le-mul}
@@ -17,10 +17,10 @@ use Rattle.refusal.specs.declared.Refusal.{Refusal}
 use Rattle.cluster.specs.Check as checked
 use Rattle.cluster.specs.Answers.{behind_table}
 use Rattle.cluster.specs.Check.{taken_of}
-use Rattle.cluster.specs.Table.{frame_length, member_count, member_list, member_frame, entry_count, entry_kind, entry_target, entry_delay}
+use Rattle.cluster.specs.Table.{frame_length, member_count, member_list, member_frame, entry_count, entry_kind, entry_target}
 use Rattle.cluster.proofs.UsedMarks.{get_d_same}
 use Rattle.timing.specs.Judge.{answered, found_of, judge_of, judgement_told, short_told, judge_told}
-use Rattle.timing.specs.Slots.{longest_member, entry_bytes, slot_holds, entry_holds, first_short, time_right}
+use Rattle.timing.specs.Slots.{longest_member, entry_bytes, first_short, time_right}
 use Rattle.std.specs.Prelude.{Ok, Err}
 use Rattle.std.specs.Prelude.{None, Some}
 use Rattle.timing.specs.Judge.{Judgement}
@@ -74,12 +74,6 @@ module _ (t : List ℕ) where
   pub other_bytes : (e : ℕ) → (entry_kind t e ≡ 0 → ⊥) → (entry_kind t e ≡ 1 → ⊥) → entry_bytes t e ≡ 8
   unfolding entry_bytes
   other_bytes e a b = rw (ne_eqb (entry_kind t e) 0 a, ne_eqb (entry_kind t e) 1 b)
-
-  -- a slot is short or not as its delay and the bytes of its longest frame say
-  pub short_by : (tick bit e delay n : ℕ) (holds : Bool) → delay ≡ entry_delay t e → n ≡ entry_bytes t e
-      → holds ≡ slot_holds tick bit delay n → not (entry_holds t tick bit e) ≡ not holds
-  unfolding entry_holds
-  short_by tick bit e delay n holds d b h = rw (h, d, b)
 
   -- ---- what is answered
 

@@ -21,10 +21,11 @@ pub fn judge(t: &[u16], tick: u32, bit: u32) -> Result<Option<u16>, Refusal>
     ensures told { judgement_told result ≡ judge_told t.now tick bit }
 {
     let right = Right::taken(t)?;
-    if !times_right(tick, bit) {
+    let times = Times { tick, bit };
+    if !times.are_right() {
         return Err(Refusal::of(Refusal::TIME));
     }
-    Ok(first_short(right, tick, bit))
+    Ok(times.first_short(right))
 }
 
 // The bit times that a frame of some data bytes takes at least.
@@ -34,11 +35,38 @@ pub fn minimum_bits(bytes: u16) -> u64
     34 + 10 * (bytes as u64 + 1)
 }
 
-// Whether neither a tick nor a bit time is refused.
-fn times_right(tick: u32, bit: u32) -> bool
-    ensures { result ≡ (time_right tick && time_right bit) }
-{
-    time_right(tick) && time_right(bit)
+// A tick in microseconds and a bit time in tenths of a microsecond.
+#[derive(Clone, Copy)]
+struct Times {
+    tick: u32,
+    bit: u32,
+}
+
+impl Times {
+    // Whether neither is refused.
+    fn are_right(self) -> bool
+        ensures { result ≡ (time_right self.tick && time_right self.bit) }
+    {
+        time_right(self.tick) && time_right(self.bit)
+    }
+
+    // The first entry whose slot is short.
+    fn first_short(self, t: Right) -> Option<u16>
+        ensures { Ok result ≡ found_of t.entry.words.now (first_short t.entry.words.now self.tick self.bit) }
+    {
+        let longest = longest_members(t);
+        (0..entries::count(t.words)).find(|&e| !self.slot_holds(
+            entries::delay(t.words, e),
+            entry_bytes(t, e, &longest),
+        ))
+    }
+
+    // Whether a slot of some ticks holds a frame of some data bytes.
+    fn slot_holds(self, delay: u16, bytes: u16) -> bool
+        ensures { result ≡ slot_holds self.tick self.bit delay bytes }
+    {
+        14 * minimum_bits(bytes) * (self.bit as u64) <= 100 * (delay as u64) * (self.tick as u64)
+    }
 }
 
 // Whether a time is neither 0 nor above 65,535.
@@ -46,24 +74,6 @@ fn time_right(x: u32) -> bool
     ensures { result ≡ time_right x }
 {
     1 <= x && x <= 65535
-}
-
-// The first entry whose slot is short.
-fn first_short(t: Right, tick: u32, bit: u32) -> Option<u16>
-    ensures { Ok result ≡ found_of t.entry.words.now (first_short t.entry.words.now tick bit) }
-{
-    let longest = longest_members(t);
-    for e in 0..entries::count(t.words) {
-        if !slot_holds(
-            tick,
-            bit,
-            entries::delay(t.words, e),
-            entry_bytes(t, e, &longest),
-        ) {
-            return Some(e);
-        }
-    }
-    None
 }
 
 // The data bytes of the longest member of each list.
@@ -91,11 +101,4 @@ fn entry_bytes(t: Right, e: u16, longest: &[u16; Limits::MEMBERS]) -> u16
         Some(EntryKind::List) => longest[target as usize],
         _ => 8,
     }
-}
-
-// Whether a slot of some ticks holds a frame of some data bytes.
-fn slot_holds(tick: u32, bit: u32, delay: u16, bytes: u16) -> bool
-    ensures { result ≡ slot_holds tick bit delay bytes }
-{
-    14 * minimum_bits(bytes) * (bit as u64) <= 100 * (delay as u64) * (tick as u64)
 }

@@ -80,6 +80,7 @@ impl Reassembly {
     }
 
     // Takes a frame of a NAD that is not ignored, by its kind.
+    // Kept: a frame and a buffer in five, since `take` is lent the two and its clause `leaves` goes by them; no struct of both outlives one call.
     #[tactic(auto, using(crate::proofs::Steps::no_kinds))]
     fn by_kind(&mut self, frame: &[u8; 8], buffer: &mut [u8]) -> Result<Answer, Refusal>
         requires { (fits self.old.message ≡ true) × (listens self.old.message (frame_nad frame.now) ≡ true) }

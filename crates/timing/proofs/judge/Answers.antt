@@ -13,10 +13,10 @@ returns-in_err-right c =
     let all = judge_told_lem a.t.now a.tick a.bit _ (passed_on _ _ c.from_residual.ensures.1 ∙ sym refused) in
     record { value = all.0; told = all.1 }
 
-pub returns-then-not-times_right : goal.returns-then-not-times_right
-returns-then-not-times_right c =
+pub returns-then-not-are_right : goal.returns-then-not-are_right
+returns-then-not-are_right c =
     let a = c.args in
-    let times = sym c.times_right.ensures ∙ c.if-not-times_right.true in
+    let times = sym c.are_right.ensures ∙ c.if-not-are_right.true in
     let refused = time_refused _ a.tick a.bit c.in_ok-right.ensures.right times in
     let all = judge_told_lem a.t.now a.tick a.bit _ (ap Err c.of.ensures ∙ sym refused) in
     record { value = all.0; told = all.1 }
@@ -24,7 +24,7 @@ returns-then-not-times_right c =
 pub returns : goal.returns
 returns c =
     let a = c.args in
-    let times = sym c.times_right.ensures ∙ c.if-not-times_right.false in
+    let times = sym c.are_right.ensures ∙ c.if-not-are_right.false in
     let found = found_told _ a.tick a.bit c.in_ok-right.ensures.right times in
     let same = ap (λ t. found_of t (first_short t a.tick a.bit)) c.in_ok-right.ensures.words in
     let all = judge_told_lem a.t.now a.tick a.bit _ (c.first_short.ensures ∙ same ∙ sym found) in

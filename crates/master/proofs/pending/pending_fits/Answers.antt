@@ -1,34 +1,17 @@
--- The bits before fit, so the whole fits where those left do.
-use borrow.Author.Rules.{rules}
-use borrow.Author.Tests.{not-false, not-true}
-use lib.ListN.{length}
-use mathlib.Core.Path.{◌∙◌, ◌≡◌, refl, sym}
-use native.Mathlib.Omega.{arith}
-use Rattle.master.proofs.Bits.{bits_end, bits_right, bits_wrong}
+-- Each bit is tested with its number, so the bits fit just where each of them does.
+use Rattle.std.proofs.Common.{refl, rules}
+use native.Mathlib.Numerals.{add-one}
+use Rattle.std.proofs.lemmas.Iterator.{cases_from_all, YieldsList-from_slice}
+use Rattle.std.proofs.lemmas.Iterator.Consumers.{YieldsList-at, YieldsList-from_enumerate}
+use Rattle.master.specs.Fits.{bit_fits, pending_fits}
+use Rattle.master.proofs.Numbered.{Passes, Fails, whole_is}
 use Rattle.master.proofs.pending.pending_fits.Goals as goal
 
-pub loop-f-init : goal.loop-f-init
-loop-f-init c = refl
-
-pub returns-then-not-bit_fits : goal.returns-then-not-bit_fits
-returns-then-not-bit_fits c =
-    let a = c.args in
-    let at = c.loop-f in
-    let l : length a.pending ≡ 60 = search rules in
-    sym (at.invariant ∙ bits_wrong a.t.now at.f a.pending (omega (arith, l, c.loop-f-test.true))
-    (sym c.bit_fits.ensures ∙ not-true c.bit_fits.result c.if-not-bit_fits.true-raw))
-
-pub loop-f-preserved : goal.loop-f-preserved
-loop-f-preserved c =
-    let a = c.args in
-    let at = c.loop-f in
-    let test = c.loop-f-test in
-    let l : length a.pending ≡ 60 = search rules in
-    at.invariant ∙ bits_right a.t.now at.f a.pending (omega (arith, l, test.true))
-    (sym c.bit_fits.ensures ∙ not-false c.bit_fits.result c.if-not-bit_fits.false-raw)
-
 pub returns : goal.returns
+unfolding pending_fits
 returns c =
-    let a = c.args in
-    let l : length a.pending ≡ 60 = search rules in
-    sym (c.loop-f.invariant ∙ bits_end a.t.now c.loop-f.f a.pending (omega (arith, l, c.loop-f-test.false)))
+    let t = c.args.t.now in
+    whole_is (bit_fits t) (pending_fits t) (λ n. refl) (λ n x xs. rw add-one) 0 c.args.pending c.all.result
+    (cases_from_all _ _ c.all.result (Passes (bit_fits t)) (Fails (bit_fits t)) c.all.ensures.ran
+    (YieldsList-from_enumerate (YieldsList-at c.enumerate.ensures.source (YieldsList-from_slice c.args.pending c.iter.ensures.rest)) c.enumerate.ensures.count)
+    (λ x q k. search rules) (λ x q k. search rules))

@@ -1,23 +1,46 @@
--- What stands at the middle tells on which side of it the first placement is.
-use Rattle.std.proofs.Common.{arith, ◌+◌, ◌/◌}
+-- The records of lower signals are those before the first placement.
+use Rattle.std.proofs.Common.{arith, ◌<◌, ◌≤◌, ◌-◌, ℕ, List, [], get_or, ltb, rules}
+use Rattle.std.proofs.lemmas.Bool.{ltb-true, ltb-false}
+use Rattle.std.proofs.lemmas.List.Sorted.{IsPartitionPoint-from_clause, IsPartitionedBy-ltb, IsNonDecreasingBy-from_default}
+use Rattle.signal.proofs.Inside.{order}
 use Rattle.cluster.proofs.HeaderLaws.{placement_count_lem}
+use Rattle.cluster.proofs.CountingUp.{up_monotone}
+use Rattle.cluster.proofs.PlacementLaws.{signals_up}
 use Rattle.cluster.proofs.Together.{first_high, lower_before, higher_behind}
+use Rattle.cluster.specs.Table.{placement_signal, placement_count}
+use Rattle.cluster.specs.Values.{first_placement}
 use Rattle.master.proofs.placed.first.Goals as goal
 
-pub loop-low-init : goal.loop-low-init
-loop-low-init c = (omega arith, omega (arith, first_high c.args.t.words.now c.args.s), omega arith)
+pub overflow_cast-result : goal.overflow_cast-result
+overflow_cast-result c = omega (arith, placement_count_lem _ c.args.t.right, c.partition_point.ensures.bound, c.records.ensures.all)
 
-pub overflow_add-middle : goal.overflow_add-middle
-overflow_add-middle c = omega (arith, placement_count_lem _ c.args.t.right)
-
-pub loop-low-preserved-then-signal-s : goal.loop-low-preserved-then-signal-s
-loop-low-preserved-then-signal-s c =
-    let at = c.loop-low in
-    let before = lower_before _ c.args.t.right c.args.s ((at.low + at.high) / 2) (omega arith) (omega arith) in
-    (omega arith, at.invariant.1, at.invariant.2)
-
-pub loop-low-preserved : goal.loop-low-preserved
-loop-low-preserved c =
-    let at = c.loop-low in
-    let behind = higher_behind _ c.args.t.right c.args.s ((at.low + at.high) / 2) (omega arith) (omega arith) in
-    (at.invariant.0, behind, omega arith)
+pub returns : goal.returns
+returns c =
+    let t = c.args.t.words.now in
+    let ok = c.args.t.right in
+    let s = c.args.s in
+    let r = c.partition_point.result in
+    let xs = c.records.result.now in
+    let all = c.records.ensures.all in
+    let each = c.records.ensures.each in
+    let head : List ℕ → ℕ = (λ x. get_or x 0 0) in
+    let rise = IsNonDecreasingBy-from_default head xs [] (λ i j h b.
+    let up = up_monotone (placement_signal t) (placement_count t) (signals_up t ok) i j h (omega (arith, all, b)) in
+    omega (arith, up, each i [] (omega (arith, all, b)), each j [] (omega (arith, all, b)))) in
+    let point =
+    IsPartitionPoint-from_clause (λ x. ltb (head x) s) xs r c.partition_point.ensures.partitioned
+    (IsPartitionedBy-ltb head xs s rise) (λ a r q k. search rules) in
+    let low : r ≤ first_placement t s =
+    order (first_placement t s) r
+    (λ b.
+    let h : r - 1 < placement_count t = omega (arith, all, b, c.partition_point.ensures.bound) in
+    let l = ltb-true _ _ (point.0 (r - 1) [] (omega arith) (omega (arith, b))) in
+    absurd (omega (arith, b, lower_before t ok s (r - 1) h (omega (arith, l, each (r - 1) [] h)))))
+    (λ b. b) in
+    let high : first_placement t s ≤ r =
+    order r (placement_count t)
+    (λ b.
+    let l = ltb-false _ _ (point.1 r [] (omega arith) (omega (arith, all, b))) in
+    higher_behind t ok s r b (omega (arith, l, each r [] b)))
+    (λ b. omega (arith, b, first_high t s)) in
+    omega (arith, low, high)

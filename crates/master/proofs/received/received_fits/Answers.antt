@@ -1,34 +1,17 @@
--- Those before fit, so the whole fits where those left do.
-use borrow.Author.Rules.{rules}
-use borrow.Author.Tests.{not-false, not-true}
-use lib.ListN.{length}
-use mathlib.Core.Path.{◌∙◌, ◌≡◌, refl, sym}
-use native.Mathlib.Omega.{arith}
-use Rattle.master.proofs.ReceivedSteps.{receptions_end, receptions_right, receptions_wrong}
+-- Each reception is tested with its number, so they fit just where each of them does.
+use Rattle.std.proofs.Common.{refl, rules}
+use native.Mathlib.Numerals.{add-one}
+use Rattle.std.proofs.lemmas.Iterator.{cases_from_all, YieldsList-from_slice}
+use Rattle.std.proofs.lemmas.Iterator.Consumers.{YieldsList-at, YieldsList-from_enumerate}
+use Rattle.master.specs.Received.{last_fits, received_fits}
+use Rattle.master.proofs.Numbered.{Passes, Fails, whole_is}
 use Rattle.master.proofs.received.received_fits.Goals as goal
 
-pub loop-s-init : goal.loop-s-init
-loop-s-init c = refl
-
-pub returns-then-not-fits : goal.returns-then-not-fits
-returns-then-not-fits c =
-    let a = c.args in
-    let at = c.loop-s in
-    let l : length a.received ≡ 256 = search rules in
-    sym (at.invariant ∙ receptions_wrong a.t.now at.s a.received (omega (arith, l, c.loop-s-test.true))
-    (sym c.fits.ensures ∙ not-true c.fits.result c.if-not-fits.true-raw))
-
-pub loop-s-preserved : goal.loop-s-preserved
-loop-s-preserved c =
-    let a = c.args in
-    let at = c.loop-s in
-    let test = c.loop-s-test in
-    let l : length a.received ≡ 256 = search rules in
-    at.invariant ∙ receptions_right a.t.now at.s a.received (omega (arith, l, test.true))
-    (sym c.fits.ensures ∙ not-false c.fits.result c.if-not-fits.false-raw)
-
 pub returns : goal.returns
+unfolding received_fits
 returns c =
-    let a = c.args in
-    let l : length a.received ≡ 256 = search rules in
-    sym (c.loop-s.invariant ∙ receptions_end a.t.now c.loop-s.s a.received (omega (arith, l, c.loop-s-test.false)))
+    let t = c.args.t.now in
+    whole_is (λ n x. last_fits t n x.last) (received_fits t) (λ n. refl) (λ n x xs. rw add-one) 0 c.args.received c.all.result
+    (cases_from_all _ _ c.all.result (Passes (λ n x. last_fits t n x.last)) (Fails (λ n x. last_fits t n x.last)) c.all.ensures.ran
+    (YieldsList-from_enumerate (YieldsList-at c.enumerate.ensures.source (YieldsList-from_slice c.args.received c.iter.ensures.rest)) c.enumerate.ensures.count)
+    (λ x q k. search rules) (λ x q k. search rules))

@@ -14,8 +14,8 @@ returns-in_err-t c =
     let all = ahead_told_lem a.t.now a.self a.f c.from_residual.result (passed_on _ _ c.from_residual.ensures.1 ∙ rw c.in_err-t.ensures) in
     record { value = all.0; told = all.1 }
 
-pub count_pending-requires : goal.count_pending-requires
-count_pending-requires c =
+pub count-requires : goal.count-requires
+count-requires c =
     let t = c.in_ok-t.ensures in
     omega (arith, c.of_frame-m.ensures, rw (← t.1) at (ahead_member _ _ _ t.0))
 
@@ -25,6 +25,6 @@ returns c =
     let a = c.args in
     let t = c.in_ok-t.ensures in
     let all =
-    ahead_told_lem a.t.now a.self a.f (Ok c.count_pending.result)
-    (rw (t.0, ← t.1, c.count_pending.ensures, c.list-l.ensures, c.of_frame-m.ensures)) in
+    ahead_told_lem a.t.now a.self a.f (Ok c.count.result)
+    (rw (t.0, ← t.1, c.count.ensures, c.list-list.ensures, c.of_frame-m.ensures)) in
     record { value = all.0; told = all.1 }

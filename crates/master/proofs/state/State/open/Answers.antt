@@ -8,4 +8,4 @@ returns-then-not-is_open c = rw (← c.is_open.ensures, c.if-not-is_open.true)
 
 pub returns : goal.returns
 unfolding opens_or_silent
-returns c = rw (← c.is_open.ensures, c.if-not-is_open.false, c.protected.ensures, c.transfer-self.ensures)
+returns c = rw (← c.is_open.ensures, c.if-not-is_open.false, c.with_transfer-next.ensures, c.protected.ensures, c.transfer.ensures)

@@ -19,8 +19,8 @@ returns-in_err-t c =
     }) in
     record { leaves = all.0; told = all.1 }
 
-pub put_row-requires : goal.put_row-requires
-put_row-requires c = rw c.in_ok-t.ensures.1 (row_knows _ _ _ _ _ c.in_ok-t.ensures.0).good
+pub put-requires : goal.put-requires
+put-requires c = rw c.in_ok-t.ensures.1 (row_knows _ _ _ _ _ c.in_ok-t.ensures.0).good
 
 pub returns : goal.returns
 unfolding row_of
@@ -28,6 +28,6 @@ returns c =
     let a = c.args in
     let t = c.in_ok-t.ensures in
     let all =
-    row_told_lem a.t.now a.self.now a.bytes.now a.signals.now a.values.now (handed c.marked_row.result (Ok tt)) c.put_row.new.bytes
-    (record { handed = rw (t.0, ← t.1, c.marked_row.ensures); kept = rw (t.0, ← t.1) c.put_row.ensures }) in
+    row_told_lem a.t.now a.self.now a.bytes.now a.signals.now a.values.now (handed c.marked_row.result (Ok tt)) c.put.new.bytes
+    (record { handed = rw (t.0, ← t.1, c.marked_row.ensures); kept = rw (t.0, ← t.1) c.put.ensures }) in
     record { leaves = all.0; told = all.1 }

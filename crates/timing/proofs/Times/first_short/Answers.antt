@@ -1,0 +1,26 @@
+-- The first entry whose slot does not hold its longest frame is the answer, as `find` has it.
+use Rattle.std.proofs.Common.{◌≡◌, ◌<◌, ℕ, List, Bool, true, false, not, ap, Option, Some, None, Ok, SomeIff, rules, tests}
+use Rattle.std.proofs.lemmas.Iterator.{first_from_Range}
+use borrow.Author.Tests.{lt-ltb, le-ltb}
+use Rattle.cluster.specs.Table.{entry_count}
+use Rattle.cluster.proofs.Finding.{found_first}
+use Rattle.signal.proofs.Inside.{order}
+use Rattle.timing.specs.Judge.{Judgement, found_of}
+use Rattle.timing.specs.Slots.{entry_holds, first_short}
+use Rattle.timing.proofs.Times.first_short.Goals as goal
+
+answered : (t : List ℕ) (e : ℕ) (r : Option ℕ) → SomeIff r (e < entry_count t) e → ◌≡◌ {A = Judgement} (Ok r) (found_of t e)
+unfolding found_of
+answered t e None none = order e (entry_count t) (λ b. absurd (none b)) (λ b. rw (le-ltb _ _ b))
+answered t e (Some i) found = rw (lt-ltb _ _ found.0) (ap (λ j. Ok (Some j)) found.1)
+
+pub returns : goal.returns
+unfolding first_short entry_holds
+returns c =
+    let t = c.args.t.words.now in
+    let times = c.args.self in
+    let short : ℕ → Bool = (λ e. not (entry_holds t times.tick times.bit e)) in
+    answered t (first_short t times.tick times.bit) c.find.result
+    (rw (← c.count.ensures) (found_first short c.count.result c.find.result
+    (first_from_Range _ _ _ _ (λ e. short e ≡ true) (λ e. short e ≡ false) c.find.ensures.ran
+    (λ x q k. search (rules, tests)) (λ x q k. search (rules, tests)))))
