@@ -2,6 +2,7 @@ pub mod Accepted
 pub mod Any
 pub mod BitMarks
 pub mod CheckTold
+pub mod Chunks
 pub mod Clauses
 pub mod ColumnsExactly
 pub mod Counting

@@ -9,4 +9,5 @@ pub mod Lists
 pub mod Fresh
 pub mod Values
 pub mod Read
+pub mod Records
 pub mod Passed

@@ -1,7 +1,9 @@
 // A table that the check accepts.
 ghost use Rattle.std.specs.Prelude.{◌≡◌, Ok, Err, IfOk, OnOk, IfErr};
 ghost use Rattle.cluster.specs.Check.{RightTable, taken_of};
+ghost use Rattle.cluster.specs.Records.{PlacementRecords};
 
+use crate::table::{member_at, placement_at};
 use refusal::Refusal;
 
 // A lent table that the check accepts, for the calls that ask the check once.
@@ -20,5 +22,14 @@ impl<'a> Right<'a> {
     {
         crate::taken(t)?;
         Ok(Right { words: t })
+    }
+
+    // The records of its placements, in order: signal, frame, offset.
+    pub fn placements(self) -> &'a [[u16; 3]]
+        ensures { PlacementRecords self.entry.words.now result.now }
+    {
+        let from = placement_at(self.words, 0);
+        let end = member_at(self.words, 0);
+        self.words[from..end].as_chunks().0
     }
 }

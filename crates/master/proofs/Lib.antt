@@ -4,7 +4,6 @@ pub mod Answered
 pub mod ByteExactly
 pub mod ByteLaws
 pub mod Cases
-pub mod Chunks
 pub mod Counted
 pub mod Filling
 pub mod FitsExactly

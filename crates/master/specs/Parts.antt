@@ -18,8 +18,3 @@ pub record OfSignal (t : List ℕ) (s from end : ℕ) : Type 0 where
 abbrev pub Judged : List ℕ → Verdict → Result Right Refusal → Type 0
 Judged t v (Ok right) = (v ≡ Ok tt) × (right.words.now ≡ t)
 Judged t v (Err r) = v ≡ Err r
-
--- the records of the placements, in order, each with its signal first
-pub record Records (t : List ℕ) (xs : List (List ℕ)) : Type 0 where
-  pub all : length xs ≡ placement_count t
-  pub each : (k : ℕ) (d : List ℕ) → k < placement_count t → get_or (get_or xs k d) 0 0 ≡ placement_signal t k

@@ -1,27 +1,18 @@
 // The placements of a signal in a right table: they stand together, from the first one on.
 ghost use Rattle.std.specs.Prelude.{◌≡◌};
 ghost use Rattle.cluster.specs.Values.{first_placement, signal_published, touches as touchesOf, with_scalar, with_array};
-ghost use Rattle.master.specs.Parts.{OfSignal, Records};
+ghost use Rattle.master.specs.Parts.{OfSignal};
 ghost use Rattle.master.specs.Write.{marked_from};
 
 use cluster::right::Right;
-use cluster::{Limits, frames, placements, signals, values};
+use cluster::{Limits, frames, placements, values};
 use std::ops::Range;
-
-// The records of the placements, behind the header and the records of the frames and signals.
-fn records<'a>(t: Right<'a>) -> &'a [[u16; 3]]
-    ensures { Records t.entry.words.now result.now }
-{
-    let at = 5 + 3 * (frames::count(t.words) as usize) + 3 * (signals::count(t.words) as usize);
-    let end = at + 3 * (placements::count(t.words) as usize);
-    t.words[at..end].as_chunks().0
-}
 
 // Where the placements of a signal begin: the first placement that is not of a lower signal.
 pub(crate) fn first(t: Right, s: u16) -> u16
     ensures { result ≡ first_placement t.entry.words.now s }
 {
-    records(t).partition_point(|record| record[0] < s) as u16
+    t.placements().partition_point(|&[signal, _, _]| signal < s) as u16
 }
 
 // Whether the master publishes a signal.

@@ -1,5 +1,5 @@
 -- The records of lower signals are those before the first placement.
-use Rattle.std.proofs.Common.{arith, ◌<◌, ◌≤◌, ◌-◌, ℕ, List, [], get_or, ltb, rules}
+use Rattle.std.proofs.Common.{arith, ◌≡◌, ◌<◌, ◌≤◌, ◌-◌, ◌∙◌, ap, ℕ, List, [], get_or, ltb, rules}
 use Rattle.std.proofs.lemmas.Bool.{ltb-true, ltb-false}
 use Rattle.std.proofs.lemmas.List.Sorted.{IsPartitionPoint-from_clause, IsPartitionedBy-ltb, IsNonDecreasingBy-from_default}
 use Rattle.signal.proofs.Inside.{order}
@@ -7,22 +7,24 @@ use Rattle.cluster.proofs.HeaderLaws.{placement_count_lem}
 use Rattle.cluster.proofs.CountingUp.{up_monotone}
 use Rattle.cluster.proofs.PlacementLaws.{signals_up}
 use Rattle.cluster.proofs.Together.{first_high, lower_before, higher_behind}
-use Rattle.cluster.specs.Table.{placement_signal, placement_count}
+use Rattle.cluster.specs.Table.{word, placement_signal, placement_count}
 use Rattle.cluster.specs.Values.{first_placement}
 use Rattle.master.proofs.placed.first.Goals as goal
 
 pub overflow_cast-result : goal.overflow_cast-result
-overflow_cast-result c = omega (arith, placement_count_lem _ c.args.t.right, c.partition_point.ensures.bound, c.records.ensures.all)
+overflow_cast-result c = omega (arith, placement_count_lem _ c.args.t.right, c.partition_point.ensures.bound, c.placements.ensures.all)
 
 pub returns : goal.returns
+unfolding placement_signal word
 returns c =
     let t = c.args.t.words.now in
     let ok = c.args.t.right in
     let s = c.args.s in
     let r = c.partition_point.result in
-    let xs = c.records.result.now in
-    let all = c.records.ensures.all in
-    let each = c.records.ensures.each in
+    let xs = c.placements.result.now in
+    let all = c.placements.ensures.all in
+    let each : (k : ℕ) (d : List ℕ) → k < placement_count t → get_or (get_or xs k d) 0 0 ≡ placement_signal t k =
+    (λ k d h. c.placements.ensures.each k 0 d h (omega arith) ∙ ap (λ i. get_or t i 0) (omega arith)) in
     let head : List ℕ → ℕ = (λ x. get_or x 0 0) in
     let rise = IsNonDecreasingBy-from_default head xs [] (λ i j h b.
     let up = up_monotone (placement_signal t) (placement_count t) (signals_up t ok) i j h (omega (arith, all, b)) in
