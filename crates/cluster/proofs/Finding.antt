@@ -13,5 +13,5 @@ found_first test n None h =
 found_first test n (Some i) h =
     let least = first_least test 0 n i h.0 h.2 in
     let not_before : i ≤ first_from test 0 n =
-      order (first_from test 0 n) i (λ b. absurd (true≢false (sym (first_holds test 0 n (omega (arith, b, h.1))) ∙ h.3 (first_from test 0 n) (omega arith) b))) (λ b. b) in
+    order (first_from test 0 n) i (λ b. absurd (true≢false (sym (first_holds test 0 n (omega (arith, b, h.1))) ∙ h.3 (first_from test 0 n) (omega arith) b))) (λ b. b) in
     (omega (arith, least, h.1), omega (arith, least, not_before))

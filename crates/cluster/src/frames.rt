@@ -13,6 +13,7 @@ use refusal::Refusal;
 use wire::checksum::Model;
 
 // How many frames there are.
+#[tactic(auto, unfolding(crate::specs::Table::frame_count))]
 pub fn count(t: &[u16]) -> u16
     ensures { result ≡ frame_count t.now }
 {
@@ -20,6 +21,7 @@ pub fn count(t: &[u16]) -> u16
 }
 
 // The identifier of a frame.
+#[tactic(auto, unfolding(crate::specs::Table::identifier))]
 pub fn identifier(t: &[u16], f: u16) -> u16
     ensures { result ≡ identifierOf t.now f }
 {
@@ -27,6 +29,7 @@ pub fn identifier(t: &[u16], f: u16) -> u16
 }
 
 // The length of a frame in bytes.
+#[tactic(auto, unfolding(crate::specs::Table::frame_length))]
 pub fn length(t: &[u16], f: u16) -> u16
     ensures { result ≡ frame_length t.now f }
 {
@@ -34,6 +37,7 @@ pub fn length(t: &[u16], f: u16) -> u16
 }
 
 // The flags of a frame.
+#[tactic(auto, unfolding(crate::specs::Table::flags))]
 pub fn flags(t: &[u16], f: u16) -> u16
     ensures { result ≡ flags_of t.now f }
 {

@@ -13,6 +13,7 @@ use crate::{Limits, fault, frames};
 use refusal::Refusal;
 
 // How many members there are, in all lists together.
+#[tactic(auto, unfolding(crate::specs::Table::member_count))]
 pub fn count(t: &[u16]) -> u16
     ensures { result ≡ member_count t.now }
 {
@@ -20,6 +21,7 @@ pub fn count(t: &[u16]) -> u16
 }
 
 // The list number of a member.
+#[tactic(auto, unfolding(crate::specs::Table::member_list))]
 pub fn list(t: &[u16], m: u16) -> u16
     ensures { result ≡ member_list t.now m }
 {
@@ -27,6 +29,7 @@ pub fn list(t: &[u16], m: u16) -> u16
 }
 
 // The frame number of a member.
+#[tactic(auto, unfolding(crate::specs::Table::member_frame))]
 pub fn frame(t: &[u16], m: u16) -> u16
     ensures { result ≡ member_frame t.now m }
 {

@@ -19,6 +19,7 @@ use crate::{Limits, fault, frames, signals};
 use refusal::Refusal;
 
 // How many placements there are.
+#[tactic(auto, unfolding(crate::specs::Table::placement_count))]
 pub fn count(t: &[u16]) -> u16
     ensures { result ≡ placement_count t.now }
 {
@@ -26,6 +27,7 @@ pub fn count(t: &[u16]) -> u16
 }
 
 // The signal of a placement.
+#[tactic(auto, unfolding(crate::specs::Table::placement_signal))]
 pub fn signal(t: &[u16], k: u16) -> u16
     ensures { result ≡ placement_signal t.now k }
 {
@@ -33,6 +35,7 @@ pub fn signal(t: &[u16], k: u16) -> u16
 }
 
 // The number of the frame that a placement stands in.
+#[tactic(auto, unfolding(crate::specs::Table::placement_frame))]
 pub fn frame(t: &[u16], k: u16) -> u16
     ensures { result ≡ placement_frame t.now k }
 {
@@ -40,6 +43,7 @@ pub fn frame(t: &[u16], k: u16) -> u16
 }
 
 // The first bit of a placement in its frame.
+#[tactic(auto, unfolding(crate::specs::Table::placement_offset))]
 pub fn offset(t: &[u16], k: u16) -> u16
     ensures { result ≡ placement_offset t.now k }
 {
@@ -47,6 +51,7 @@ pub fn offset(t: &[u16], k: u16) -> u16
 }
 
 // The first bit of a placement in the frame buffer.
+#[tactic(auto, unfolding(crate::specs::Places::place_of))]
 pub fn place(t: &[u16], k: u16) -> usize
     ensures { result ≡ place_of t.now k }
 {

@@ -14,6 +14,7 @@ use crate::table::{Counted, Layout, record, signal_at, word};
 use refusal::Refusal;
 
 // How many signals there are.
+#[tactic(auto, unfolding(crate::specs::Table::signal_count))]
 pub fn count(t: &[u16]) -> u16
     ensures { result ≡ signal_count t.now }
 {
@@ -22,6 +23,7 @@ pub fn count(t: &[u16]) -> u16
 
 // The kind of a signal: 0 scalar, 1 array.
 // Kept: the number that this public function promises; `is_array` stands beside it.
+#[tactic(auto, unfolding(crate::specs::Table::signal_kind))]
 pub fn kind(t: &[u16], s: u16) -> u16
     ensures { result ≡ signal_kind t.now s }
 {
@@ -29,6 +31,7 @@ pub fn kind(t: &[u16], s: u16) -> u16
 }
 
 // Whether a signal is a byte array.
+#[tactic(auto, unfolding(crate::specs::Table::is_array))]
 pub fn is_array(t: &[u16], s: u16) -> bool
     ensures { result ≡ is_array t.now s }
 {
@@ -36,6 +39,7 @@ pub fn is_array(t: &[u16], s: u16) -> bool
 }
 
 // The bits of a signal.
+#[tactic(auto, unfolding(crate::specs::Table::signal_width))]
 pub fn width(t: &[u16], s: u16) -> u16
     ensures { result ≡ signal_width t.now s }
 {
@@ -43,6 +47,7 @@ pub fn width(t: &[u16], s: u16) -> u16
 }
 
 // The start value of a signal; of an array, of each byte.
+#[tactic(auto, unfolding(crate::specs::Table::signal_start))]
 pub fn start(t: &[u16], s: u16) -> u16
     ensures { result ≡ signal_start t.now s }
 {
