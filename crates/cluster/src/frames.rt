@@ -45,6 +45,7 @@ pub fn flags(t: &[u16], f: u16) -> u16
 }
 
 // Whether the master publishes a frame.
+#[tactic(auto, unfolding(crate::specs::Table::published, wire::specs::Bits::bit))]
 pub fn published(t: &[u16], f: u16) -> bool
     ensures { result ≡ publishedOf t.now f }
 {
@@ -52,6 +53,7 @@ pub fn published(t: &[u16], f: u16) -> bool
 }
 
 // Whether a frame has the classic checksum.
+#[tactic(auto, unfolding(crate::specs::Table::classic, wire::specs::Bits::bit))]
 pub fn classic(t: &[u16], f: u16) -> bool
     ensures { result ≡ classicOf t.now f }
 {

@@ -55,6 +55,7 @@ pub fn start(t: &[u16], s: u16) -> u16
 }
 
 // The bytes of an array, at most 8.
+#[tactic(auto, unfolding(crate::specs::Fresh::array_length))]
 pub fn array_length(t: &[u16], s: u16) -> usize
     ensures value { result ≡ array_length t.now s }
     ensures upper_bound { result ≤ 8 }

@@ -85,6 +85,7 @@ pub(crate) fn frame_at(f: usize) -> usize
 }
 
 // Where a signal's record begins.
+#[tactic(auto, unfolding(crate::specs::Table::frame_count))]
 pub(crate) fn signal_at(t: &[u16], s: usize) -> usize
     requires { s ≤ 65536 }
     ensures value { result ≡ signal_at t.now s }
@@ -94,6 +95,7 @@ pub(crate) fn signal_at(t: &[u16], s: usize) -> usize
 }
 
 // Where a placement's record begins.
+#[tactic(auto, unfolding(crate::specs::Table::signal_count))]
 pub(crate) fn placement_at(t: &[u16], k: usize) -> usize
     requires { k ≤ 65536 }
     ensures value { result ≡ placement_at t.now k }
@@ -103,6 +105,7 @@ pub(crate) fn placement_at(t: &[u16], k: usize) -> usize
 }
 
 // Where a member's record begins.
+#[tactic(auto, unfolding(crate::specs::Table::placement_count))]
 pub(crate) fn member_at(t: &[u16], m: usize) -> usize
     requires { m ≤ 65536 }
     ensures value { result ≡ member_at t.now m }
@@ -112,6 +115,7 @@ pub(crate) fn member_at(t: &[u16], m: usize) -> usize
 }
 
 // Where an entry's record begins.
+#[tactic(auto, unfolding(crate::specs::Table::member_count))]
 pub(crate) fn entry_at(t: &[u16], e: usize) -> usize
     requires { e ≤ 65536 }
     ensures value { result ≡ entry_at t.now e }

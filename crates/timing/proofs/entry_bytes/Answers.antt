@@ -1,5 +1,5 @@
 -- By the kind of the entry; a list that an entry names is there.
-use mathlib.Core.Path.{sym}
+use mathlib.Core.Path.{sym, ◌∙◌}
 use native.Mathlib.Omega.{arith}
 use Rattle.cluster.specs.Table.{entry_target}
 use Rattle.cluster.proofs.EntryLaws.{list_target}
