@@ -27,7 +27,7 @@ pub fn count(t: &[u16]) -> u16
 pub fn schedule(t: &[u16], e: u16) -> u16
     ensures { result ≡ entry_schedule t.now e }
 {
-    word(t, entry_at(t, e as usize))
+    word(t, entry_at(t, e))
 }
 
 // The kind of an entry: 0 frame, 1 list, 2 request, 3 response.
@@ -36,7 +36,7 @@ pub fn schedule(t: &[u16], e: u16) -> u16
 pub fn kind(t: &[u16], e: u16) -> u16
     ensures { result ≡ entry_kind t.now e }
 {
-    word(t, entry_at(t, e as usize) + 1)
+    word(t, entry_at(t, e) + 1)
 }
 
 // What an entry opens: its frame, the first pending member of its list, the diagnostic request or the diagnostic response.
@@ -68,7 +68,7 @@ pub fn kind_of(t: &[u16], e: u16) -> Option<EntryKind>
 pub fn target(t: &[u16], e: u16) -> u16
     ensures { result ≡ entry_target t.now e }
 {
-    word(t, entry_at(t, e as usize) + 2)
+    word(t, entry_at(t, e) + 2)
 }
 
 // The delay of an entry in ticks.
@@ -76,7 +76,7 @@ pub fn target(t: &[u16], e: u16) -> u16
 pub fn delay(t: &[u16], e: u16) -> u16
     ensures { result ≡ entry_delay t.now e }
 {
-    word(t, entry_at(t, e as usize) + 3)
+    word(t, entry_at(t, e) + 3)
 }
 
 // How many schedules there are.

@@ -25,7 +25,7 @@ pub fn count(t: &[u16]) -> u16
 pub fn identifier(t: &[u16], f: u16) -> u16
     ensures { result ≡ identifierOf t.now f }
 {
-    word(t, frame_at(f as usize))
+    word(t, frame_at(f))
 }
 
 // The length of a frame in bytes.
@@ -33,7 +33,7 @@ pub fn identifier(t: &[u16], f: u16) -> u16
 pub fn length(t: &[u16], f: u16) -> u16
     ensures { result ≡ frame_length t.now f }
 {
-    word(t, frame_at(f as usize) + 1)
+    word(t, frame_at(f) + 1)
 }
 
 // The flags of a frame.
@@ -41,7 +41,7 @@ pub fn length(t: &[u16], f: u16) -> u16
 pub fn flags(t: &[u16], f: u16) -> u16
     ensures { result ≡ flags_of t.now f }
 {
-    word(t, frame_at(f as usize) + 2)
+    word(t, frame_at(f) + 2)
 }
 
 // Whether the master publishes a frame.
@@ -80,10 +80,10 @@ pub(crate) struct Room {
 
 // Reads that of a frame that is there.
 pub(crate) fn room_of(t: &[u16], f: usize) -> Room
-    requires { (f ≤ 65536) × (frame_at f + 2 < length t.now) }
+    requires { frame_at f + 2 < length t.now }
     ensures { (result.bits ≡ 8 * frame_length t.now f) × (result.published ≡ publishedOf t.now f) }
 {
-    let at = frame_at(f);
+    let at = Layout::HEADER + Layout::FRAME * f;
     Room {
         bits: 8 * (t[at + 1] as usize),
         published: t[at + 2] % 2 == 1,
@@ -117,7 +117,7 @@ impl Section for Passed {
     ghost known = { FramesPassed };
 
     fn pass(&mut self, t: &[u16], f: usize) -> Result<(), Refusal> {
-        let at = frame_at(f);
+        let at = Layout::HEADER + Layout::FRAME * f;
         let [id, bytes, flags] = record::<{ Layout::FRAME }>(t, at);
         if Limits::IDENTIFIERS <= id || self.used[id] {
             return fault(at);

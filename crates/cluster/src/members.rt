@@ -25,7 +25,7 @@ pub fn count(t: &[u16]) -> u16
 pub fn list(t: &[u16], m: u16) -> u16
     ensures { result ≡ member_list t.now m }
 {
-    word(t, member_at(t, m as usize))
+    word(t, member_at(t, m))
 }
 
 // The frame number of a member.
@@ -33,7 +33,7 @@ pub fn list(t: &[u16], m: u16) -> u16
 pub fn frame(t: &[u16], m: u16) -> u16
     ensures { result ≡ member_frame t.now m }
 {
-    word(t, member_at(t, m as usize) + 1)
+    word(t, member_at(t, m) + 1)
 }
 
 // How many lists there are.

@@ -1,5 +1,6 @@
 // The placements of the signals: their number, their fields, and the check of their records.
 ghost use Rattle.std.specs.Prelude.{◌≡◌, true, not, cond, ◌&&◌, ◌+◌, ◌%◌, ◌<◌, ◌≤◌, ltb, eqb};
+ghost use Rattle.std.specs.Bool.{beq};
 ghost use Rattle.cluster.specs.Check.{placement_faults, unplaced, then};
 ghost use Rattle.cluster.specs.Columns.{follows as followsOf, placement_signal_right, placement_frame_right, placement_offset_right};
 ghost use Rattle.cluster.specs.Places.{place_of};
@@ -7,14 +8,14 @@ ghost use Rattle.cluster.specs.Passed.{PlacementsPassed, PlacedBefore, last_of, 
 ghost use Rattle.cluster.specs.Read.{RecordsBefore, hits};
 ghost use Rattle.cluster.specs.Right.{placement_right};
 ghost use Rattle.cluster.specs.Table.{placement_at, frame_count, signal_count};
-ghost use Rattle.cluster.specs.Table.{placement_count, placement_signal, placement_frame, placement_offset};
+ghost use Rattle.cluster.specs.Table.{placement_count, placement_signal, placement_frame, placement_offset, published};
 ghost use Rattle.cluster.specs.Values.{first_placement};
 
 use crate::frames::Room;
 use crate::marks::{are_free, with_bits};
 use crate::section::{self, Section};
 use crate::signals::Shape;
-use crate::table::{Described, Layout, placement_at, record, word};
+use crate::table::{Described, Layout, follows, placement_at, record, word};
 use crate::{Limits, fault, frames, signals};
 use refusal::Refusal;
 
@@ -31,7 +32,7 @@ pub fn count(t: &[u16]) -> u16
 pub fn signal(t: &[u16], k: u16) -> u16
     ensures { result ≡ placement_signal t.now k }
 {
-    word(t, placement_at(t, k as usize))
+    word(t, placement_at(t, k))
 }
 
 // The number of the frame that a placement stands in.
@@ -39,7 +40,7 @@ pub fn signal(t: &[u16], k: u16) -> u16
 pub fn frame(t: &[u16], k: u16) -> u16
     ensures { result ≡ placement_frame t.now k }
 {
-    word(t, placement_at(t, k as usize) + 1)
+    word(t, placement_at(t, k) + 1)
 }
 
 // The first bit of a placement in its frame.
@@ -47,7 +48,7 @@ pub fn frame(t: &[u16], k: u16) -> u16
 pub fn offset(t: &[u16], k: u16) -> u16
     ensures { result ≡ placement_offset t.now k }
 {
-    word(t, placement_at(t, k as usize) + 2)
+    word(t, placement_at(t, k) + 2)
 }
 
 // The first bit of a placement in the frame buffer.
@@ -72,7 +73,7 @@ pub(crate) fn judge(table: Described<'_>) -> Result<(), Refusal>
     ensures { result ≡ then (placement_faults table.entry.words.now) (unplaced table.entry.words.now) }
 {
     let t = table.words;
-    let n = count(t) as usize;
+    let n = count(t);
     let unmarked = Mark {
         occupied: 0,
         last: 0,
@@ -83,7 +84,7 @@ pub(crate) fn judge(table: Described<'_>) -> Result<(), Refusal>
         placed: 0,
         frame: 0,
     };
-    section::judge(t, n, &mut passed)?;
+    section::judge(t, n as usize, &mut passed)?;
     if passed.placed < signals::count(t) as usize {
         fault(placement_at(t, n))
     } else {
@@ -143,33 +144,28 @@ impl Section for Passed {
 
 // Whether a placement may be of a signal: the next one, if it is there, or that of the placement before.
 fn signal_right(t: &[u16], placed: usize, s: usize) -> bool
-    requires { (placed ≤ signal_count t.now) × (s ≤ 65536) }
     ensures { result ≡ placement_signal_right (signal_count t.now) (followsOf placed s) s }
 {
-    if s == placed {
-        s < (signals::count(t) as usize)
-    } else {
-        s + 1 == placed
-    }
+    follows(placed, s) && s < signals::count(t) as usize
 }
 
 impl Passed {
     // Whether a placement of a signal may be in a frame: it is there, and the placement is the signal's first, or joins those before.
     fn frame_right(&self, t: &[u16], s: usize, f: usize) -> bool
         requires records_before { RecordsBefore t.now × PlacedBefore t.now self.now }
-        requires s_bound { (s ≤ 65536) × (followsOf self.now.placed s ≡ true) }
+        requires s_follows { followsOf self.now.placed s ≡ true }
         ensures { result ≡ placement_frame_right (frame_count t.now) (eqb (last_of self.now f) (s + 1)) (mixes t.now self.now s f) f }
     {
-        f < frames::count(t) as usize && (s == self.placed || self.joins(t, s, f))
+        f < frames::count(t) as usize && (s == self.placed || self.joins(t, f))
     }
 
-    // Whether a placement may join those of the same signal before: none of them is in its frame, and it has their publisher.
-    fn joins(&self, t: &[u16], s: usize, f: usize) -> bool
+    // Whether a placement may join those of the last signal: none of them is in its frame, and it has their publisher.
+    fn joins(&self, t: &[u16], f: usize) -> bool
         requires records_before { RecordsBefore t.now × PlacedBefore t.now self.now }
-        requires s_placed { (s + 1 ≡ self.now.placed) × (f < frame_count t.now) }
-        ensures { result ≡ not (eqb (last_of self.now f) (s + 1)) && not (mixes t.now self.now s f) }
+        requires there { (0 < self.now.placed) × (f < frame_count t.now) }
+        ensures { result ≡ not (eqb (last_of self.now f) self.now.placed) && beq (published t.now self.now.frame) (published t.now f) }
     {
-        self.marks[f].last != s + 1
+        self.marks[f].last != self.placed
             && frames::room_of(t, self.frame).published == frames::room_of(t, f).published
     }
 }

@@ -27,7 +27,7 @@ pub fn count(t: &[u16]) -> u16
 pub fn kind(t: &[u16], s: u16) -> u16
     ensures { result ≡ signal_kind t.now s }
 {
-    word(t, signal_at(t, s as usize))
+    word(t, signal_at(t, s))
 }
 
 // Whether a signal is a byte array.
@@ -43,7 +43,7 @@ pub fn is_array(t: &[u16], s: u16) -> bool
 pub fn width(t: &[u16], s: u16) -> u16
     ensures { result ≡ signal_width t.now s }
 {
-    word(t, signal_at(t, s as usize) + 1)
+    word(t, signal_at(t, s) + 1)
 }
 
 // The start value of a signal; of an array, of each byte.
@@ -51,7 +51,7 @@ pub fn width(t: &[u16], s: u16) -> u16
 pub fn start(t: &[u16], s: u16) -> u16
     ensures { result ≡ signal_start t.now s }
 {
-    word(t, signal_at(t, s as usize) + 2)
+    word(t, signal_at(t, s) + 2)
 }
 
 // The bytes of an array, at most 8.
@@ -72,10 +72,10 @@ pub(crate) struct Shape {
 
 // Reads that of a signal that is there.
 pub(crate) fn shape_of(t: &[u16], s: usize) -> Shape
-    requires { (s ≤ 65536) × (signal_at t.now s + 1 < length t.now) }
+    requires { signal_at t.now s + 1 < length t.now }
     ensures { (result.array ≡ is_array t.now s) × (result.width ≡ signal_width t.now s) }
 {
-    let at = signal_at(t, s);
+    let at = signal_at(t, 0) + Layout::SIGNAL * s;
     Shape {
         array: t[at] == 1,
         width: t[at + 1] as usize,
