@@ -1,12 +1,11 @@
 -- List and schedule numbers: how many there are, and how the check counts them.
-use Prim.Native.Nat.{ℕ, zero, suc, ◌+◌, ◌-◌, ◌≤◌, ◌<◌}
+use Prim.Native.Nat.{ℕ, zero, suc, ◌+◌, ◌-◌, ◌≤◌}
 use mathlib.Core.Path.{◌≡◌, refl, sym, ◌∙◌}
 use mathlib.Core.Bool.{true, or-true, or-false}
-use native.Mathlib.Decide.{ℕ_discrete}
 use native.Mathlib.Numerals.{add-one}
 use native.Mathlib.Omega.{arith}
-use borrow.Author.Tests.{eqb-true, eq-eqb, ne_eqb, le-leb, lt-leb}
-use lib.Dec.{leb, eqb, eqb-suc-suc}
+use borrow.Author.Tests.{eqb-true, eq-eqb, ne_eqb}
+use lib.Dec.{eqb, eqb-suc-suc}
 use Rattle.wire.proofs.Tests.{whether}
 use Rattle.std.specs.Prelude.{Option, Some, None}
 use Rattle.std.specs.Option.{MatchOption, SomeIff}
@@ -56,18 +55,3 @@ unfolding follows
 follows_same zero number h = ne_eqb (number + 1) 0 (λ e. omega arith) ∙ sym (ne_eqb number 0 h)
 follows_same (suc previous) number h =
     rw (add-one number, eqb-suc-suc, ne_eqb number (suc previous) h) (sym (or-false (eqb number previous)))
-
--- which the difference tells
-pub follows_near : (count number : ℕ) → number ≤ count → leb (count - number) 1 ≡ follows count number
-follows_near count number h =
-    elim (ℕ_discrete number count) [
-      | yes e ↦ le-leb (count - number) 1 (omega arith) ∙ follows_next count number e
-      | no d ↦ elim (ℕ_discrete (number + 1) count) [
-        | yes e ↦ le-leb (count - number) 1 (omega arith) ∙ sym (eq-eqb (number + 1) count e) ∙ follows_same count number d
-        | no e ↦ lt-leb (count - number) 1 (omega arith) ∙ sym (ne_eqb (number + 1) count e) ∙ follows_same count number d
-      ]
-    ]
-
-pub follows_far : (count number : ℕ) → count < number → leb number count ≡ follows count number
-follows_far count number h =
-    lt-leb number count h ∙ sym (ne_eqb (number + 1) count (λ e. omega arith)) ∙ follows_same count number (λ e. omega arith)

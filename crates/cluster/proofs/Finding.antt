@@ -14,7 +14,7 @@ use denote.Ref.{Bor}
 use mathlib.Core.Bool.{true≢false}
 use Rattle.signal.proofs.Inside.{order}
 use Rattle.cluster.specs.Lists.{first_from}
-use Rattle.cluster.proofs.Searching.{first_from_lem, first_within, first_holds, first_before, first_least}
+use Rattle.cluster.proofs.Searching.{first_from_lem, first_within, first_holds, first_least}
 
 -- what `find` says of its closure
 abbrev pub Ran : {F : Type 0} → Mut F (Bor ℕ × Unit {0}) Bool → Range ℕ → Range ℕ → F → Option ℕ → Type 0

@@ -148,6 +148,7 @@ impl Section for Passed {
         if !follows(self.schedules, schedule) {
             return fault(at);
         }
+        // Kept: a number; it is the word as `record` read it, a missing one as 65536, and its column's definition is `entry_kind_right`.
         if 3 < kind {
             return fault(at + 1);
         }
@@ -163,6 +164,7 @@ impl Section for Passed {
 }
 
 // Whether an entry of a kind may have a target.
+// Kept: numbers for kinds; they are words as `record` read them, a missing one as 65536, by the column's definition `target_right`.
 fn target_right(frames: usize, lists: usize, kind: usize, target: usize) -> bool
     ensures { result ≡ target_right frames lists kind target }
 {

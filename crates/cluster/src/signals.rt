@@ -67,7 +67,7 @@ pub fn array_length(t: &[u16], s: u16) -> usize
 #[derive(Clone, Copy)]
 pub(crate) struct Shape {
     pub(crate) array: bool,
-    pub(crate) width: usize,
+    pub(crate) width: u16,
 }
 
 // Reads that of a signal that is there.
@@ -78,7 +78,7 @@ pub(crate) fn shape_of(t: &[u16], s: usize) -> Shape
     let at = signal_at(t, 0) + Layout::SIGNAL * s;
     Shape {
         array: t[at] == 1,
-        width: t[at + 1] as usize,
+        width: t[at + 1],
     }
 }
 
@@ -111,6 +111,7 @@ impl Section for Passed {
     fn pass(&mut self, t: &[u16], s: usize) -> Result<(), Refusal> {
         let at = self.first + Layout::SIGNAL * s;
         let [kind, width, start] = record::<{ Layout::SIGNAL }>(t, at);
+        // Kept: a number; it is the word as `record` read it, a missing one as 65536, and its column's definition is `signal_kind_right`.
         let array = kind == 1;
         if 1 < kind {
             return fault(at);

@@ -5,9 +5,6 @@ use native.Mathlib.Omega.{arith}
 use Rattle.cluster.specs.Table.{word, is_array, signal_kind, signal_width, signal_at, signal_words}
 use Rattle.cluster.proofs.signals.shape_of.Goals as goal
 
-pub overflow_cast-result : goal.overflow_cast-result
-overflow_cast-result c = omega (arith, c.type_inv.t (c.signal_at.result + signal_words * c.args.s + 1))
-
 pub returns : goal.returns
 unfolding is_array signal_kind signal_width word
 returns c =

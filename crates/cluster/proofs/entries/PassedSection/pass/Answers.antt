@@ -10,6 +10,9 @@ use Rattle.cluster.proofs.EntryTurn.{seen, stops, goes_on, passes}
 use Rattle.cluster.proofs.entries.PassedSection.pass.Goals as goal
 use Rattle.cluster.proofs.entries.PassedSection.pass.Goals.{then-delay-lt1-via-then-delay-lt1, then-delay-lt1-via-else-delay-lt1+then-delay-gt65535}
 
+pub follows-requires : goal.follows-requires
+follows-requires c = c.record.ensures.upper_bound 0
+
 pub returns-then-not-follows-clause-told : goal.returns-then-not-follows-clause-told
 unfolding entry_columns leading
 returns-then-not-follows-clause-told c rest =

@@ -13,6 +13,9 @@ use Rattle.cluster.proofs.members.PassedSection.pass.Goals.{then-count-frame-via
 use Rattle.cluster.proofs.members.PassedSection.pass.Goals.{then-count-frame-via-else-count-frame+then-self-frame}
 use Rattle.cluster.proofs.members.PassedSection.pass.Goals.{then-count-frame-via-else-count-frame+else-self-frame+then-not-room_of}
 
+pub follows-requires : goal.follows-requires
+follows-requires c = c.record.ensures.upper_bound 0
+
 pub returns-then-not-follows-clause-told : goal.returns-then-not-follows-clause-told
 unfolding member_columns leading
 returns-then-not-follows-clause-told c rest =
