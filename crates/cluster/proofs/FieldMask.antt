@@ -4,8 +4,8 @@ use mathlib.Core.Path.{◌≡◌, refl, sym, ◌∙◌, ap}
 use mathlib.Core.Bool.{Bool, true, false, not, ◌&&◌, ◌||◌, and-false}
 use native.Mathlib.Nat.{pow-suc, zero-mul, zero-add, add-zero, div-eq_of_lt, lt_of_lt_of_le, mul-pos}
 use native.Mathlib.Omega.{arith}
-use borrow.Author.Tests.{eq-eqb, ne_eqb}
-use lib.Bits.{bit_and, and_high}
+use borrow.Author.Tests.{eq-eqb, ne_eqb, not-true}
+use lib.Bits.{bit_and, bit_or, and_high, or_disjoint}
 use lib.Dec.{eqb}
 use lib.Pow.{pow_pos, pow_mono, ones_split, ones_lt, high, high_ones, shl_exact}
 use Rattle.wire.specs.Bits.{bit, digit}
@@ -136,3 +136,10 @@ module _ (bits o w : ℕ) (small : bits < 2 ^ 64) (fits : o + w ≤ 64) (free : 
               inside_high o w j (omega arith),
             )),
       )
+
+-- and joined to bits that it does not meet
+pub field_joined : (bits o w : ℕ) → bits < 2 ^ 64 → o + w ≤ 64 → bit_and bits (((2 ^ w - 1) * 2 ^ o) % 2 ^ 64) ≡ 0
+    → (j : ℕ) → bit (bit_or bits (((2 ^ w - 1) * 2 ^ o) % 2 ^ 64)) j ≡ (bit bits j || inside o w j)
+field_joined bits o w small fits none =
+    let free : hits bits o w ≡ false = not-true (hits bits o w) (sym (field_free bits o w fits) ∙ eq-eqb _ 0 none) in
+    rw (or_disjoint bits (((2 ^ w - 1) * 2 ^ o) % 2 ^ 64) none) (field_put bits o w small fits free).1

@@ -1,4 +1,4 @@
--- The kinds of an entry by their names, in the paper's numbers: if and only if.
+-- The kinds of an entry by their names, in the paper's numbers: if and only if. These laws hold `kind_of` (specs/Kinds) by those numbers.
 use Prim.Native.Nat.{ℕ}
 use borrow.Author.Tests.{eqb-true}
 use lib.Dec.{eqb}

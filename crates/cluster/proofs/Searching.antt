@@ -7,8 +7,6 @@ use native.Mathlib.Numerals.{add-one}
 use native.Mathlib.Omega.{arith}
 use Rattle.wire.proofs.Tests.{whether}
 use Rattle.signal.proofs.Inside.{order}
-use Rattle.std.specs.Prelude.{Option, Some, None}
-use Rattle.std.specs.Option.{MatchOption, unwrap_or}
 use Rattle.cluster.specs.Lists.{first_from}
 
 module _ (test : ℕ → Bool) where
@@ -76,23 +74,3 @@ module _ (test : ℕ → Bool) where
   pub first_least : (k n j : ℕ) → k ≤ j → test j ≡ true → first_from test k n ≤ j
   first_least k n j h e =
       order j (first_from test k n) (λ b. absurd (true≢false (sym e ∙ first_before k n j h b))) (λ b. b)
-
-  -- none of the numbers from k to n, or the first of them
-  abbrev pub Search : ℕ → ℕ → Option ℕ → Type 0
-  Search k n r =
-      MatchOption r ((j : ℕ) → k ≤ j → j < n → test j ≡ false)
-      (λ i. (k ≤ i) × (i < n) × (test i ≡ true) × ((j : ℕ) → k ≤ j → j < i → test j ≡ false))
-
-  pub searched : (k n d : ℕ) (r : Option ℕ) → Search k n r → k + (n - k) ≡ d → unwrap_or r d ≡ first_from test k (n - k)
-  searched k n d None none e =
-      let low = first_from_lem k (n - k) in
-      let high = first_within k (n - k) in
-      order (first_from test k (n - k)) (k + (n - k))
-      (λ b. absurd (true≢false (sym (first_holds k (n - k) b) ∙ none (first_from test k (n - k)) low (omega arith))))
-      (λ b. omega arith)
-  searched k n d (Some i) found e =
-      let low = first_from_lem k (n - k) in
-      let least = first_least k (n - k) i found.0 found.2 in
-      order (first_from test k (n - k)) i
-      (λ b. absurd (true≢false (sym (first_holds k (n - k) (omega (arith, found.1))) ∙ found.3 (first_from test k (n - k)) low b)))
-      (λ b. omega arith)

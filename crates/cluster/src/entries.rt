@@ -15,6 +15,7 @@ use crate::{fault, frames, members};
 use refusal::Refusal;
 
 // How many entries there are, in all schedules together.
+#[tactic(auto, unfolding(crate::specs::Table::entry_count))]
 pub fn count(t: &[u16]) -> u16
     ensures { result ≡ entry_count t.now }
 {
@@ -22,18 +23,20 @@ pub fn count(t: &[u16]) -> u16
 }
 
 // The schedule number of an entry.
+#[tactic(auto, unfolding(crate::specs::Table::entry_schedule))]
 pub fn schedule(t: &[u16], e: u16) -> u16
     ensures { result ≡ entry_schedule t.now e }
 {
-    word(t, entry_at(t, e as usize))
+    word(t, entry_at(t, e))
 }
 
 // The kind of an entry: 0 frame, 1 list, 2 request, 3 response.
 // Kept: the number that this public function promises; `kind_of` stands beside it.
+#[tactic(auto, unfolding(crate::specs::Table::entry_kind))]
 pub fn kind(t: &[u16], e: u16) -> u16
     ensures { result ≡ entry_kind t.now e }
 {
-    word(t, entry_at(t, e as usize) + 1)
+    word(t, entry_at(t, e) + 1)
 }
 
 // What an entry opens: its frame, the first pending member of its list, the diagnostic request or the diagnostic response.
@@ -45,43 +48,35 @@ pub enum EntryKind {
     Response,
 }
 
-impl EntryKind {
-    // The kind that a word of the table stands for.
-    #[tactic(auto, unfolding(crate::specs::Kinds::kind_of))]
-    pub fn of(word: u16) -> Option<EntryKind>
-        ensures value { result ≡ kind_of word }
-        ensures says { KindSays word result }
-    {
-        match word {
-            0 => Some(EntryKind::Frame),
-            1 => Some(EntryKind::List),
-            2 => Some(EntryKind::Request),
-            3 => Some(EntryKind::Response),
-            _ => None,
-        }
-    }
-}
-
 // The kind of an entry by its name; none where the word is no kind, as in no right table.
+#[tactic(auto, unfolding(crate::specs::Kinds::kind_of))]
 pub fn kind_of(t: &[u16], e: u16) -> Option<EntryKind>
     ensures value { result ≡ kind_of (entry_kind t.now e) }
     ensures says { KindSays (entry_kind t.now e) result }
 {
-    EntryKind::of(kind(t, e))
+    match kind(t, e) {
+        0 => Some(EntryKind::Frame),
+        1 => Some(EntryKind::List),
+        2 => Some(EntryKind::Request),
+        3 => Some(EntryKind::Response),
+        _ => None,
+    }
 }
 
 // The target of an entry: a frame number, a list number, or 0.
+#[tactic(auto, unfolding(crate::specs::Table::entry_target))]
 pub fn target(t: &[u16], e: u16) -> u16
     ensures { result ≡ entry_target t.now e }
 {
-    word(t, entry_at(t, e as usize) + 2)
+    word(t, entry_at(t, e) + 2)
 }
 
 // The delay of an entry in ticks.
+#[tactic(auto, unfolding(crate::specs::Table::entry_delay))]
 pub fn delay(t: &[u16], e: u16) -> u16
     ensures { result ≡ entry_delay t.now e }
 {
-    word(t, entry_at(t, e as usize) + 3)
+    word(t, entry_at(t, e) + 3)
 }
 
 // How many schedules there are.
@@ -153,6 +148,7 @@ impl Section for Passed {
         if !follows(self.schedules, schedule) {
             return fault(at);
         }
+        // Kept: a number; it is the word as `record` read it, a missing one as 65536, and its column's definition is `entry_kind_right`.
         if 3 < kind {
             return fault(at + 1);
         }
@@ -168,6 +164,7 @@ impl Section for Passed {
 }
 
 // Whether an entry of a kind may have a target.
+// Kept: numbers for kinds; they are words as `record` read them, a missing one as 65536, by the column's definition `target_right`.
 fn target_right(frames: usize, lists: usize, kind: usize, target: usize) -> bool
     ensures { result ≡ target_right frames lists kind target }
 {

@@ -13,6 +13,7 @@ use refusal::Refusal;
 use wire::checksum::Model;
 
 // How many frames there are.
+#[tactic(auto, unfolding(crate::specs::Table::frame_count))]
 pub fn count(t: &[u16]) -> u16
     ensures { result ≡ frame_count t.now }
 {
@@ -20,27 +21,31 @@ pub fn count(t: &[u16]) -> u16
 }
 
 // The identifier of a frame.
+#[tactic(auto, unfolding(crate::specs::Table::identifier))]
 pub fn identifier(t: &[u16], f: u16) -> u16
     ensures { result ≡ identifierOf t.now f }
 {
-    word(t, frame_at(f as usize))
+    word(t, frame_at(f))
 }
 
 // The length of a frame in bytes.
+#[tactic(auto, unfolding(crate::specs::Table::frame_length))]
 pub fn length(t: &[u16], f: u16) -> u16
     ensures { result ≡ frame_length t.now f }
 {
-    word(t, frame_at(f as usize) + 1)
+    word(t, frame_at(f) + 1)
 }
 
 // The flags of a frame.
+#[tactic(auto, unfolding(crate::specs::Table::flags))]
 pub fn flags(t: &[u16], f: u16) -> u16
     ensures { result ≡ flags_of t.now f }
 {
-    word(t, frame_at(f as usize) + 2)
+    word(t, frame_at(f) + 2)
 }
 
 // Whether the master publishes a frame.
+#[tactic(auto, unfolding(crate::specs::Table::published, wire::specs::Bits::bit))]
 pub fn published(t: &[u16], f: u16) -> bool
     ensures { result ≡ publishedOf t.now f }
 {
@@ -48,6 +53,7 @@ pub fn published(t: &[u16], f: u16) -> bool
 }
 
 // Whether a frame has the classic checksum.
+#[tactic(auto, unfolding(crate::specs::Table::classic, wire::specs::Bits::bit))]
 pub fn classic(t: &[u16], f: u16) -> bool
     ensures { result ≡ classicOf t.now f }
 {
@@ -74,10 +80,10 @@ pub(crate) struct Room {
 
 // Reads that of a frame that is there.
 pub(crate) fn room_of(t: &[u16], f: usize) -> Room
-    requires { (f ≤ 65536) × (frame_at f + 2 < length t.now) }
+    requires { frame_at f + 2 < length t.now }
     ensures { (result.bits ≡ 8 * frame_length t.now f) × (result.published ≡ publishedOf t.now f) }
 {
-    let at = frame_at(f);
+    let at = Layout::HEADER + Layout::FRAME * f;
     Room {
         bits: 8 * (t[at + 1] as usize),
         published: t[at + 2] % 2 == 1,
@@ -111,7 +117,7 @@ impl Section for Passed {
     ghost known = { FramesPassed };
 
     fn pass(&mut self, t: &[u16], f: usize) -> Result<(), Refusal> {
-        let at = frame_at(f);
+        let at = Layout::HEADER + Layout::FRAME * f;
         let [id, bytes, flags] = record::<{ Layout::FRAME }>(t, at);
         if Limits::IDENTIFIERS <= id || self.used[id] {
             return fault(at);

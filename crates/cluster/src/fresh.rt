@@ -16,6 +16,7 @@ pub fn fill(t: &[u16], bytes: &mut [u8])
 }
 
 // Puts the start value of a placement's signal into the placement.
+#[tactic(auto, unfolding(crate::specs::Fresh::put_start))]
 fn put_start(t: &[u16], k: u16, bytes: &mut [u8])
     ensures { bytes.new ≡ put_start t.now k bytes.old }
 {

@@ -56,6 +56,7 @@ pub fn check(t: &[u16]) -> Result<(), Refusal>
 }
 
 // Whether a call takes a table: what it asks before all else.
+#[tactic(auto, unfolding(crate::specs::Check::taken_of))]
 pub fn taken(t: &[u16]) -> Result<(), Refusal>
     ensures value { result ≡ taken_of t.now }
     ensures told { verdict_told result ≡ check_told t.now }

@@ -1,24 +1,21 @@
 // Marks: the occupied bits of a frame, as one number.
-ghost use Rattle.std.specs.Prelude.{◌≡◌, false, not, ◌||◌, ℕ, ◌+◌, ◌-◌, ◌^◌, ◌<◌, ◌≤◌};
+ghost use Rattle.std.specs.Prelude.{◌≡◌, not, ◌||◌, ℕ, ◌+◌, ◌-◌, ◌^◌, ◌≤◌, is_some, IfSome};
 ghost use Rattle.wire.specs.Bits.{bit};
 ghost use Rattle.signal.specs.Signal.{inside};
 ghost use Rattle.cluster.specs.Read.{hits};
 
-// Whether none of the bits from an offset on is occupied.
-pub(crate) fn are_free(bits: u64, offset: usize, width: usize) -> bool
+// The occupied bits with those from an offset on, where none of these is occupied.
+pub(crate) fn with_bits(bits: u64, offset: usize, width: usize) -> Option<u64>
     requires { (1 ≤ width) × (offset + width ≤ 64) }
-    ensures { result ≡ not (hits bits offset width) }
+    ensures free { is_some result ≡ not (hits bits offset width) }
+    ensures joined { IfSome result (λ r. (j : ℕ) → bit r j ≡ (bit bits j || inside offset width j)) }
 {
-    bits & (ones(width) << (offset as u32)) == 0
-}
-
-// The occupied bits with those from an offset on, which are free.
-pub(crate) fn with_bits(bits: u64, offset: usize, width: usize) -> u64
-    requires le_width { (1 ≤ width) × (offset + width ≤ 64) }
-    requires width_value { hits bits offset width ≡ false }
-    ensures { (j : ℕ) → bit result j ≡ (bit bits j || inside offset width j) }
-{
-    bits + (ones(width) << (offset as u32))
+    let field = ones(width) << (offset as u32);
+    if bits & field == 0 {
+        Some(bits | field)
+    } else {
+        None
+    }
 }
 
 // The number with this many bits, all 1.

@@ -13,6 +13,7 @@ use crate::{Limits, fault, frames};
 use refusal::Refusal;
 
 // How many members there are, in all lists together.
+#[tactic(auto, unfolding(crate::specs::Table::member_count))]
 pub fn count(t: &[u16]) -> u16
     ensures { result ≡ member_count t.now }
 {
@@ -20,17 +21,19 @@ pub fn count(t: &[u16]) -> u16
 }
 
 // The list number of a member.
+#[tactic(auto, unfolding(crate::specs::Table::member_list))]
 pub fn list(t: &[u16], m: u16) -> u16
     ensures { result ≡ member_list t.now m }
 {
-    word(t, member_at(t, m as usize))
+    word(t, member_at(t, m))
 }
 
 // The frame number of a member.
+#[tactic(auto, unfolding(crate::specs::Table::member_frame))]
 pub fn frame(t: &[u16], m: u16) -> u16
     ensures { result ≡ member_frame t.now m }
 {
-    word(t, member_at(t, m as usize) + 1)
+    word(t, member_at(t, m) + 1)
 }
 
 // How many lists there are.

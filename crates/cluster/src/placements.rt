@@ -1,5 +1,8 @@
 // The placements of the signals: their number, their fields, and the check of their records.
-ghost use Rattle.std.specs.Prelude.{◌≡◌, true, not, cond, ◌&&◌, ◌+◌, ◌%◌, ◌<◌, ◌≤◌, ltb, eqb};
+ghost use Rattle.std.specs.Prelude.{◌≡◌, true, not, cond, ◌&&◌, ◌||◌, ◌+◌, ◌%◌, ◌<◌, ◌≤◌, ℕ, ltb, eqb, is_some, IfSome};
+ghost use Rattle.wire.specs.Bits.{bit};
+ghost use Rattle.signal.specs.Signal.{inside};
+ghost use Rattle.std.specs.Bool.{beq};
 ghost use Rattle.cluster.specs.Check.{placement_faults, unplaced, then};
 ghost use Rattle.cluster.specs.Columns.{follows as followsOf, placement_signal_right, placement_frame_right, placement_offset_right};
 ghost use Rattle.cluster.specs.Places.{place_of};
@@ -7,11 +10,11 @@ ghost use Rattle.cluster.specs.Passed.{PlacementsPassed, PlacedBefore, last_of, 
 ghost use Rattle.cluster.specs.Read.{RecordsBefore, hits};
 ghost use Rattle.cluster.specs.Right.{placement_right};
 ghost use Rattle.cluster.specs.Table.{placement_at, frame_count, signal_count};
-ghost use Rattle.cluster.specs.Table.{placement_count, placement_signal, placement_frame, placement_offset};
+ghost use Rattle.cluster.specs.Table.{placement_count, placement_signal, placement_frame, placement_offset, published};
 ghost use Rattle.cluster.specs.Values.{first_placement};
 
 use crate::frames::Room;
-use crate::marks::{are_free, with_bits};
+use crate::marks::with_bits;
 use crate::section::{self, Section};
 use crate::signals::Shape;
 use crate::table::{Described, Layout, placement_at, record, word};
@@ -19,6 +22,7 @@ use crate::{Limits, fault, frames, signals};
 use refusal::Refusal;
 
 // How many placements there are.
+#[tactic(auto, unfolding(crate::specs::Table::placement_count))]
 pub fn count(t: &[u16]) -> u16
     ensures { result ≡ placement_count t.now }
 {
@@ -26,27 +30,31 @@ pub fn count(t: &[u16]) -> u16
 }
 
 // The signal of a placement.
+#[tactic(auto, unfolding(crate::specs::Table::placement_signal))]
 pub fn signal(t: &[u16], k: u16) -> u16
     ensures { result ≡ placement_signal t.now k }
 {
-    word(t, placement_at(t, k as usize))
+    word(t, placement_at(t, k))
 }
 
 // The number of the frame that a placement stands in.
+#[tactic(auto, unfolding(crate::specs::Table::placement_frame))]
 pub fn frame(t: &[u16], k: u16) -> u16
     ensures { result ≡ placement_frame t.now k }
 {
-    word(t, placement_at(t, k as usize) + 1)
+    word(t, placement_at(t, k) + 1)
 }
 
 // The first bit of a placement in its frame.
+#[tactic(auto, unfolding(crate::specs::Table::placement_offset))]
 pub fn offset(t: &[u16], k: u16) -> u16
     ensures { result ≡ placement_offset t.now k }
 {
-    word(t, placement_at(t, k as usize) + 2)
+    word(t, placement_at(t, k) + 2)
 }
 
 // The first bit of a placement in the frame buffer.
+#[tactic(auto, unfolding(crate::specs::Places::place_of))]
 pub fn place(t: &[u16], k: u16) -> usize
     ensures { result ≡ place_of t.now k }
 {
@@ -67,7 +75,7 @@ pub(crate) fn judge(table: Described<'_>) -> Result<(), Refusal>
     ensures { result ≡ then (placement_faults table.entry.words.now) (unplaced table.entry.words.now) }
 {
     let t = table.words;
-    let n = count(t) as usize;
+    let n = count(t);
     let unmarked = Mark {
         occupied: 0,
         last: 0,
@@ -78,7 +86,7 @@ pub(crate) fn judge(table: Described<'_>) -> Result<(), Refusal>
         placed: 0,
         frame: 0,
     };
-    section::judge(t, n, &mut passed)?;
+    section::judge(t, n as usize, &mut passed)?;
     if passed.placed < signals::count(t) as usize {
         fault(placement_at(t, n))
     } else {
@@ -121,13 +129,12 @@ impl Section for Passed {
         if !self.frame_right(t, signal, frame) {
             return fault(at + 1);
         }
-        let shape = signals::shape_of(t, signal);
-        let occupied = self.marks[frame].occupied;
-        if !offset_free(shape, frames::room_of(t, frame), occupied, offset) {
+        let (shape, room) = (signals::shape_of(t, signal), frames::room_of(t, frame));
+        let Some(occupied) = with_placement(shape, room, self.marks[frame].occupied, offset) else {
             return fault(at + 2);
-        }
+        };
         self.marks[frame] = Mark {
-            occupied: with_bits(occupied, offset, shape.width),
+            occupied,
             last: signal + 1,
         };
         self.placed = signal + 1;
@@ -137,6 +144,8 @@ impl Section for Passed {
 }
 
 // Whether a placement may be of a signal: the next one, if it is there, or that of the placement before.
+// Kept: the bound of a word that `record` read, 65536 where it is missing; and no `follows(placed, s)`, since that of the placement
+// before needs no count (tried: see `table::follows`).
 fn signal_right(t: &[u16], placed: usize, s: usize) -> bool
     requires { (placed ≤ signal_count t.now) × (s ≤ 65536) }
     ensures { result ≡ placement_signal_right (signal_count t.now) (followsOf placed s) s }
@@ -152,31 +161,37 @@ impl Passed {
     // Whether a placement of a signal may be in a frame: it is there, and the placement is the signal's first, or joins those before.
     fn frame_right(&self, t: &[u16], s: usize, f: usize) -> bool
         requires records_before { RecordsBefore t.now × PlacedBefore t.now self.now }
-        requires s_bound { (s ≤ 65536) × (followsOf self.now.placed s ≡ true) }
+        requires s_follows { followsOf self.now.placed s ≡ true }
         ensures { result ≡ placement_frame_right (frame_count t.now) (eqb (last_of self.now f) (s + 1)) (mixes t.now self.now s f) f }
     {
-        f < frames::count(t) as usize && (s == self.placed || self.joins(t, s, f))
+        f < frames::count(t) as usize && (s == self.placed || self.joins(t, f))
     }
 
-    // Whether a placement may join those of the same signal before: none of them is in its frame, and it has their publisher.
-    fn joins(&self, t: &[u16], s: usize, f: usize) -> bool
+    // Whether a placement may join those of the last signal: none of them is in its frame, and it has their publisher.
+    fn joins(&self, t: &[u16], f: usize) -> bool
         requires records_before { RecordsBefore t.now × PlacedBefore t.now self.now }
-        requires s_placed { (s + 1 ≡ self.now.placed) × (f < frame_count t.now) }
-        ensures { result ≡ not (eqb (last_of self.now f) (s + 1)) && not (mixes t.now self.now s f) }
+        requires there { (0 < self.now.placed) × (f < frame_count t.now) }
+        ensures { result ≡ not (eqb (last_of self.now f) self.now.placed) && beq (published t.now self.now.frame) (published t.now f) }
     {
-        self.marks[f].last != s + 1
+        self.marks[f].last != self.placed
             && frames::room_of(t, self.frame).published == frames::room_of(t, f).published
     }
 }
 
-// Whether an offset is right, and the signal's bits from there on are inside the frame and free.
-fn offset_free(shape: Shape, room: Room, occupied: u64, offset: usize) -> bool
-    requires { (offset ≤ 65536) × (1 ≤ shape.width) × (shape.width ≤ 65535) × (room.bits ≤ 64) }
-    ensures { result ≡ placement_offset_right shape.array room.bits (ltb room.bits (offset + shape.width)) (hits occupied offset shape.width) offset }
+// The occupied bits of a frame with those of a placement, where its offset is right and its bits are inside the frame and free.
+// Kept: the bound of a word that `record` read, 65536 where it is missing; `width <= room.bits - offset` would need none, but costs a
+// test a placement (tried: 46,594.5 instructions for 45,062 at 3,633 words).
+fn with_placement(shape: Shape, room: Room, occupied: u64, offset: usize) -> Option<u64>
+    requires { (offset ≤ 65536) × (1 ≤ shape.width) × (room.bits ≤ 64) }
+    ensures right { is_some result ≡ placement_offset_right shape.array room.bits (ltb room.bits (offset + shape.width)) (hits occupied offset shape.width) offset }
+    ensures bits { IfSome result (λ r. (j : ℕ) → bit r j ≡ (bit occupied j || inside offset shape.width j)) }
 {
-    offset + shape.width <= room.bits
-        && on_border(shape.array, offset)
-        && are_free(occupied, offset, shape.width)
+    let width = shape.width as usize;
+    if offset + width <= room.bits && on_border(shape.array, offset) {
+        with_bits(occupied, offset, width)
+    } else {
+        None
+    }
 }
 
 // Whether an offset is at a byte border, where it is that of an array.

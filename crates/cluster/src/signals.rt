@@ -14,6 +14,7 @@ use crate::table::{Counted, Layout, record, signal_at, word};
 use refusal::Refusal;
 
 // How many signals there are.
+#[tactic(auto, unfolding(crate::specs::Table::signal_count))]
 pub fn count(t: &[u16]) -> u16
     ensures { result ≡ signal_count t.now }
 {
@@ -22,13 +23,15 @@ pub fn count(t: &[u16]) -> u16
 
 // The kind of a signal: 0 scalar, 1 array.
 // Kept: the number that this public function promises; `is_array` stands beside it.
+#[tactic(auto, unfolding(crate::specs::Table::signal_kind))]
 pub fn kind(t: &[u16], s: u16) -> u16
     ensures { result ≡ signal_kind t.now s }
 {
-    word(t, signal_at(t, s as usize))
+    word(t, signal_at(t, s))
 }
 
 // Whether a signal is a byte array.
+#[tactic(auto, unfolding(crate::specs::Table::is_array))]
 pub fn is_array(t: &[u16], s: u16) -> bool
     ensures { result ≡ is_array t.now s }
 {
@@ -36,20 +39,23 @@ pub fn is_array(t: &[u16], s: u16) -> bool
 }
 
 // The bits of a signal.
+#[tactic(auto, unfolding(crate::specs::Table::signal_width))]
 pub fn width(t: &[u16], s: u16) -> u16
     ensures { result ≡ signal_width t.now s }
 {
-    word(t, signal_at(t, s as usize) + 1)
+    word(t, signal_at(t, s) + 1)
 }
 
 // The start value of a signal; of an array, of each byte.
+#[tactic(auto, unfolding(crate::specs::Table::signal_start))]
 pub fn start(t: &[u16], s: u16) -> u16
     ensures { result ≡ signal_start t.now s }
 {
-    word(t, signal_at(t, s as usize) + 2)
+    word(t, signal_at(t, s) + 2)
 }
 
 // The bytes of an array, at most 8.
+#[tactic(auto, unfolding(crate::specs::Fresh::array_length))]
 pub fn array_length(t: &[u16], s: u16) -> usize
     ensures value { result ≡ array_length t.now s }
     ensures upper_bound { result ≤ 8 }
@@ -61,18 +67,18 @@ pub fn array_length(t: &[u16], s: u16) -> usize
 #[derive(Clone, Copy)]
 pub(crate) struct Shape {
     pub(crate) array: bool,
-    pub(crate) width: usize,
+    pub(crate) width: u16,
 }
 
 // Reads that of a signal that is there.
 pub(crate) fn shape_of(t: &[u16], s: usize) -> Shape
-    requires { (s ≤ 65536) × (signal_at t.now s + 1 < length t.now) }
+    requires { signal_at t.now s + 1 < length t.now }
     ensures { (result.array ≡ is_array t.now s) × (result.width ≡ signal_width t.now s) }
 {
-    let at = signal_at(t, s);
+    let at = signal_at(t, 0) + Layout::SIGNAL * s;
     Shape {
         array: t[at] == 1,
-        width: t[at + 1] as usize,
+        width: t[at + 1],
     }
 }
 
@@ -105,6 +111,7 @@ impl Section for Passed {
     fn pass(&mut self, t: &[u16], s: usize) -> Result<(), Refusal> {
         let at = self.first + Layout::SIGNAL * s;
         let [kind, width, start] = record::<{ Layout::SIGNAL }>(t, at);
+        // Kept: a number; it is the word as `record` read it, a missing one as 65536, and its column's definition is `signal_kind_right`.
         let array = kind == 1;
         if 1 < kind {
             return fault(at);

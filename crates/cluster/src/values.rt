@@ -21,6 +21,7 @@ pub fn scalar_fits(t: &[u16], s: u16, v: u32) -> bool
 }
 
 // Whether an array has as many bytes as are handed over for it.
+#[tactic(auto, unfolding(crate::specs::Values::array_fits))]
 pub fn array_fits(t: &[u16], s: u16, values: &[u8]) -> bool
     ensures { result ≡ array_fits t.now s values.now }
 {
@@ -28,6 +29,7 @@ pub fn array_fits(t: &[u16], s: u16, values: &[u8]) -> bool
 }
 
 // The value of a scalar in one of its placements.
+#[tactic(auto, unfolding(crate::specs::Values::scalar_at))]
 pub fn scalar_at(t: &[u16], bytes: &[u8], s: u16, k: u16) -> u16
     ensures { result ≡ scalar_at t.now bytes.now s k }
 {

@@ -1,13 +1,9 @@
 -- By the kind of the entry; a list that an entry names is there.
-use mathlib.Core.Path.{sym, ◌∙◌, ap}
+use mathlib.Core.Path.{sym, ◌∙◌}
 use native.Mathlib.Omega.{arith}
-use Rattle.std.specs.Prelude.{Some}
-use Rattle.cluster.specs.Kinds.{kind_of, kind_word}
-use Rattle.cluster.specs.Table.{frame_length, entry_target, entry_kind}
-use Rattle.cluster.specs.declared.entries.EntryKind.TheVariants as kind
+use Rattle.cluster.specs.Table.{entry_target}
 use Rattle.cluster.proofs.EntryLaws.{list_target}
 use Rattle.cluster.proofs.HeaderLaws.{member_count_lem}
-use Rattle.cluster.proofs.KindLaws.{kind_number, no_kind}
 use Rattle.cluster.proofs.MemberLaws.{list_count_lem}
 use Rattle.timing.proofs.Steps.{frame_bytes, list_bytes, other_bytes}
 use Rattle.timing.proofs.entry_bytes.Goals as goal

@@ -1,18 +1,14 @@
 -- The first entry that is of the schedule, or the number behind them.
-use Rattle.std.proofs.Common.{◌≡◌, ◌∙◌, ℕ, Bool, true, false, arith, rules, eqb}
-use Rattle.std.proofs.lemmas.Iterator.{first_from_Range}
-use native.Mathlib.Nat.{sub-zero}
+use Rattle.std.proofs.Common.{◌∙◌, arith, rules, eqb}
 use borrow.Author.Tests.{tests}
 use Rattle.cluster.specs.Lists.{first_entry}
 use Rattle.cluster.specs.Table.{entry_schedule}
-use Rattle.cluster.proofs.Searching.{Search, searched}
+use Rattle.cluster.proofs.Finding.{found_or}
 use Rattle.cluster.proofs.entries.first.Goals as goal
 
 pub returns : goal.returns
 unfolding first_entry
 returns c =
-    let test : ℕ → Bool = (λ j. eqb (entry_schedule c.args.t.now j) c.args.n) in
-    let found : Search test 0 c.count-end.result c.find.result =
-    first_from_Range _ _ _ c.find.result (λ j. test j ≡ true) (λ j. test j ≡ false) c.find.ensures.ran (λ x q k. search (rules, tests))
-    (λ x q k. search (rules, tests)) in
-    c.unwrap_or.ensures ∙ searched test 0 c.count-end.result c.count-end.result c.find.result found (omega arith) ∙ rw (sub-zero, c.count-end.ensures)
+    c.unwrap_or.ensures
+    ∙ found_or (λ j. eqb (entry_schedule c.args.t.now j) c.args.n) _ _ _ _ _ _ c.find.ensures.ran (λ x q b k. search (rules, tests))
+    (omega (arith, c.count-end.ensures)) (omega (arith, c.count-end.ensures))

@@ -1,22 +1,21 @@
--- Bits that are free are set by adding them.
-use Prim.Native.Nat.{ℕ, ◌+◌, ◌-◌, ◌*◌, ◌%◌, ◌^◌, ◌<◌}
-use mathlib.Core.Path.{◌≡◌}
-use mathlib.Core.Bool.{◌||◌}
+-- A field masked out is 0 exactly where none of its bits is occupied, and such a field is added.
+use mathlib.Core.Path.{sym, ◌∙◌}
 use native.Mathlib.Omega.{arith}
-use Rattle.wire.specs.Bits.{bit}
-use Rattle.signal.specs.Signal.{inside}
-use Rattle.cluster.proofs.FieldMask.{field_put}
+use borrow.Author.Tests.{eq-eqb, ne_eqb}
+use Rattle.cluster.proofs.FieldMask.{field_free, field_joined}
 use Rattle.cluster.proofs.marks.with_bits.Goals as goal
 
-put : (c : goal.After-ones) → let a = c.args in
-    (a.bits + ((2 ^ a.width - 1) * 2 ^ a.offset) % 2 ^ 64 < 2 ^ 64)
-    × ((j : ℕ) → bit (a.bits + ((2 ^ a.width - 1) * 2 ^ a.offset) % 2 ^ 64) j ≡ (bit a.bits j || inside a.offset a.width j))
-put c =
+pub returns-then-bits-field-eq0-clause-free : goal.returns-then-bits-field-eq0-clause-free
+returns-then-bits-field-eq0-clause-free c =
     let a = c.args in
-    field_put a.bits a.offset a.width (omega arith) (omega arith) c.requires.width_value
+    sym (eq-eqb _ 0 (rw c.ones.ensures at c.if-bits-field-eq0.true)) ∙ field_free a.bits a.offset a.width (omega arith)
 
-pub overflow_add-result : goal.overflow_add-result
-overflow_add-result c = rw c.ones.ensures (omega (arith, (put c).0))
+pub returns-then-bits-field-eq0-clause-joined : goal.returns-then-bits-field-eq0-clause-joined
+returns-then-bits-field-eq0-clause-joined c =
+    let a = c.args in
+    rw c.ones.ensures (field_joined a.bits a.offset a.width (omega arith) (omega arith) (rw c.ones.ensures at c.if-bits-field-eq0.true))
 
-pub returns : goal.returns
-returns c = rw c.ones.ensures (put c).1
+pub returns-else-bits-field-eq0-clause-free : goal.returns-else-bits-field-eq0-clause-free
+returns-else-bits-field-eq0-clause-free c =
+    let a = c.args in
+    sym (ne_eqb _ 0 (rw c.ones.ensures at c.if-bits-field-eq0.false)) ∙ field_free a.bits a.offset a.width (omega arith)

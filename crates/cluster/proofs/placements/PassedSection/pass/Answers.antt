@@ -1,13 +1,14 @@
 -- Each way out has the tests that led there.
 use Prim.Native.Nat.{◌<◌}
-use mathlib.Core.Path.{sym, ◌∙◌}
+use mathlib.Core.Path.{sym, ◌∙◌, ap}
+use Rattle.std.specs.Prelude.{is_some}
 use native.Mathlib.Omega.{arith}
 use lib.ListN.{get_or}
 use Rattle.cluster.specs.Columns.{follows, placement_columns}
 use Rattle.cluster.specs.Read.{leading}
 use Rattle.cluster.specs.Table.{frame_count, signal_count, signal_width, is_array}
 use Rattle.cluster.proofs.Clauses.{signal_says, frame_says}
-use Rattle.cluster.proofs.PlacementTurn.{stops, all_right, goes_on, is_free, passes}
+use Rattle.cluster.proofs.PlacementTurn.{stops, all_right, goes_on, passes}
 use Rattle.cluster.proofs.Widths.{width_range}
 use Rattle.cluster.proofs.placements.PassedSection.pass.Goals as goal
 
@@ -26,8 +27,8 @@ returns-then-not-frame_right-clause-told c rest =
     (stops c.args.t.now c.args.k c.args.self.now c.requires.1 c.requires.0 c.record.result c.record.ensures.words 1 _
     (simp (signal, sym c.frame_right.ensures ∙ c.if-not-frame_right.true)) (omega arith) (omega arith) rest)
 
-pub offset_free-requires : goal.offset_free-requires
-offset_free-requires c =
+pub with_placement-requires : goal.with_placement-requires
+with_placement-requires c =
     let t = c.args.t.now in
     let s = get_or c.record.result 0 0 in
     let f = get_or c.record.result 1 0 in
@@ -35,46 +36,30 @@ offset_free-requires c =
     let signal : s < signal_count t = (signal_says (signal_count t) (follows c.args.self.now.placed s) s (sym c.signal_right.ensures ∙ c.if-not-signal_right.false)).1 in
     let frame : f < frame_count t = (frame_says (frame_count t) _ _ f (sym c.frame_right.ensures ∙ c.if-not-frame_right.false)).0 in
     let width = width_range (is_array t s) (signal_width t s) (records.widths s signal) in
-    let short = records.short f frame in (
-      c.record.ensures.upper_bound 2,
-      omega (arith, c.shape_of-shape.ensures.1, width.0),
-      omega (arith, c.shape_of-shape.ensures.1, width.1),
-      omega (arith, c.room_of.ensures.0, short),
-    )
+    (c.record.ensures.upper_bound 2, omega (arith, c.shape_of-shape.ensures.1, width.0), omega (arith, c.room_of-room.ensures.0, records.short f frame))
 
-pub returns-then-not-offset_free-clause-told : goal.returns-then-not-offset_free-clause-told
+pub returns-in_default-clause-told : goal.returns-in_default-clause-told
 unfolding placement_columns leading
-returns-then-not-offset_free-clause-told c rest =
+returns-in_default-clause-told c rest =
     let signal = sym c.signal_right.ensures ∙ c.if-not-signal_right.false in
     let frame = sym c.frame_right.ensures ∙ c.if-not-frame_right.false in
-    let offset = rw (c.shape_of-shape.ensures.0, c.shape_of-shape.ensures.1, c.room_of.ensures.0) at c.offset_free.ensures in
-    rw c.fault-then-not-offset_free.ensures
+    let offset = rw (c.shape_of-shape.ensures.0, c.shape_of-shape.ensures.1, c.room_of-room.ensures.0) at c.with_placement.ensures.right in
+    rw c.fault-in_default.ensures
     (stops c.args.t.now c.args.k c.args.self.now c.requires.1 c.requires.0 c.record.result c.record.ensures.words 2 _
-    (simp (signal, frame, sym offset ∙ c.if-not-offset_free.true)) (omega arith) (omega arith) rest)
-
-pub with_bits-requires-clause-le_width : goal.with_bits-requires-clause-le_width
-with_bits-requires-clause-le_width c =
-    let a = c.args in
-    let signal = sym c.signal_right.ensures ∙ c.if-not-signal_right.false in
-    let frame = sym c.frame_right.ensures ∙ c.if-not-frame_right.false in
-    let offset = rw (c.shape_of-shape.ensures.0, c.shape_of-shape.ensures.1, c.room_of.ensures.0) at c.offset_free.ensures in
-    let right =
-    all_right a.t.now a.k a.self.now c.requires.1 c.requires.0 c.record.result c.record.ensures.words signal frame
-    (sym offset ∙ c.if-not-offset_free.false) in
-    (is_free a.t.now a.k a.self.now c.requires.1 c.requires.0 c.record.result c.record.ensures.words right _ c.shape_of-shape.ensures.1).0
+    (simp (signal, frame, sym offset ∙ ap is_some c.in_default.is)) (omega arith) (omega arith) rest)
 
 pub returns : goal.returns
 returns c =
     let a = c.args in
     let signal = sym c.signal_right.ensures ∙ c.if-not-signal_right.false in
     let frame = sym c.frame_right.ensures ∙ c.if-not-frame_right.false in
-    let offset = rw (c.shape_of-shape.ensures.0, c.shape_of-shape.ensures.1, c.room_of.ensures.0) at c.offset_free.ensures in
+    let offset = rw (c.shape_of-shape.ensures.0, c.shape_of-shape.ensures.1, c.room_of-room.ensures.0) at c.with_placement.ensures.right in
     let right =
     all_right a.t.now a.k a.self.now c.requires.1 c.requires.0 c.record.result c.record.ensures.words signal frame
-    (sym offset ∙ c.if-not-offset_free.false) in
+    (sym offset ∙ ap is_some c.in-Some.is) in
     record {
       told = goes_on a.t.now a.k a.self.now c.requires.1 c.requires.0 c.record.result c.record.ensures.words right;
       passed =
-          passes a.t.now a.k a.self.now c.requires.1 c.requires.0 c.record.result c.record.ensures.words right c.with_bits.result
-          (rw c.shape_of-shape.ensures.1 at c.with_bits.ensures);
+          passes a.t.now a.k a.self.now c.requires.1 c.requires.0 c.record.result c.record.ensures.words right _
+          (rw (c.in-Some.is, c.shape_of-shape.ensures.1) at c.with_placement.ensures.bits);
     }
