@@ -1,9 +1,8 @@
 -- The first entry whose slot does not hold its longest frame is the answer, as `find` has it.
-use Rattle.std.proofs.Common.{◌≡◌, ◌<◌, ℕ, List, Bool, true, false, not, ap, Option, Some, None, Ok, SomeIff, rules, tests}
-use Rattle.std.proofs.lemmas.Iterator.{first_from_Range}
+use Rattle.std.proofs.Common.{arith, ◌≡◌, ◌<◌, ℕ, List, Bool, true, false, not, ap, Option, Some, None, Ok, SomeIff, rules, tests}
 use borrow.Author.Tests.{lt-ltb, le-ltb}
 use Rattle.cluster.specs.Table.{entry_count}
-use Rattle.cluster.proofs.Finding.{found_first}
+use Rattle.cluster.proofs.Finding.{found}
 use Rattle.signal.proofs.Inside.{order}
 use Rattle.timing.specs.Judge.{Judgement, found_of}
 use Rattle.timing.specs.Slots.{entry_holds, first_short}
@@ -21,6 +20,5 @@ returns c =
     let times = c.args.self in
     let short : ℕ → Bool = (λ e. not (entry_holds t times.tick times.bit e)) in
     answered t (first_short t times.tick times.bit) c.find.result
-    (rw (← c.count.ensures) (found_first short c.count.result c.find.result
-    (first_from_Range _ _ _ _ (λ e. short e ≡ true) (λ e. short e ≡ false) c.find.ensures.ran
-    (λ x q k. search (rules, tests)) (λ x q k. search (rules, tests)))))
+    (rw (← c.count.ensures)
+    (found short _ _ _ _ c.count.result c.find.ensures.ran (λ x q b k. search (rules, tests)) (omega arith)))
