@@ -23,10 +23,12 @@ impl Bench {
 
     // Shows the frames whose pending bit is set.
     fn show_pending(&mut self) {
-        self.printer.put(Text::PENDING, &[]);
-        for (f, &bit) in self.desk[..FRAMES].iter().enumerate() {
+        let desk = &self.desk;
+        let out = &mut self.printer;
+        out.put(Text::PENDING, &[]);
+        for (f, &bit) in desk[..FRAMES].iter().enumerate() {
             if bit == 1 {
-                self.printer.put(Text::PENDING_FRAME, &[f as u32]);
+                out.put(Text::PENDING_FRAME, &[f as u32]);
             }
         }
     }
@@ -64,21 +66,24 @@ impl Bench {
 
     // Shows what the reassembler has open: its NAD, its length, the bytes that are there and the counter due.
     fn show_assembly(&mut self) {
-        let text = if self.desk[ASSEMBLY] == 0 {
+        let desk = &self.desk;
+        let out = &mut self.printer;
+        let text = if desk[ASSEMBLY] == 0 {
             Text::ASSEMBLY_NONE
         } else {
             Text::ASSEMBLY
         };
-        self.printer.put(text, &self.desk[ASSEMBLY + 1..]);
+        out.put(text, &desk[ASSEMBLY + 1..]);
     }
 
     // Shows the signals of which a placement was received, each with the one received last.
     fn show_received(&mut self) {
-        self.printer.put(Text::RECEIVED, &[]);
-        for (s, &placement) in self.desk[RECEIVED..].iter().enumerate() {
+        let desk = &self.desk;
+        let out = &mut self.printer;
+        out.put(Text::RECEIVED, &[]);
+        for (s, &placement) in desk[RECEIVED..].iter().enumerate() {
             if placement != NONE {
-                self.printer
-                    .put(Text::RECEIVED_PLACEMENT, &[s as u32, placement]);
+                out.put(Text::RECEIVED_PLACEMENT, &[s as u32, placement]);
             }
         }
     }
