@@ -8,7 +8,7 @@ use cluster::right::Right;
 use cluster::{Limits, frames, placements, signals, values};
 use std::ops::Range;
 
-// The records of the placements, behind the header and the records of the frames and signals.
+// The records of the placements, three words each: they stand behind the five words of the header and the three of each frame and signal.
 fn records<'a>(t: Right<'a>) -> &'a [[u16; 3]]
     ensures { Records t.entry.words.now result.now }
 {
