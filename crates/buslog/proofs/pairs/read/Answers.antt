@@ -23,9 +23,11 @@ returns-in_err-part_byte c =
     c.in-Some.ensures.steps c.in_err-part_byte.ensures)
 
 pub push-requires : goal.push-requires
-push-requires c =
-    (omega arith, room_left c.args.line.now c.loop-part.bytes.items c.loop-part.invariant c.in-Some.part.now c.next.new.self.rest.now
-    c.next.new.self.size c.in-Some.ensures.steps)
+push-requires c = (
+  omega arith,
+  room_left c.args.line.now c.loop-part.bytes.items c.loop-part.invariant c.in-Some.part.now c.next.new.self.rest.now
+      c.next.new.self.size c.in-Some.ensures.steps,
+)
 
 pub loop-part-preserved : goal.loop-part-preserved
 loop-part-preserved c =
