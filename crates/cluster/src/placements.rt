@@ -4,7 +4,7 @@ ghost use Rattle.wire.specs.Bits.{bit};
 ghost use Rattle.signal.specs.Signal.{inside};
 ghost use Rattle.std.specs.Bool.{beq};
 ghost use Rattle.cluster.specs.Check.{placement_faults, unplaced, then};
-ghost use Rattle.cluster.specs.Columns.{follows as followsOf, placement_frame_right, placement_offset_right};
+ghost use Rattle.cluster.specs.Columns.{follows as followsOf, placement_signal_right, placement_frame_right, placement_offset_right};
 ghost use Rattle.cluster.specs.Places.{place_of};
 ghost use Rattle.cluster.specs.Passed.{PlacementsPassed, PlacedBefore, last_of, mixes};
 ghost use Rattle.cluster.specs.Read.{RecordsBefore, hits};
@@ -17,7 +17,7 @@ use crate::frames::Room;
 use crate::marks::with_bits;
 use crate::section::{self, Section};
 use crate::signals::Shape;
-use crate::table::{Described, Layout, follows, placement_at, record, word};
+use crate::table::{Described, Layout, placement_at, record, word};
 use crate::{Limits, fault, frames, signals};
 use refusal::Refusal;
 
@@ -123,7 +123,7 @@ impl Section for Passed {
     fn pass(&mut self, t: &[u16], k: usize) -> Result<(), Refusal> {
         let at = self.first + Layout::PLACEMENT * k;
         let [signal, frame, offset] = record::<{ Layout::PLACEMENT }>(t, at);
-        if !follows(self.placed, signal) || !signal_there(t, self.placed, signal) {
+        if !signal_right(t, self.placed, signal) {
             return fault(at);
         }
         if !self.frame_right(t, signal, frame) {
@@ -143,12 +143,18 @@ impl Section for Passed {
     }
 }
 
-// Whether the signal of a placement is there: the next one is asked for, and that of the placement before is.
-fn signal_there(t: &[u16], placed: usize, s: usize) -> bool
-    requires { (placed ≤ signal_count t.now) × (followsOf placed s ≡ true) }
-    ensures { result ≡ ltb s (signal_count t.now) }
+// Whether a placement may be of a signal: the next one, if it is there, or that of the placement before.
+// Kept: the bound of a word that `record` read, 65536 where it is missing; and no `follows(placed, s)`, since that of the placement
+// before needs no count (tried: see `table::follows`).
+fn signal_right(t: &[u16], placed: usize, s: usize) -> bool
+    requires { (placed ≤ signal_count t.now) × (s ≤ 65536) }
+    ensures { result ≡ placement_signal_right (signal_count t.now) (followsOf placed s) s }
 {
-    s != placed || s < signals::count(t) as usize
+    if s == placed {
+        s < (signals::count(t) as usize)
+    } else {
+        s + 1 == placed
+    }
 }
 
 impl Passed {
