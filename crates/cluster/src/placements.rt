@@ -144,8 +144,8 @@ impl Section for Passed {
 }
 
 // Whether a placement may be of a signal: the next one, if it is there, or that of the placement before.
-// Kept: the bound of a word that `record` read, 65536 where it is missing; and no `follows(placed, s)`, since that of the placement
-// before needs no count (tried: see `table::follows`).
+// Kept: the bound of a word that `record` read, 65536 where it is missing; by `follows`, with the count asked behind it, none is
+// needed here, but it costs a test a signal (tried: 45,831.5 instructions for 45,062 at 3,633 words).
 fn signal_right(t: &[u16], placed: usize, s: usize) -> bool
     requires { (placed ≤ signal_count t.now) × (s ≤ 65536) }
     ensures { result ≡ placement_signal_right (signal_count t.now) (followsOf placed s) s }
