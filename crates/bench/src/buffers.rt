@@ -40,8 +40,7 @@ pub(crate) type Message = [u8; MESSAGE_BYTES];
 pub(crate) type Room = [u8; ROOM_BYTES];
 
 // What a run works on: the desk, the buffers, and the answers.
-// Kept: how much of each buffer is in use stands on the desk as the script gave it (`buffer`, `room`), above the buffer's end too; an `ArrayVec`
-// has no such length.
+// Kept: how much of each buffer is in use is a number of the desk; an `ArrayVec` would be filled again byte by byte where `fill(0)` does it.
 #[derive(Drop)]
 pub(crate) struct Bench {
     pub(crate) desk: Desk,

@@ -29,10 +29,10 @@ impl Reply {
     }
 
     // A text with two numbers.
-    fn two(text: Text, n: u32, place: u32) -> Reply {
+    fn two(text: Text, n: u32, second: u32) -> Reply {
         Reply {
             text,
-            numbers: Some([n, place]),
+            numbers: Some([n, second]),
         }
     }
 
@@ -54,6 +54,8 @@ impl Reply {
     pub(crate) fn malformed() -> Reply {
         Reply::alone(Text::MALFORMED)
     }
+
+    // Kept: a match on the answer in each of these; by `map_or_else` it would stand in a closure.
 
     // The table check.
     pub(crate) fn check(answer: Result<(), Refusal>) -> Reply {

@@ -1,26 +1,21 @@
 // The lines that lay out a buffer anew: the table, the frame bytes, the lent message, the reassembler's buffer.
-use crate::buffers::{Bench, LINE_WORDS, MESSAGE_BYTES};
+use crate::buffers::{Bench, LINE_WORDS, MESSAGE_BYTES, read_list};
 use crate::replies::Reply;
 use crate::texts::Text;
 use cluster::Limits;
-use desk::{
-    ASSEMBLY, FRAMES_USED, LIST, MESSAGE_USED, NUMBERS, ROOM_USED, WORDS_USED, size, state,
-};
+use desk::{ASSEMBLY, FRAMES_USED, MESSAGE_USED, NUMBERS, ROOM_USED, WORDS_USED, state};
 use master::state::State;
-use script::lists;
-use streams::within;
 
 impl Bench {
     // Lays out a table, right or not, with frame bytes for its frames and a fresh state, and answers the table check.
-    // Kept: `lists::read` and not `read_list`, since the whole array is taken over, the zeros behind the list too.
     pub(crate) fn lay_table(&mut self, line: &[u8]) -> Reply {
         let mut words = [0u16; LINE_WORDS];
-        let Some(count) = lists::read(line, size(self.desk[LIST]), &mut words) else {
-            return Reply::malformed();
+        let n = match read_list(line, &self.desk, &mut words) {
+            Some(list) => list.len(),
+            None => return Reply::malformed(),
         };
         self.table = words;
         self.frames.fill(0);
-        let n = within(count, &words);
         self.lay(&words[..n])
     }
 
@@ -33,11 +28,11 @@ impl Bench {
     }
 
     // Lays out the message that later ticks are lent.
-    // Kept: as `lay_table`.
     pub(crate) fn lay_message(&mut self, line: &[u8]) -> Reply {
         let mut lent = [0u8; MESSAGE_BYTES];
-        let Some(n) = lists::read(line, size(self.desk[LIST]), &mut lent) else {
-            return Reply::malformed();
+        let n = match read_list(line, &self.desk, &mut lent) {
+            Some(list) => list.len(),
+            None => return Reply::malformed(),
         };
         self.message = lent;
         self.desk[MESSAGE_USED] = (n % 65536) as u32;

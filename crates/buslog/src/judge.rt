@@ -15,6 +15,7 @@ use wire::checksum::Model;
 use wire::{checksum, identifier};
 
 // The verdicts in the order in which they apply, with the identifier where there is one.
+// Kept: no Result, since document 01 lists six verdicts, of which `ok` is one, and `line_verdict` tells one of every line.
 #[derive(Clone, Copy)]
 pub enum Verdict {
     Text,

@@ -47,6 +47,7 @@ pub fn decimal(number: u64) -> ([u8; 20], usize)
 }
 
 // Puts a space, the identifier, a space, the verdict's word and a newline.
+// Kept: as `decimal`, and no `Display`: a row is bytes at the front of a lent buffer.
 fn put_verdict(out: &mut [u8], verdict: Verdict) -> usize
     requires { 13 ≤ length out.old }
     ensures { Fronts (verdict_text verdict) out.old result out.new }

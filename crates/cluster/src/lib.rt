@@ -39,7 +39,7 @@ impl Limits {
     pub const IDENTIFIERS: usize = 60;
 }
 
-// Checks a table, word by word, each word once: accepted, or refusal 1 with the position of the first word that is wrong, missing or surplus.
+// Checks a table, word by word, each word judged once: accepted, or refusal 1 with the position of the first word that is wrong, missing or surplus.
 pub fn check(t: &[u16]) -> Result<(), Refusal>
     ensures value { result ≡ judged t.now }
     ensures told { verdict_told result ≡ check_told t.now }
@@ -56,6 +56,7 @@ pub fn check(t: &[u16]) -> Result<(), Refusal>
 }
 
 // Whether a call takes a table: what it asks before all else.
+// Kept: today the check alone; what else a call asks of its table comes here, and not into the check.
 #[tactic(auto, unfolding(crate::specs::Check::taken_of))]
 pub fn taken(t: &[u16]) -> Result<(), Refusal>
     ensures value { result ≡ taken_of t.now }

@@ -4,7 +4,7 @@ ghost use Rattle.wire.specs.Bits.{bit};
 ghost use Rattle.signal.specs.Signal.{inside};
 ghost use Rattle.std.specs.Bool.{beq};
 ghost use Rattle.cluster.specs.Check.{placement_faults, unplaced, then};
-ghost use Rattle.cluster.specs.Columns.{follows as followsOf, placement_signal_right, placement_frame_right, placement_offset_right};
+ghost use Rattle.cluster.specs.Columns.{follows as followsOf, placement_frame_right, placement_offset_right};
 ghost use Rattle.cluster.specs.Places.{place_of};
 ghost use Rattle.cluster.specs.Passed.{PlacementsPassed, PlacedBefore, last_of, mixes};
 ghost use Rattle.cluster.specs.Read.{RecordsBefore, hits};
@@ -17,7 +17,7 @@ use crate::frames::Room;
 use crate::marks::with_bits;
 use crate::section::{self, Section};
 use crate::signals::Shape;
-use crate::table::{Described, Layout, placement_at, record, word};
+use crate::table::{Described, Layout, follows, placement_at, record, word};
 use crate::{Limits, fault, frames, signals};
 use refusal::Refusal;
 
@@ -95,6 +95,7 @@ pub(crate) fn judge(table: Described<'_>) -> Result<(), Refusal>
 }
 
 // What the placements that passed left in a frame: the bits that they occupy, and one more than the signal placed there last.
+// Kept: `last` is 0 for none, as `last_in` (specs/Passed) has it, so that one test asks for both.
 #[derive(Clone, Copy)]
 struct Mark {
     occupied: u64,
@@ -123,7 +124,7 @@ impl Section for Passed {
     fn pass(&mut self, t: &[u16], k: usize) -> Result<(), Refusal> {
         let at = self.first + Layout::PLACEMENT * k;
         let [signal, frame, offset] = record::<{ Layout::PLACEMENT }>(t, at);
-        if !signal_right(t, self.placed, signal) {
+        if !follows(self.placed, signal) || !signal_there(t, self.placed, signal) {
             return fault(at);
         }
         if !self.frame_right(t, signal, frame) {
@@ -143,18 +144,12 @@ impl Section for Passed {
     }
 }
 
-// Whether a placement may be of a signal: the next one, if it is there, or that of the placement before.
-// Kept: the bound of a word that `record` read, 65536 where it is missing; by `follows`, with the count asked behind it, none is
-// needed here, but it costs a test a signal (tried: 45,831.5 instructions for 45,062 at 3,633 words).
-fn signal_right(t: &[u16], placed: usize, s: usize) -> bool
-    requires { (placed ≤ signal_count t.now) × (s ≤ 65536) }
-    ensures { result ≡ placement_signal_right (signal_count t.now) (followsOf placed s) s }
+// Whether the signal of a placement is there: the next one is asked for, and that of the placement before is.
+fn signal_there(t: &[u16], placed: usize, s: usize) -> bool
+    requires { (placed ≤ signal_count t.now) × (followsOf placed s ≡ true) }
+    ensures { result ≡ ltb s (signal_count t.now) }
 {
-    if s == placed {
-        s < (signals::count(t) as usize)
-    } else {
-        s + 1 == placed
-    }
+    s != placed || s < signals::count(t) as usize
 }
 
 impl Passed {
@@ -179,8 +174,6 @@ impl Passed {
 }
 
 // The occupied bits of a frame with those of a placement, where its offset is right and its bits are inside the frame and free.
-// Kept: the bound of a word that `record` read, 65536 where it is missing; `width <= room.bits - offset` would need none, but costs a
-// test a placement (tried: 46,594.5 instructions for 45,062 at 3,633 words).
 fn with_placement(shape: Shape, room: Room, occupied: u64, offset: usize) -> Option<u64>
     requires { (offset ≤ 65536) × (1 ≤ shape.width) × (room.bits ≤ 64) }
     ensures right { is_some result ≡ placement_offset_right shape.array room.bits (ltb room.bits (offset + shape.width)) (hits occupied offset shape.width) offset }

@@ -31,6 +31,7 @@ pub fn kind(t: &[u16], s: u16) -> u16
 }
 
 // Whether a signal is a byte array.
+// Kept: a bool, here and in what goes by it, as the definition `is_array` (specs/Table) is one.
 #[tactic(auto, unfolding(crate::specs::Table::is_array))]
 pub fn is_array(t: &[u16], s: u16) -> bool
     ensures { result ≡ is_array t.now s }

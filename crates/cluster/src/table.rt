@@ -151,8 +151,6 @@ pub(crate) fn surplus(t: &[u16]) -> Result<(), Refusal>
 }
 
 // Whether a signal, list or schedule number may follow those before it; `count` is one more than the previous one.
-// Kept: the bound of a word that `record` read, 65536 where it is missing; `count - number` would need none, but costs a test a record
-// (tried, with the count asked for each placement: 47,428.5 instructions for 45,062 at 3,633 words).
 pub(crate) fn follows(count: usize, number: usize) -> bool
     requires { number ≤ 65536 }
     ensures { result ≡ followsOf count number }

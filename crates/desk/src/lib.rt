@@ -69,13 +69,13 @@ pub const NUMBERS: usize = 98;
 // The numbers or bytes of an answer.
 pub const ANSWER: usize = 110;
 
-// The placements received last, one a signal, behind all else.
-pub const SIGNALS: usize = Limits::SIGNALS;
-
+// The placements received last, behind all else, and how many there are: one a signal.
 pub const RECEIVED: usize = 128;
 
-// Kept: the desk is an array of numbers, and `take` and `put` of `state` say of each case which one it is (`state_on`, `with_state`).
+pub const SIGNALS: usize = Limits::SIGNALS;
+
 // In the place of an entry, a schedule or a placement: none; in that of a frame: nothing is open, or a transfer that is of no frame.
+// Kept: the desk is an array of numbers, and `take` and `put` of `state` say of each case which one it is (`state_on`, `with_state`).
 pub const NONE: u32 = 65536;
 
 pub const OPEN_REQUEST: u32 = 65537;
@@ -107,7 +107,7 @@ pub fn byte(n: u32) -> u8
 }
 
 // A number as a size.
-// Kept: there is no `From<u32>` for usize, and bench names this public function.
+// Kept: there is no `From<u32>` for usize.
 pub fn size(n: u32) -> usize
     ensures { result ≡ n }
 {

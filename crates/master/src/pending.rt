@@ -81,7 +81,7 @@ impl<'a> PendingList<'a> {
         }
     }
 
-    // How many of its frames among the first members are pending.
+    // How many of its frames are pending, of those that the first members of the table name.
     pub(crate) fn count(self, end: u16) -> u16
         requires { end ≤ member_count self.t.words.now }
         ensures { result ≡ pending_count self.entry.pending (members_from self.entry.t.words.now self.entry.list 0 end) }

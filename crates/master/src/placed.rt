@@ -8,6 +8,8 @@ use cluster::right::Right;
 use cluster::{Limits, frames, placements, values};
 use std::ops::Range;
 
+// Kept: table and signal as two parameters, here and in the modules of the calls, as every reader of `cluster` takes a table and a number.
+
 // Where the placements of a signal begin: the first placement that is not of a lower signal.
 pub(crate) fn first(t: Right, s: u16) -> u16
     ensures { result ≡ first_placement t.entry.words.now s }
@@ -29,12 +31,8 @@ fn of_signal(t: Right, s: u16) -> Range<u16>
 {
     let from = first(t, s);
     let count = placements::count(t.words);
-    for k in from..count {
-        if placements::signal(t.words, k) != s {
-            return from..k;
-        }
-    }
-    from..count
+    let behind = (from..count).find(|&k| placements::signal(t.words, k) != s);
+    from..behind.unwrap_or(count)
 }
 
 // Writes a scalar into each of its placements.
@@ -65,6 +63,7 @@ pub(crate) fn mark(t: Right, s: u16, pending: &mut [bool; Limits::FRAMES])
 }
 
 // Whether a signal stands in a frame.
+// Kept: tried, `any` over `of_signal`: of a range that is not written out the check could not look into what `any` ran.
 pub(crate) fn touches(t: Right, s: u16, f: u16) -> bool
     ensures { result ≡ touchesOf t.entry.words.now s f }
 {

@@ -1,4 +1,4 @@
-// The transfer: what it is of, the nine bytes at its opening, each byte that passes, and which entries can open it.
+// The transfer: what it is of, the nine bytes at its opening, and which entries can open it.
 ghost use Rattle.std.specs.Prelude.{true, cond, ◌≡◌, ◌+◌, ◌*◌, ◌≤◌, length, replicate, take};
 ghost use Rattle.cluster.specs.Table.{published};
 ghost use Rattle.master.specs.Admit.{buffer_size};
@@ -129,6 +129,7 @@ impl<'a> Known<'a> {
     pub(crate) fn protected(self) -> u8
         ensures { result ≡ open_protected self.entry.t.words.now self.entry.opened }
     {
+        // Kept: 0 is never told, as the table has the frame; the core has no `unwrap`, which could panic.
         let format = self.opened.format(self.t.words);
         identifier::build(format.identifier as u8).unwrap_or(0)
     }

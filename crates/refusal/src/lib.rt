@@ -7,7 +7,7 @@ ghost use Rattle.refusal.specs.Numbers.{numbers, refused, refused_at, tells_plac
 // The number says which row of the papers' tables applies. The place is the one that the paper gives with it, and 0 where
 // it gives none.
 // Kept: the numbers are those of the documents, the script and C, and `of` and `at` take every number; an enum in their place would ask more of
-// callers, and beside them each refusal would stand twice.
+// callers, and beside them each refusal would stand twice. A place of 0 is none by `refused` and `refused_at` (specs/Numbers).
 #[derive(Clone, Copy)]
 pub struct Refusal {
     pub number: u8,

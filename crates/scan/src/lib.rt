@@ -6,6 +6,7 @@ ghost use Rattle.scan.specs.Bytes.{index_of, slice};
 
 // The place of the first byte of a value from one place up to another, or up to the end; where there is none, the place behind those that
 // were looked at.
+// Kept: it cannot fail, and its clauses `index` and `at_most` say so; an Option would be a failure.
 pub fn find(bytes: &[u8], from: usize, to: usize, byte: u8) -> usize
     ensures index { result ≡ from + index_of byte (slice from to bytes.now) }
     ensures at_most { from ≤ to → result ≤ to }

@@ -32,6 +32,7 @@ pub fn by_number(
 
 // Puts a text by a pattern, with the numbers from a place on: `N` stands for the next number, `E` for the next number or `none`, `H` for
 // the next as a byte, and any other character for itself.
+// Kept: a formatter of its own, since patterns are data (a text by its number), and a format text of the standard library is a literal.
 pub fn by_pattern(out: &mut [u8], at: usize, pattern: &[u8], numbers: &[u32], from: usize) -> usize
     ensures { Puts (text_by pattern.now (drop from numbers.now)) out.old at result out.new }
 {
@@ -54,9 +55,6 @@ pub fn pairs(out: &mut [u8], at: usize, bytes: &[u8]) -> usize
     }
     end
 }
-
-// Kept: from here on buffer and place as two parameters; the public functions above take them apart and tell the place that comes next, as
-// each of these does.
 
 // The number at a place, and 0 where there is none.
 fn number(numbers: &[u32], place: usize) -> u32
@@ -84,6 +82,7 @@ fn stands_for(c: u8) -> bool
 }
 
 // Puts what a character of a pattern stands for.
+// Kept: buffer and place as two parameters, here and below, as the public functions take them and tell the place that comes next.
 fn shown(out: &mut [u8], at: usize, c: u8, n: u32) -> usize
     ensures { Puts (shown_by c n) out.old at result out.new }
 {
