@@ -1,7 +1,7 @@
 -- What is kept of a line that is not whole.
-use Rattle.std.proofs.Common.{◌≡◌, ℕ, ◌+◌, ◌-◌, ◌≤◌, min, List, ◌++◌, length, take, drop, sym, ◌∙◌, arith, length-drop, length-take, take_all, take_at}
+use Rattle.std.proofs.Common.{◌≡◌, ℕ, ◌+◌, ◌-◌, ◌≤◌, min, List, ◌++◌, length, take, drop, sym, refl, ◌∙◌, arith, length-drop, length-take, take_all}
 use native.Mathlib.Nat.{min-le_right, min-eq_left, min-eq_right}
-use lib.Seq.{take-length}
+use Rattle.std.specs.List.{copy_within}
 use Rattle.signal.proofs.Inside.{order}
 use Rattle.buslog.specs.Report.{kept_length, kept_of, fronted, Fronts}
 
@@ -28,10 +28,10 @@ module _ (text : List ℕ) (from n : ℕ) (e : n ≡ min kept_length (length tex
   unfolding fronted
   kept_none z = record { count = sym (kept_length_lem ∙ z); left = rw (← kept_is, z) }
 
-  -- the characters that went through a line of their own
-  pub through : (line zeros part : List ℕ) → part ≡ take (from + n - from) (drop from text)
-      → line ≡ take (length part) part ++ drop (length part) zeros → take n line ≡ kept_of text from
-  through line zeros part p q =
+  -- the characters that are kept, moved to the front
+  pub kept_moved : (after : List ℕ) → after ≡ copy_within text from (from + n) 0 → Fronts (kept_of text from) text n after
+  unfolding fronted
+  kept_moved after e =
       let m : from + n - from ≡ n = omega arith in
-      let k : part ≡ kept_of text from = p ∙ rw m kept_is in
-      rw (q, take-length, k) (take_at (kept_of text from) (drop (length (kept_of text from)) zeros) n kept_length_lem)
+      let z : 0 + n ≡ n = omega arith in
+      record { count = sym kept_length_lem; left = e ∙ rw (m, z, kept_is, kept_length_lem) refl }

@@ -67,9 +67,8 @@ pub fn keep(text: &mut [u8], from: usize) -> usize
     if n == 0 {
         return 0;
     }
-    let mut line = [0u8; 30];
-    scan::copy(&text[from..from + n], &mut line);
-    scan::copy(&line[..n], text)
+    text.copy_within(from..from + n, 0);
+    n
 }
 
 // How much of a text of a length is kept from a place on.
