@@ -1,5 +1,5 @@
 -- What is kept of a line that is not whole.
-use Rattle.std.proofs.Common.{◌≡◌, ℕ, ◌+◌, ◌-◌, ◌≤◌, min, List, ◌++◌, length, take, drop, sym, refl, ◌∙◌, arith, length-drop, length-take, take_all}
+use Rattle.std.proofs.Common.{◌≡◌, ℕ, ◌+◌, ◌-◌, ◌≤◌, min, List, length, take, drop, sym, refl, ◌∙◌, arith, length-drop, length-take, take_all}
 use native.Mathlib.Nat.{min-le_right, min-eq_left, min-eq_right}
 use Rattle.std.specs.List.{copy_within}
 use Rattle.signal.proofs.Inside.{order}

@@ -1,6 +1,6 @@
 -- What reading a line comes to, pair by pair.
-use Rattle.std.proofs.Common.{◌≡◌, ℕ, suc, ◌+◌, ◌*◌, ◌<◌, ◌≤◌, true, false, Option, Some, None, List, [], ◌∷◌, ◌++◌, length, get_or, sym, refl, ◌∙◌, add-one, arith, length-append, le-ltb, lt-ltb, eq-eqb, ne_eqb, le-leb}
-use Rattle.std.proofs.Common.{Bool, ◌%◌, min, ap, append-nil}
+use Rattle.std.proofs.Common.{◌≡◌, ℕ, suc, ◌+◌, ◌*◌, ◌<◌, ◌≤◌, true, false, Option, Some, None, List, [], ◌∷◌, ◌++◌, length, sym, refl, ◌∙◌, arith, length-append, le-ltb, lt-ltb, eq-eqb, ne_eqb, le-leb}
+use Rattle.std.proofs.Common.{Bool, ◌%◌, min, append-nil}
 use mathlib.Core.Bool.{and-false}
 use borrow.Author.Tests.{lt-leb, eqb-true, eqb-false}
 use Rattle.std.proofs.Common.{eqb}

@@ -1,5 +1,5 @@
 -- What the contracts of private functions cite.
-use Rattle.std.specs.Prelude.{cond, ◌||◌, ◌&&◌, eqb, get_or, ◌≡◌, ℕ, ◌≤◌, Option, Some, None, List, [], ◌∷◌, ◌++◌, length, take}
+use Rattle.std.specs.Prelude.{cond, ◌||◌, ◌&&◌, eqb, get_or, ◌≡◌, ℕ, ◌≤◌, Option, Some, None, List, [], ◌∷◌, ◌++◌, length}
 use Rattle.arrayvec.specs.ArrayVec.{ArrayVec}
 use Rattle.buslog.specs.declared.judge.Verdict.{Verdict}
 use Rattle.buslog.specs.declared.report.Written.{Written}

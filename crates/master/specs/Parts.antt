@@ -1,5 +1,5 @@
 -- What the calls hand from step to step; only private contracts cite this.
-use Rattle.std.specs.Prelude.{ℕ, ◌<◌, ◌≤◌, ◌≡◌, List, length, get_or, Result, Ok, Err}
+use Rattle.std.specs.Prelude.{ℕ, ◌<◌, ◌≤◌, ◌≡◌, List, Result, Ok, Err}
 use Rattle.refusal.specs.declared.Refusal.{Refusal}
 use Rattle.cluster.specs.Check.{Verdict}
 use Rattle.cluster.specs.declared.right.Right.{Right}

@@ -8,7 +8,7 @@ use Rattle.std.proofs.Common.{Option, Some, None}
 use Rattle.std.specs.Option.{is_some}
 use lib.ListN.{length, set, take, drop}
 use lib.Seq.{take-nil}
-use Rattle.std.proofs.Common.{◌==◌, Bor, length-set}
+use Rattle.std.proofs.Common.{◌==◌, length-set}
 use Rattle.std.specs.List.{slice_split}
 use Rattle.std.proofs.lemmas.Iterator.{YieldsList}
 use Rattle.script.proofs.Splitting.{split_fields, from_within, part_taken, no_part, behind_field}

@@ -2,11 +2,11 @@
 use Prim.Native.Nat.{ℕ, zero, suc, ◌+◌, ◌-◌, min, ◌<◌, ◌≤◌}
 use native.Mathlib.Omega.{arith}
 use native.Mathlib.Numerals.{add-one}
-use mathlib.Core.Path.{◌≡◌, refl, sym, ◌∙◌, ap}
+use mathlib.Core.Path.{◌≡◌, refl, ◌∙◌, ap}
 use mathlib.Core.List.{List, [], ◌∷◌, ◌++◌}
 use borrow.Rule.Slice.PartMut.{put_mid, mid_of}
-use lib.ListN.{length-drop, length, get_or, take, drop, set, replicate, get_or-eq_default}
-use lib.Seq.{drop-drop, drop-cons, set_at, length-take-le, take-suc, append_snoc}
+use lib.ListN.{length-drop, length, get_or, take, drop, replicate, get_or-eq_default}
+use lib.Seq.{drop-drop, drop-cons, length-take-le}
 use Rattle.std.proofs.lemmas.List.{drop-replicate, take_all}
 use Rattle.std.proofs.Math.Seq.{take-append_seam, drop-append_seam}
 use Rattle.transport.specs.Reassembly.{written}

@@ -5,7 +5,7 @@ use Rattle.cluster.specs.Table.{entry_target}
 use Rattle.cluster.proofs.EntryLaws.{list_target}
 use Rattle.cluster.proofs.HeaderLaws.{member_count_lem}
 use Rattle.cluster.proofs.MemberLaws.{list_count_lem}
-use Rattle.timing.proofs.Steps.{frame_bytes, list_bytes, other_bytes}
+use Rattle.timing.proofs.Steps.{list_bytes}
 use Rattle.timing.proofs.entry_bytes.Goals as goal
 
 pub bounds-longest-target : goal.bounds-longest-target

@@ -1,6 +1,6 @@
 -- The first frame with the identifier is the answer, as `find` has it.
 use Rattle.std.proofs.Common.{sym, eqb, rules, tests, arith}
-use Rattle.cluster.specs.Table.{frame_count, identifier}
+use Rattle.cluster.specs.Table.{identifier}
 use Rattle.buslog.specs.Verdict.{frame_with}
 use Rattle.cluster.proofs.Finding.{found}
 use Rattle.buslog.proofs.judge.frame_with.Goals as goal

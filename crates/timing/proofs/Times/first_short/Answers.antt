@@ -1,5 +1,5 @@
 -- The first entry whose slot does not hold its longest frame is the answer, as `find` has it.
-use Rattle.std.proofs.Common.{arith, ◌≡◌, ◌<◌, ℕ, List, Bool, true, false, not, ap, Option, Some, None, Ok, SomeIff, rules, tests}
+use Rattle.std.proofs.Common.{arith, ◌≡◌, ◌<◌, ℕ, List, Bool, not, ap, Option, Some, None, Ok, SomeIff, rules, tests}
 use borrow.Author.Tests.{lt-ltb, le-ltb}
 use Rattle.cluster.specs.Table.{entry_count}
 use Rattle.cluster.proofs.Finding.{found}

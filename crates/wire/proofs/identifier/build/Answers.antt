@@ -1,10 +1,7 @@
 -- The code's list passes the test, and each arm is a case of the definition's test.
-use mathlib.Core.Path.{refl}
-use mathlib.Core.Bool.{xor}
 use native.Mathlib.Omega.{arith}
 use borrow.Author.Tests.{lt-ltb, le-ltb}
-use Rattle.wire.specs.Bits.{bit}
-use Rattle.wire.specs.Identifier.{protected_of, protected_byte, p0, p1}
+use Rattle.wire.specs.Identifier.{protected_of}
 use Rattle.wire.proofs.AnswerLaws.{build_told}
 use Rattle.wire.proofs.identifier.build.Goals as goal
 

@@ -1,11 +1,9 @@
 -- Right parity is what the list has for the identifier bits.
 use borrow.Author.Tests.{eq-eqb, ne_eqb}
 use native.Mathlib.Omega.{arith}
-use mathlib.Core.Path.{refl, sym, ◌∙◌}
-use mathlib.Core.Bool.{xor}
+use mathlib.Core.Path.{sym, ◌∙◌}
 use Prim.Native.Nat.{◌<◌}
-use Rattle.wire.specs.Bits.{bit}
-use Rattle.wire.specs.Identifier.{read_of, protected_byte, p0, p1}
+use Rattle.wire.specs.Identifier.{read_of}
 use Rattle.wire.proofs.IdentifierLaws.{parity_built}
 use Rattle.wire.proofs.AnswerLaws.{read_told_lem}
 use Rattle.wire.proofs.identifier.read.Goals as goal
