@@ -1,5 +1,5 @@
 // The buffers, their sizes, and how much of one is in use.
-ghost use Rattle.std.specs.Prelude.{◌≡◌, take};
+ghost use Rattle.std.specs.Prelude.{◌≡◌, ◌≤◌, length, take, IfSome};
 
 use crate::print::Printer;
 use desk::{Desk, LIST, size, state};
@@ -72,7 +72,9 @@ pub(crate) fn read_list<'b, T: Element>(
     line: &[u8],
     desk: &Desk,
     room: &'b mut [T],
-) -> Option<&'b [T]> {
+) -> Option<&'b [T]>
+    ensures { IfSome result (λ list. length list.now ≤ length room.old) }
+{
     let n = lists::read(line, size(desk[LIST]), room)?;
     Some(&room[..within(n, room)])
 }
