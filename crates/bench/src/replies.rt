@@ -71,6 +71,7 @@ impl Reply {
     }
 
     // A row of values.
+    // Kept: beside `done`, since of a refused row the place is told.
     pub(crate) fn row(answer: Result<(), Refusal>) -> Reply {
         match answer {
             Ok(()) => Reply::alone(Text::WRITTEN),

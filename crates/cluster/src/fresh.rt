@@ -24,6 +24,7 @@ fn put_start(t: &[u16], k: u16, bytes: &mut [u8])
 }
 
 // Puts the start value of a signal at a place.
+// Kept: of an array not by `values::start_array`, whose answer is made to be handed out, the unused bytes 255.
 fn start_at(t: &[u16], s: u16, place: usize, bytes: &mut [u8])
     ensures { bytes.new ≡ start_at t.now s place bytes.old }
 {

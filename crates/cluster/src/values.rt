@@ -29,6 +29,7 @@ pub fn array_fits(t: &[u16], s: u16, values: &[u8]) -> bool
 }
 
 // The value of a scalar in one of its placements.
+// Kept: table, buffer and placement apart, here and below, in public functions that docs/CALLS.md names.
 #[tactic(auto, unfolding(crate::specs::Values::scalar_at))]
 pub fn scalar_at(t: &[u16], bytes: &[u8], s: u16, k: u16) -> u16
     ensures { result ≡ scalar_at t.now bytes.now s k }

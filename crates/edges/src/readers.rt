@@ -76,6 +76,7 @@ pub(crate) fn all(rt: HostRuntime) {
     all_lists(rt, &t);
 }
 
+// Kept: the table as a parameter, here and below, beside the token that whoever prints is handed.
 fn all_counts(rt: HostRuntime, t: &[u16]) {
     let _ = println!(rt;
         "counts of frames, signals, members, entries, placements, lists and schedules: the table, its first 3 words, its first 0"

@@ -43,6 +43,7 @@ impl Element for u32 {
 }
 
 // Reads a list and tells how many fields it has; none where a field is malformed or there is no room for all.
+// Kept: line and place apart, here and in `rows`, as public functions take them.
 pub fn read<T: Element>(line: &[u8], at: usize, list: &mut [T]) -> Option<usize>
     ensures { Listed 0 (list_at T.reads line.now at) list.old result list.new }
 {

@@ -32,6 +32,7 @@ pub fn by_number(
 
 // Puts a text by a pattern, with the numbers from a place on: `N` stands for the next number, `E` for the next number or `none`, `H` for
 // the next as a byte, and any other character for itself.
+// Kept: the place in `numbers` is counted, since only some characters take a number (`left_behind`, specs/Print).
 // Kept: a formatter of its own, since patterns are data (a text by its number), and a format text of the standard library is a literal.
 pub fn by_pattern(out: &mut [u8], at: usize, pattern: &[u8], numbers: &[u32], from: usize) -> usize
     ensures { Puts (text_by pattern.now (drop from numbers.now)) out.old at result out.new }
