@@ -1,15 +1,11 @@
 -- What is kept of a line that is not whole.
-use Rattle.std.proofs.Common.{◌≡◌, ℕ, ◌+◌, ◌-◌, ◌≤◌, min, List, length, take, drop, sym, refl, ◌∙◌, arith, length-drop, length-take, take_all}
-use native.Mathlib.Nat.{min-le_right, min-eq_left, min-eq_right}
+use Rattle.std.proofs.Common.{◌≡◌, ℕ, ◌+◌, ◌-◌, min, List, length, take, drop, sym, refl, ◌∙◌, arith, length-drop, length-take, take_all}
+use native.Mathlib.Nat.{min-eq_left, min-eq_right}
 use Rattle.std.specs.List.{copy_within}
 use Rattle.signal.proofs.Inside.{order}
 use Rattle.buslog.specs.Report.{kept_length, kept_of, fronted, Fronts}
 
 module _ (text : List ℕ) (from n : ℕ) (e : n ≡ min kept_length (length text - from)) where
-  -- no more characters than there are
-  pub kept_within : n ≤ length text - from
-  kept_within = omega (arith, e, min-le_right kept_length (length text - from))
-
   pub kept_length_lem : length (kept_of text from) ≡ n
   unfolding kept_of
   kept_length_lem = simp (length-take, length-drop) (sym e)
