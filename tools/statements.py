@@ -23,7 +23,7 @@ def statements(root):
             i = 0
             while i < len(lines):
                 m = HEAD.match(lines[i])
-                if not m or lines[i].lstrip().startswith("--") or len(m[1]) > 2:
+                if not m or lines[i].lstrip().startswith("--"):
                     i += 1
                     continue
                 text, j = [m[3]], i + 1

@@ -7,11 +7,8 @@ use crate::{bus, forms, sets};
 use desk::{ANSWER, NUMBERS, WORDS_USED};
 
 impl Bench {
-    // Answers a line, and passes over an empty one and a comment.
+    // Answers a line.
     pub(crate) fn line(&mut self, line: &[u8]) {
-        if matches!(line.first(), None | Some(b'#')) {
-            return;
-        }
         match forms::take(line, &mut self.desk) {
             Some(form) => self.answer(form, line),
             None => self.print(Reply::malformed()),

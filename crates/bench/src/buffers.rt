@@ -2,8 +2,7 @@
 ghost use Rattle.std.specs.Prelude.{◌≡◌, ◌≤◌, length, take, IfSome};
 
 use crate::print::Printer;
-use desk::{Desk, LIST, size, state};
-use master::state::State;
+use desk::{Desk, LIST, size};
 use script::lists::{self, Element};
 use streams::within;
 
@@ -52,12 +51,11 @@ pub(crate) struct Bench {
 }
 
 impl Bench {
-    // The fresh state, and buffers of which nothing is in use.
+    // Buffers of which nothing is in use; `run` begins with the fresh state.
+    // Kept: a literal and no more; what is built in a variable first is laid out twice on the stack.
     pub(crate) fn new() -> Bench {
-        let mut desk = [0; desk::SIZE];
-        state::put(&mut desk, State::fresh());
         Bench {
-            desk,
+            desk: [0; desk::SIZE],
             table: [0; LINE_WORDS],
             frames: [0; FRAME_BYTES],
             message: [0; MESSAGE_BYTES],

@@ -1,4 +1,7 @@
 // The lines of a script by their forms, as `script::forms` reads them.
+ghost use Rattle.std.specs.Prelude.{◌≡◌};
+ghost use Rattle.bench.specs.Forms.{form_of};
+
 use crate::buffers::LONGEST_LINE;
 use crate::sets::Part;
 use desk::{Desk, LIST, NUMBERS};
@@ -120,18 +123,15 @@ const FORMS: [(&[u8], Form); 52] = [
 
 // Reads a line as the first form that it has, and puts the place of its list and its numbers on the desk; a line that is too long has
 // no form.
-pub(crate) fn take(line: &[u8], desk: &mut Desk) -> Option<Form> {
+pub(crate) fn take(line: &[u8], desk: &mut Desk) -> Option<Form>
+    ensures { result ≡ form_of line.now }
+{
     if LONGEST_LINE < line.len() {
         return None;
     }
-    for &(pattern, form) in &FORMS {
-        let read = forms::read(line, pattern);
-        if read.form == 0 {
-            put_line(desk, read);
-            return Some(form);
-        }
-    }
-    None
+    let (form, read) = forms::first(line, &FORMS)?;
+    put_line(desk, read);
+    Some(form)
 }
 
 // Puts the place of the list and the numbers of the line at hand.

@@ -110,10 +110,11 @@ module _ (t : List ℕ) (e : ℕ) (x : Passed) (p : EntriesPassed t e x) (more :
     unfolding entry_columns
     schedule_high = follows_high x.schedules schedule_read (leading_all due_seen all).0
 
-    pub passes : EntriesPassed t (e + 1) (record { first = x.first; frames = x.frames; lists = x.lists; schedules = get_or w 0 0 + 1 })
+    pub passes : EntriesPassed t (e + 1) (record { first = x.first; whole = x.whole; frames = x.frames; lists = x.lists; schedules = get_or w 0 0 + 1 })
     passes = record {
       limits = p.limits;
       first = p.first;
+      whole = p.whole;
       frames = p.frames;
       lists = p.lists;
       lists_high = p.lists_high;

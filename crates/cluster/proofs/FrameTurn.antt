@@ -5,20 +5,21 @@ use mathlib.Core.Bool.{Bool, true, false}
 use mathlib.Core.List.{List, ◌++◌}
 use native.Mathlib.Omega.{arith}
 use borrow.Author.Tests.{leb-true}
-use lib.ListN.{get_or, set, replicate}
+use lib.ListN.{length, get_or, set, replicate}
 use Rattle.cluster.specs.Check.{fault, faults}
 use Rattle.cluster.specs.Columns.{frame_columns}
 use Rattle.cluster.specs.Passed.{FramesPassed}
 use Rattle.cluster.specs.Read.{InLimits, IsRecord, due, leading}
 use Rattle.cluster.specs.Right.{frame_right}
-use Rattle.cluster.specs.Table.{identifiers, frame_words, frame_at, word, identifier, frame_length, flags}
+use Rattle.cluster.specs.Table.{identifiers, frame_words, frame_count, frame_at, word, identifier, frame_length, flags}
 use Rattle.cluster.specs.declared.frames.Passed.{Passed}
 use Rattle.cluster.proofs.Clauses.{within_high, identifier_says}
 use Rattle.cluster.proofs.Scan.{Agrees, leading_all, all_there, stops_at, goes_to}
 use Rattle.cluster.proofs.UsedMarks.{unmarked, marked}
 
-pub none_passed : (t : List ℕ) → InLimits t → FramesPassed t 0 (record { used = replicate identifiers false })
-none_passed t limits = record { limits = limits; used = unmarked identifiers (identifier t) }
+pub none_passed : (t : List ℕ) (whole : Bool) → InLimits t → (whole ≡ true → frame_at (frame_count t) ≤ length t)
+    → FramesPassed t 0 (record { whole = whole; used = replicate identifiers false })
+none_passed t whole limits there = record { limits = limits; whole = there; used = unmarked identifiers (identifier t) }
 
 module _ (t : List ℕ) (f : ℕ) (x : Passed) (p : FramesPassed t f x) (w : List ℕ) (read : IsRecord t (frame_at f) frame_words w) where
   -- the record's words as they are read, with the identifier's mark
@@ -65,8 +66,9 @@ module _ (t : List ℕ) (f : ℕ) (x : Passed) (p : FramesPassed t f x) (w : Lis
         let all : frame_words ≤ leading due_seen = omega (arith, rw same at right) in
         rw (read 0 (omega arith)) (all_there t (frame_at f) 0 due_seen (frame_right t f) agrees (leading_all due_seen all)).0
 
-    pub passes : get_or w 0 0 < identifiers → FramesPassed t (f + 1) (record { used = set x.used (get_or w 0 0) true })
+    pub passes : get_or w 0 0 < identifiers → FramesPassed t (f + 1) (record { whole = x.whole; used = set x.used (get_or w 0 0) true })
     passes below = record {
       limits = p.limits;
+      whole = p.whole;
       used = rw identifier_is (marked identifiers (identifier t) f x.used p.used (rw identifier_is at below));
     }

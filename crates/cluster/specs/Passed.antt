@@ -10,7 +10,7 @@ use Rattle.cluster.specs.declared.placements.Passed.{Passed}
 use Rattle.cluster.specs.declared.signals.Passed as signal
 use Rattle.cluster.specs.Places.{any_below}
 use Rattle.cluster.specs.Read.{InLimits, RecordsBefore}
-use Rattle.cluster.specs.Table.{most_frames, identifiers, counted, frame_count, signal_count, list_count, signal_at, member_at, entry_at}
+use Rattle.cluster.specs.Table.{most_frames, identifiers, counted, frame_count, signal_count, entry_count, list_count, frame_at, signal_at, member_at, entry_at}
 use Rattle.cluster.specs.Right.{counts_up, mixed, occupied_before}
 use Rattle.cluster.specs.Table.{placement_at, published, placement_signal, placement_frame}
 use Rattle.cluster.specs.Table.{identifier, member_list, member_frame, entry_schedule}
@@ -22,6 +22,7 @@ Marks size key n marks = (length marks ≡ size) × ((x : ℕ) → get_or marks 
 -- the first f frames passed
 pub record FramesPassed (t : List ℕ) (f : ℕ) (x : frame.Passed) : Type 0 where
   pub limits : InLimits t
+  pub whole : x.whole ≡ true → frame_at (frame_count t) ≤ length t
   pub used : Marks identifiers (identifier t) f x.used
 
 -- the first s signals passed
@@ -42,6 +43,7 @@ pub record MembersPassed (t : List ℕ) (m : ℕ) (x : member.Passed) : Type 0 w
 pub record EntriesPassed (t : List ℕ) (e : ℕ) (x : entry.Passed) : Type 0 where
   pub limits : InLimits t
   pub first : x.first ≡ entry_at t 0
+  pub whole : x.whole ≡ true → entry_at t (entry_count t) ≤ length t
   pub frames : x.frames ≡ frame_count t
   pub lists : x.lists ≡ list_count t
   pub lists_high : x.lists ≤ 65536

@@ -48,19 +48,29 @@ pub enum EntryKind {
     Response,
 }
 
+impl EntryKind {
+    // The kind that a word stands for; none where it stands for none.
+    #[tactic(auto, unfolding(crate::specs::Kinds::kind_of))]
+    pub fn of(word: u16) -> Option<EntryKind>
+        ensures value { result ≡ kind_of word }
+        ensures says { KindSays word result }
+    {
+        match word {
+            0 => Some(EntryKind::Frame),
+            1 => Some(EntryKind::List),
+            2 => Some(EntryKind::Request),
+            3 => Some(EntryKind::Response),
+            _ => None,
+        }
+    }
+}
+
 // The kind of an entry by its name; none where the word is no kind, as in no right table.
-#[tactic(auto, unfolding(crate::specs::Kinds::kind_of))]
 pub fn kind_of(t: &[u16], e: u16) -> Option<EntryKind>
     ensures value { result ≡ kind_of (entry_kind t.now e) }
     ensures says { KindSays (entry_kind t.now e) result }
 {
-    match kind(t, e) {
-        0 => Some(EntryKind::Frame),
-        1 => Some(EntryKind::List),
-        2 => Some(EntryKind::Request),
-        3 => Some(EntryKind::Response),
-        _ => None,
-    }
+    EntryKind::of(kind(t, e))
 }
 
 // The target of an entry: a frame number, a list number, or 0.
@@ -115,19 +125,24 @@ pub(crate) fn judge(table: Counted<'_>) -> Result<(), Refusal>
     ensures { result ≡ entry_faults table.entry.words.now }
 {
     let t = table.words;
+    let n = count(t) as usize;
+    let first = entry_at(t, 0);
     let mut passed = Passed {
-        first: entry_at(t, 0),
+        first,
+        whole: first + Layout::ENTRY * n <= t.len(),
         frames: frames::count(t) as usize,
         lists: members::lists(t),
         schedules: 0,
     };
-    section::judge(t, count(t) as usize, &mut passed)
+    section::judge(t, n, &mut passed)
 }
 
-// The entries that passed the check: where the first one begins, what may be their target, and how many schedules they are of.
+// The entries that passed the check: where the first one begins, whether all entries are there in whole, what may be their target, and how
+// many schedules they are of.
 #[derive(Clone, Copy)]
 struct Passed {
     first: usize,
+    whole: bool,
     frames: usize,
     lists: usize,
     schedules: usize,
@@ -144,7 +159,7 @@ impl Section for Passed {
 
     fn pass(&mut self, t: &[u16], e: usize) -> Result<(), Refusal> {
         let at = self.first + Layout::ENTRY * e;
-        let [schedule, kind, target, delay] = record::<{ Layout::ENTRY }>(t, at);
+        let [schedule, kind, target, delay] = record::<{ Layout::ENTRY }>(t, at, self.whole);
         if !follows(self.schedules, schedule) {
             return fault(at);
         }

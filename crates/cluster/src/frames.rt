@@ -95,15 +95,18 @@ pub(crate) fn judge(table: Counted<'_>) -> Result<(), Refusal>
     ensures { result ≡ frame_faults table.entry.words.now }
 {
     let t = table.words;
+    let n = count(t) as usize;
     let mut passed = Passed {
+        whole: Layout::HEADER + Layout::FRAME * n <= t.len(),
         used: [false; Limits::IDENTIFIERS],
     };
-    section::judge(t, count(t) as usize, &mut passed)
+    section::judge(t, n, &mut passed)
 }
 
-// The frames that passed the check: the identifiers that they have are marked.
+// The frames that passed the check: the identifiers that they have are marked; and whether all frames are there in whole.
 #[derive(Clone, Copy)]
 struct Passed {
+    whole: bool,
     used: [bool; Limits::IDENTIFIERS],
 }
 
@@ -118,7 +121,7 @@ impl Section for Passed {
 
     fn pass(&mut self, t: &[u16], f: usize) -> Result<(), Refusal> {
         let at = Layout::HEADER + Layout::FRAME * f;
-        let [id, bytes, flags] = record::<{ Layout::FRAME }>(t, at);
+        let [id, bytes, flags] = record::<{ Layout::FRAME }>(t, at, self.whole);
         if Limits::IDENTIFIERS <= id || self.used[id] {
             return fault(at);
         }

@@ -103,7 +103,7 @@ impl Section for Passed {
 
     fn pass(&mut self, t: &[u16], m: usize) -> Result<(), Refusal> {
         let at = self.first + Layout::MEMBER * m;
-        let [list, frame] = record::<{ Layout::MEMBER }>(t, at);
+        let [list, frame] = record::<{ Layout::MEMBER }>(t, at, at + Layout::MEMBER <= t.len());
         if !follows(self.lists, list) {
             return fault(at);
         }

@@ -123,7 +123,11 @@ impl Section for Passed {
 
     fn pass(&mut self, t: &[u16], k: usize) -> Result<(), Refusal> {
         let at = self.first + Layout::PLACEMENT * k;
-        let [signal, frame, offset] = record::<{ Layout::PLACEMENT }>(t, at);
+        let [signal, frame, offset] = record::<{ Layout::PLACEMENT }>(
+            t,
+            at,
+            at + Layout::PLACEMENT <= t.len(),
+        );
         if !follows(self.placed, signal) || !signal_there(t, self.placed, signal) {
             return fault(at);
         }

@@ -1,9 +1,10 @@
 // A table that the check accepts.
 ghost use Rattle.std.specs.Prelude.{◌≡◌, Ok, Err, IfOk, OnOk, IfErr};
 ghost use Rattle.cluster.specs.Check.{RightTable, taken_of};
-ghost use Rattle.cluster.specs.Records.{PlacementRecords};
+ghost use Rattle.cluster.specs.Records.{EntryRecords, PlacementRecords};
 
-use crate::table::{member_at, placement_at};
+use crate::entries;
+use crate::table::{entry_at, member_at, placement_at};
 use refusal::Refusal;
 
 // A lent table that the check accepts, for the calls that ask the check once.
@@ -30,6 +31,15 @@ impl<'a> Right<'a> {
     {
         let from = placement_at(self.words, 0);
         let end = member_at(self.words, 0);
+        self.words[from..end].as_chunks().0
+    }
+
+    // The records of its entries, in order: schedule, kind, target, delay.
+    pub fn entries(self) -> &'a [[u16; 4]]
+        ensures { EntryRecords self.entry.words.now result.now }
+    {
+        let from = entry_at(self.words, 0);
+        let end = entry_at(self.words, entries::count(self.words));
         self.words[from..end].as_chunks().0
     }
 }

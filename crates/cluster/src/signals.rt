@@ -111,7 +111,11 @@ impl Section for Passed {
 
     fn pass(&mut self, t: &[u16], s: usize) -> Result<(), Refusal> {
         let at = self.first + Layout::SIGNAL * s;
-        let [kind, width, start] = record::<{ Layout::SIGNAL }>(t, at);
+        let [kind, width, start] = record::<{ Layout::SIGNAL }>(
+            t,
+            at,
+            at + Layout::SIGNAL <= t.len(),
+        );
         // Kept: a number; it is the word as `record` read it, a missing one as 65536, and its column's definition is `signal_kind_right`.
         let array = kind == 1;
         if 1 < kind {

@@ -1,5 +1,5 @@
 // The words of the table, where the records stand, and the header.
-ghost use Rattle.std.specs.Prelude.{◌≡◌, ◌≤◌, ◌<◌, ℕ, get_or};
+ghost use Rattle.std.specs.Prelude.{◌≡◌, ◌≤◌, ◌<◌, ◌+◌, ℕ, true, length, get_or};
 ghost use Rattle.cluster.specs.Check.{header_faults, surplus as surplusOf};
 ghost use Rattle.cluster.specs.Columns.{follows as followsOf};
 ghost use Rattle.cluster.specs.Read.{InLimits, RecordsBefore, IsRecord, due as due_of};
@@ -25,14 +25,15 @@ pub(crate) fn due(t: &[u16], i: usize) -> usize
     t.get(i).map_or(65536, |word| *word as usize)
 }
 
-// The words of a record from a position on; a missing one reads as 65536. One test is enough where the whole record is there.
-pub(crate) fn record<const N: usize>(t: &[u16], at: usize) -> [usize; N]
-    requires { (N ≤ 8) × (at < 4000000) }
+// The words of a record from a position on; a missing one reads as 65536. Where the whole record is there, as is known of a section that is
+// there in whole, no word is asked for.
+pub(crate) fn record<const N: usize>(t: &[u16], at: usize, whole: bool) -> [usize; N]
+    requires place { (N ≤ 8) × (at < 4000000) }
+    requires there { whole ≡ true → at + N ≤ length t.now }
     ensures words { IsRecord t.now at N result }
     ensures upper_bound { (j : ℕ) → get_or result j 0 ≤ 65536 }
 {
     let mut words = [0; N];
-    let whole = at + N <= t.len();
     for (j, word) in words.iter_mut().enumerate() {
         *word = if whole {
             t[at + j] as usize
@@ -123,7 +124,11 @@ pub(crate) fn entry_at(t: &[u16], e: u16) -> usize
 pub(crate) fn judge(t: &[u16]) -> Result<(), Refusal>
     ensures { result ≡ header_faults t.now }
 {
-    let [frames, signals, members, entries, placements] = record::<{ Layout::HEADER }>(t, 0);
+    let [frames, signals, members, entries, placements] = record::<{ Layout::HEADER }>(
+        t,
+        0,
+        Layout::HEADER <= t.len(),
+    );
     if Limits::FRAMES < frames {
         return fault(0);
     }

@@ -14,6 +14,7 @@ use Rattle.wire.specs.Checksum.{checksum_byte}
 use Rattle.wire.specs.declared.checksum.Model.TheVariants.{Classic}
 use Rattle.cluster.specs.Table.{identifier, frame_length, frame_model, published}
 use Rattle.transport.proofs.Tests.{whether}
+use Rattle.signal.proofs.Inside.{order}
 use Rattle.master.specs.declared.state.Opened.{Opened}
 use Rattle.master.specs.declared.state.Opened.TheVariants.{Frame, Request, Response}
 use Rattle.master.specs.declared.state.State.{State}
@@ -23,7 +24,7 @@ use Rattle.master.proofs.Tests.{never}
 use Rattle.master.proofs.Verdicts.{byte_count, byte_length_high}
 use Rattle.master.specs.Byte.{byte_verdict, byte_of, early, sent_byte, checksum_right, accepted, last_byte, received_byte, byte_effect}
 use Rattle.std.specs.Prelude.{Ok}
-use Rattle.master.specs.Answers.{ByteResult}
+use Rattle.master.specs.Calls.{ByteResult}
 
 -- ---- the paper's sentences
 
@@ -174,6 +175,19 @@ pub record ByteSays (t : List ℕ) (s : State) (b : ℕ) (a : ByteResult) : Type
       s.transfer.count (frame_length t f) b a
   pub response : s.transfer.opened ≡ Response
       → ReceivedSays (Ok (byte.Response (take 8 (set s.transfer.bytes s.transfer.count b)))) (checksum_byte 61 Classic (take 8 s.transfer.bytes)) s.transfer.count 8 b a
+  pub any_response : s.transfer.opened ≡ Response → (ys : List ℕ) → a ≡ Ok (byte.Response ys)
+      → (s.transfer.count ≡ 8) × (b ≡ checksum_byte 61 Classic (take 8 s.transfer.bytes))
+
+-- whatever bytes a response is said to have, it comes behind the data alone, and for the right checksum
+any_says : (well : ByteResult) (sum count n b : ℕ) (a : ByteResult) → ReceivedSays well sum count n b a → count ≤ n → (ys : List ℕ)
+    → a ≡ Ok (byte.Response ys) → (count ≡ n) × (b ≡ sum)
+any_says well sum count n b a says l ys q =
+    order count n
+    (λ m. let c : ◌≡◌ {A = ByteResult} (Ok byte.More) (Ok (byte.Response ys)) = sym (says.more.1 m) ∙ q in let u : ◌≡◌ {A = ℕ} 0 1 = cc in absurd (omega arith))
+    (λ m. whether (eqb b sum)
+    (λ e. (omega (arith, l, m), eqb-true b sum e))
+    (λ e. let c : ◌≡◌ {A = ByteResult} (Ok byte.Failure) (Ok (byte.Response ys)) = sym (says.failure.1 (omega (arith, l, m), eqb-false b sum e)) ∙ q in
+    let u : ◌≡◌ {A = ℕ} 0 1 = cc in absurd (omega arith)))
 
 module _ (t : List ℕ) (s : State) (bs : List ℕ) (b : ℕ) (nine : length s.transfer.bytes ≡ 9) (h : byte_verdict t (length bs) s ≡ Ok tt) where
   -- the eight data bytes, where the byte is the ninth
@@ -197,6 +211,10 @@ module _ (t : List ℕ) (s : State) (bs : List ℕ) (b : ℕ) (nine : length s.t
             let l : open_length t s.transfer.opened ≡ 8 = rw e in
             let c : open_checksum t s.transfer.opened (take 8 s.transfer.bytes) ≡ checksum_byte 61 Classic (take 8 s.transfer.bytes) = rw e in
             rw (l, c) at (received_says t s bs b (Ok (byte.Response got)) response_well (rw e) (rw e) nine high low);
+        any_response = λ e ys q.
+            let l : open_length t s.transfer.opened ≡ 8 = rw e in
+            let c : open_checksum t s.transfer.opened (take 8 s.transfer.bytes) ≡ checksum_byte 61 Classic (take 8 s.transfer.bytes) = rw e in
+            any_says _ _ _ _ _ _ (rw (l, c) at (received_says t s bs b (Ok (byte.Response got)) response_well (rw e) (rw e) nine high low)) (omega (arith, low, l)) ys q;
       }
     where
       success_well : ¬ (◌≡◌ {A = ByteResult} (Ok byte.Success) (Ok byte.More)) × ¬ (◌≡◌ {A = ByteResult} (Ok byte.Success) (Ok byte.Failure))

@@ -29,7 +29,7 @@ use Rattle.master.proofs.PendingFits.{received_keeps}
 use Rattle.master.proofs.ReadBack.{untouched_data}
 use Rattle.std.specs.Prelude.{Ok, Err}
 use Rattle.cluster.specs.Check.{Verdict}
-use Rattle.master.specs.Answers.{ByteResult}
+use Rattle.master.specs.Calls.{ByteResult}
 use Rattle.master.specs.Answers.{handed}
 
 -- ---- the pending bits

@@ -1,4 +1,4 @@
--- The nine bytes of a transfer, filled one after the other, and the bytes of a frame put back into the buffer.
+-- The bytes of a frame put back into the buffer.
 use Prim.Native.Nat.{ℕ, ◌+◌, ◌-◌, ◌≤◌}
 use mathlib.Core.Path.{◌≡◌}
 use mathlib.Core.List.{List}

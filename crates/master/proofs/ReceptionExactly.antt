@@ -37,7 +37,7 @@ use Rattle.master.proofs.Tests.{never}
 use Rattle.master.proofs.Verdicts.{byte_table}
 use Rattle.master.proofs.WriteLaws.{write_beside}
 use Rattle.std.specs.Prelude.{Ok}
-use Rattle.master.specs.Answers.{ByteResult}
+use Rattle.master.specs.Calls.{ByteResult}
 use Rattle.std.specs.Prelude.{Some, None, Option}
 
 -- ---- the paper's sentences

@@ -20,7 +20,7 @@ use Rattle.master.specs.Start.{fresh_verdict, fresh_of}
 use Rattle.master.proofs.Answered.{by_verdict}
 use Rattle.std.specs.Prelude.{Ok, Err}
 use Rattle.cluster.specs.Check.{Verdict}
-use Rattle.master.specs.Answers.{FreshAnswer}
+use Rattle.master.specs.Calls.{FreshAnswer}
 
 -- a refused fresh leaves the frame bytes
 pub fresh_refused : (t bs : List ℕ) (r : Refusal) → (fresh_of t bs).given.answer ≡ Err r → (fresh_of t bs).left ≡ bs

@@ -22,7 +22,7 @@ use Rattle.master.specs.declared.state.Message.{Message}
 use Rattle.master.specs.declared.state.Message.TheVariants.{None, Sending, Completed, Failed}
 use Rattle.master.specs.declared.state.State.{State}
 use Rattle.master.specs.Answers.{Wrote}
-use Rattle.master.specs.Answers.{ArrayAnswer}
+use Rattle.master.specs.Calls.{ArrayAnswer}
 use Rattle.master.specs.Answers.{StatusRead}
 use Rattle.master.specs.Answers.{Chosen}
 use Rattle.master.specs.Answers.{Ticked}

@@ -34,7 +34,7 @@ use Rattle.master.proofs.PendingLength.{abandoned_pending}
 use Rattle.master.proofs.SlotFits.{abandoned_nothing, abandoned_plan}
 use Rattle.master.proofs.Tests.{never}
 use Rattle.std.specs.Prelude.{Ok}
-use Rattle.master.specs.Answers.{TickResult}
+use Rattle.master.specs.Calls.{TickResult}
 use Rattle.std.specs.Prelude.{Some, None, Option}
 
 -- ---- the paper's sentences

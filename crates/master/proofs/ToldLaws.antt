@@ -28,7 +28,7 @@ use Rattle.master.specs.Read.{read_verdict, read_scalar_of, read_array_of}
 use Rattle.master.specs.Select.{select_verdict, select_of}
 use Rattle.master.specs.Answers.{Chosen}
 use Rattle.master.specs.Answers.{Wrote}
-use Rattle.master.specs.Answers.{ArrayAnswer}
+use Rattle.master.specs.Calls.{ArrayAnswer}
 use Rattle.master.specs.Answers.{StatusRead}
 use Rattle.master.specs.Answers.{Ticked}
 use Rattle.master.specs.Answers.{Took}
@@ -48,9 +48,9 @@ use Rattle.master.proofs.Answered.{then_accepted}
 use Rattle.master.proofs.StepLaws.{verdict_told_lem}
 use Rattle.std.specs.Prelude.{Ok, Err}
 use Rattle.cluster.specs.Check.{Verdict}
-use Rattle.master.specs.Answers.{ReadAnswer}
-use Rattle.master.specs.Answers.{AheadAnswer}
-use Rattle.master.specs.Answers.{MessageResult}
+use Rattle.master.specs.Calls.{ReadAnswer}
+use Rattle.master.specs.Calls.{AheadAnswer}
+use Rattle.master.specs.Calls.{MessageResult}
 
 module _ (vs : List ℕ) where
   -- a verdict and some tests tell the same

@@ -6,12 +6,12 @@ use Rattle.master.specs.Calls as call
 use Rattle.master.specs.Calls.{Event, ◌⇒◌}
 use Rattle.master.specs.Put.{Value}
 use Rattle.std.specs.Prelude.{Ok, Err}
-use Rattle.master.specs.Answers.{WriteAnswer}
-use Rattle.master.specs.Answers.{SelectAnswer}
-use Rattle.master.specs.Answers.{SendAnswer}
-use Rattle.master.specs.Answers.{StatusAnswer}
-use Rattle.master.specs.Answers.{TickResult}
-use Rattle.master.specs.Answers.{ByteResult}
+use Rattle.master.specs.Calls.{WriteAnswer}
+use Rattle.master.specs.Calls.{SelectAnswer}
+use Rattle.master.specs.Calls.{SendAnswer}
+use Rattle.master.specs.Calls.{StatusAnswer}
+use Rattle.master.specs.Calls.{TickResult}
+use Rattle.master.specs.Calls.{ByteResult}
 
 -- an accepted call that changes something, with what it was given, and what a tick or a byte was answered
 pub data Act : Type 0 where

@@ -9,7 +9,7 @@ use Rattle.master.specs.Admit.{unless, admitted, answered, buffer_size}
 use Rattle.std.specs.Prelude.{Ok}
 use Rattle.cluster.specs.Check.{Verdict}
 use Rattle.std.specs.Prelude.{Err}
-use Rattle.master.specs.Answers.{AheadAnswer}
+use Rattle.master.specs.Calls.{AheadAnswer}
 
 -- how many of some frames are pending
 unfoldable pub pending_count : List Bool → List ℕ → ℕ

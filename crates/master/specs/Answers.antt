@@ -1,50 +1,11 @@
--- The answers of the calls, and in the paper's terms: of each case the refusal number, 0 where it refuses nothing, the place and the values.
-use Rattle.std.specs.Prelude.{ℕ, Bool, true, false, [], ◌∷◌, Result, Ok, Err, ⊤}
+-- What is handed back beside the answers of the calls, and the answers in the paper's terms: of each case the refusal number, 0 where it refuses nothing, the place and the values.
+use Rattle.std.specs.Prelude.{Bool, true, false, [], ◌∷◌, Ok, Err}
 use Rattle.refusal.specs.Answers.{Told, gives, refuses}
-use Rattle.refusal.specs.declared.Refusal.{Refusal}
-use Rattle.cluster.specs.declared.values.Array.{Array}
+use Rattle.master.specs.Calls.{FreshAnswer, WriteAnswer, ReadAnswer, ArrayAnswer, SelectAnswer, TickResult, ByteResult, StatusAnswer, SendAnswer, MessageResult, AheadAnswer}
 use Rattle.master.specs.declared.state.State.{State}
-use Rattle.master.specs.declared.tick.TickAnswer.{TickAnswer}
 use Rattle.master.specs.declared.tick.TickAnswer.TheVariants as tick
-use Rattle.master.specs.declared.byte.ByteAnswer.{ByteAnswer}
 use Rattle.master.specs.declared.byte.ByteAnswer.TheVariants as byte
-use Rattle.master.specs.declared.send.MessageAnswer.{MessageAnswer}
 use Rattle.master.specs.declared.send.MessageAnswer.TheVariants as message
-
--- ---- what each call answers, or the refusal
-
-abbrev pub FreshAnswer : Type 0
-FreshAnswer = Result ⊤ Refusal
-
-abbrev pub WriteAnswer : Type 0
-WriteAnswer = Result ⊤ Refusal
-
-abbrev pub ReadAnswer : Type 0
-ReadAnswer = Result ℕ Refusal
-
-abbrev pub ArrayAnswer : Type 0
-ArrayAnswer = Result Array Refusal
-
-abbrev pub SelectAnswer : Type 0
-SelectAnswer = Result ⊤ Refusal
-
-abbrev pub TickResult : Type 0
-TickResult = Result TickAnswer Refusal
-
-abbrev pub ByteResult : Type 0
-ByteResult = Result ByteAnswer Refusal
-
-abbrev pub StatusAnswer : Type 0
-StatusAnswer = Result ℕ Refusal
-
-abbrev pub SendAnswer : Type 0
-SendAnswer = Result ⊤ Refusal
-
-abbrev pub MessageResult : Type 0
-MessageResult = Result MessageAnswer Refusal
-
-abbrev pub AheadAnswer : Type 0
-AheadAnswer = Result ℕ Refusal
 
 -- ---- the state that a call leaves beside its answer
 

@@ -1,16 +1,48 @@
 -- Document 01, "Histories": "A history is the calls with their arguments and answers".
-use Rattle.std.specs.Prelude.{ℕ, List}
-use Rattle.master.specs.Answers.{ArrayAnswer}
+use Rattle.std.specs.Prelude.{ℕ, List, Result, ⊤}
+use Rattle.refusal.specs.declared.Refusal.{Refusal}
+use Rattle.cluster.specs.declared.values.Array.{Array}
+use Rattle.master.specs.declared.tick.TickAnswer.{TickAnswer}
+use Rattle.master.specs.declared.byte.ByteAnswer.{ByteAnswer}
+use Rattle.master.specs.declared.send.MessageAnswer.{MessageAnswer}
 use Rattle.master.specs.Put.{Put}
-use Rattle.master.specs.Answers.{WriteAnswer}
-use Rattle.master.specs.Answers.{SelectAnswer}
-use Rattle.master.specs.Answers.{SendAnswer}
-use Rattle.master.specs.Answers.{ReadAnswer}
-use Rattle.master.specs.Answers.{StatusAnswer}
-use Rattle.master.specs.Answers.{AheadAnswer}
-use Rattle.master.specs.Answers.{TickResult}
-use Rattle.master.specs.Answers.{ByteResult}
-use Rattle.master.specs.Answers.{MessageResult}
+
+-- ---- what each call answers, or the refusal
+
+abbrev pub FreshAnswer : Type 0
+FreshAnswer = Result ⊤ Refusal
+
+abbrev pub WriteAnswer : Type 0
+WriteAnswer = Result ⊤ Refusal
+
+abbrev pub ReadAnswer : Type 0
+ReadAnswer = Result ℕ Refusal
+
+abbrev pub ArrayAnswer : Type 0
+ArrayAnswer = Result Array Refusal
+
+abbrev pub SelectAnswer : Type 0
+SelectAnswer = Result ⊤ Refusal
+
+abbrev pub TickResult : Type 0
+TickResult = Result TickAnswer Refusal
+
+abbrev pub ByteResult : Type 0
+ByteResult = Result ByteAnswer Refusal
+
+abbrev pub StatusAnswer : Type 0
+StatusAnswer = Result ℕ Refusal
+
+abbrev pub SendAnswer : Type 0
+SendAnswer = Result ⊤ Refusal
+
+abbrev pub MessageResult : Type 0
+MessageResult = Result MessageAnswer Refusal
+
+abbrev pub AheadAnswer : Type 0
+AheadAnswer = Result ℕ Refusal
+
+-- ---- the calls
 
 -- a call behind the fresh one, with what it is given beside the table, the state and the frame bytes; "Values, arrays and lent
 -- messages may be anything"

@@ -13,8 +13,8 @@ use Rattle.master.specs.Schedule.{Slot, entry, Scheduled, scheduled}
 use Rattle.master.specs.History.{writes, opens, closes, open_after, Succeeded, Pending, successes, written_bytes, eight_of, response_of, got_after}
 use Rattle.master.specs.Answering.{bytes_after, received_after}
 use Rattle.master.specs.Replies.{Takes, Count, AheadReply, Replies}
-use Rattle.master.specs.Answers.{AheadAnswer}
-use Rattle.master.specs.Answers.{TickResult, ByteResult}
+use Rattle.master.specs.Calls.{AheadAnswer}
+use Rattle.master.specs.Calls.{TickResult, ByteResult}
 use Rattle.std.specs.Prelude.{Ok}
 use Rattle.std.specs.Prelude.{None}
 

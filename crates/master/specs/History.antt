@@ -17,8 +17,8 @@ use Rattle.master.specs.Acts.{on_write, on_tick, on_byte}
 use Rattle.master.specs.Schedule.{Scheduled, act, is_start, starts, slot_after, of_list}
 use Rattle.master.specs.Put.{with_value}
 use Rattle.std.specs.Prelude.{Ok, Err}
-use Rattle.master.specs.Answers.{TickResult}
-use Rattle.master.specs.Answers.{ByteResult}
+use Rattle.master.specs.Calls.{TickResult}
+use Rattle.master.specs.Calls.{ByteResult}
 
 -- ---- writes
 

@@ -18,7 +18,7 @@ use Rattle.master.specs.Admit.{unless, admitted, answered, buffer_size}
 use Rattle.std.specs.Prelude.{Ok}
 use Rattle.cluster.specs.Check.{Verdict}
 use Rattle.std.specs.Prelude.{Err}
-use Rattle.master.specs.Answers.{MessageResult}
+use Rattle.master.specs.Calls.{MessageResult}
 
 -- the message at one of its frames, or completed behind the last of them
 abbrev pub sending_at : state.Sending → ℕ → ℕ → Message

@@ -5,13 +5,13 @@ use Rattle.refusal.specs.Numbers as number
 use Rattle.cluster.specs.Check.{then}
 use Rattle.cluster.specs.Table.{signal_count, is_array}
 use Rattle.master.specs.declared.state.State.{State}
-use Rattle.master.specs.Answers.{ArrayAnswer}
+use Rattle.master.specs.Calls.{ArrayAnswer}
 use Rattle.master.specs.Admit.{unless, admitted, answered}
 use Rattle.master.specs.Received.{source_of, scalar_from, array_from}
 use Rattle.std.specs.Prelude.{Ok}
 use Rattle.cluster.specs.Check.{Verdict}
 use Rattle.std.specs.Prelude.{Err}
-use Rattle.master.specs.Answers.{ReadAnswer}
+use Rattle.master.specs.Calls.{ReadAnswer}
 
 -- refusals of a read: 1, 2, 3, 4 "no such signal", 6 "scalar call on an array or the reverse"
 unfoldable pub read_verdict : List ℕ → ℕ → State → ℕ → Bool → Verdict

@@ -15,7 +15,7 @@ use Rattle.master.specs.declared.state.Opened.{Opened}
 use Rattle.master.specs.declared.state.Opened.TheVariants.{Nothing, Frame, Request, Response}
 use Rattle.master.specs.declared.state.Message.{Message}
 use Rattle.master.specs.declared.state.Message.TheVariants as message
-use Rattle.master.specs.Answers.{ArrayAnswer}
+use Rattle.master.specs.Calls.{ArrayAnswer}
 use Rattle.master.specs.declared.tick.TickAnswer.TheVariants as tick
 use Rattle.master.specs.declared.byte.ByteAnswer.TheVariants as byte
 use Rattle.master.specs.declared.send.MessageAnswer.TheVariants as tells
@@ -27,14 +27,14 @@ use Rattle.master.specs.History.{Pending, open_after, checksum_over, got_after}
 use Rattle.master.specs.Answering.{message_closed, message_after, due_after, bytes_after, counted_after, word_over, read_from, scalar_read, array_given}
 use Rattle.master.specs.Put.{Value, scalar, array}
 use Rattle.std.specs.Prelude.{Ok, Err}
-use Rattle.master.specs.Answers.{WriteAnswer}
-use Rattle.master.specs.Answers.{SelectAnswer}
-use Rattle.master.specs.Answers.{SendAnswer}
-use Rattle.master.specs.Answers.{ReadAnswer}
-use Rattle.master.specs.Answers.{AheadAnswer}
-use Rattle.master.specs.Answers.{TickResult}
-use Rattle.master.specs.Answers.{ByteResult}
-use Rattle.master.specs.Answers.{MessageResult}
+use Rattle.master.specs.Calls.{WriteAnswer}
+use Rattle.master.specs.Calls.{SelectAnswer}
+use Rattle.master.specs.Calls.{SendAnswer}
+use Rattle.master.specs.Calls.{ReadAnswer}
+use Rattle.master.specs.Calls.{AheadAnswer}
+use Rattle.master.specs.Calls.{TickResult}
+use Rattle.master.specs.Calls.{ByteResult}
+use Rattle.master.specs.Calls.{MessageResult}
 
 -- ---- which refusal a call gets: the number of the first test that fails, and 0 where all hold
 

@@ -8,7 +8,7 @@ use Rattle.master.specs.WriteRow.{row_of}
 use Rattle.master.specs.Calls as call
 use Rattle.master.specs.Run.{Held, held, answer_of, left_by}
 use Rattle.std.specs.Prelude.{Ok, Err}
-use Rattle.master.specs.Answers.{WriteAnswer}
+use Rattle.master.specs.Calls.{WriteAnswer}
 
 -- what a row answers
 unfoldable pub row_answer : List ℕ → Held → List ℕ → List ℕ → WriteAnswer

@@ -11,7 +11,7 @@ use Rattle.master.proofs.RowExactly.{row_written_exactly, row_is_writes, row_ref
 use Rattle.orders.specs.Orders.{Order, one, row, with_writes, read_row, read_order, read_orders}
 use Rattle.orders.specs.Run.{order_answer, order_left, held_by, ordered_of}
 use Rattle.std.specs.Prelude.{Ok, Err}
-use Rattle.master.specs.Answers.{WriteAnswer}
+use Rattle.master.specs.Calls.{WriteAnswer}
 
 -- some calls, and behind them some writes
 abbrev pub with_calls : Seq Call → List Put → Seq Call

@@ -24,7 +24,7 @@ use Rattle.orders.proofs.AsCalls.{as_calls, read_as_calls}
 use Rattle.orders.proofs.RowReplies.{row_replies}
 use Rattle.std.specs.Prelude.{Ok}
 use Rattle.std.specs.Prelude.{Err}
-use Rattle.master.specs.Answers.{WriteAnswer}
+use Rattle.master.specs.Calls.{WriteAnswer}
 
 -- of an accepted row of which no event counts there is no pair
 some_write : (h : Seq Event) (w : Put) (ws : List Put) → ¬ (Each (λ e. act_of e ≡ nothing) (with_writes (h ▹ (write w ⇒ Ok tt)) ws))

@@ -23,7 +23,7 @@ use Rattle.orders.specs.Run.{order_answer}
 use Rattle.orders.specs.Replies.{pairs_reply, row_reply}
 use Rattle.std.specs.Prelude.{Ok, Err}
 use Rattle.cluster.specs.Check.{Verdict}
-use Rattle.master.specs.Answers.{WriteAnswer}
+use Rattle.master.specs.Calls.{WriteAnswer}
 
 -- a verdict as the answer of a write
 abbrev reply_to : Verdict → WriteAnswer

@@ -4,7 +4,7 @@ use Rattle.master.specs.Put.{Put, puts}
 use Rattle.master.specs.Seq.{Seq, ∅, ◌▹◌}
 use Rattle.master.specs.Calls.{Call, write, Answer, Event, ◌⇒◌}
 use Rattle.std.specs.Prelude.{Ok, Err}
-use Rattle.master.specs.Answers.{WriteAnswer}
+use Rattle.master.specs.Calls.{WriteAnswer}
 
 pub data Order : Type 0 where
   -- one call

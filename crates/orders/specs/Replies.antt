@@ -8,7 +8,7 @@ use Rattle.master.specs.Schedule.{Scheduled}
 use Rattle.master.specs.Replies.{put_number, Replies}
 use Rattle.orders.specs.Orders.{Order, one, row, OrderAnswer}
 use Rattle.std.specs.Prelude.{Ok, Err}
-use Rattle.master.specs.Answers.{WriteAnswer}
+use Rattle.master.specs.Calls.{WriteAnswer}
 
 -- "then the number of the first bad pair, with its place, by 4 to 7", where the first of these pairs has place i
 unfoldable pub pairs_reply : List ℕ → ℕ → List Put → WriteAnswer

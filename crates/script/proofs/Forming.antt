@@ -1,13 +1,17 @@
 -- What reading a line by its forms comes to, field by field.
-use Rattle.std.proofs.Common.{◌≡◌, ◌==◌, ℕ, ◌+◌, ◌≤◌, true, false, Option, Some, None, List, [], ◌∷◌, Bor, length, drop, refl, sym, ap, ◌∙◌, arith}
+use Rattle.std.proofs.Common.{◌≡◌, ◌==◌, ℕ, ◌+◌, ◌-◌, ◌<◌, ◌≤◌, true, false, Option, Some, None, List, [], ◌∷◌, Bor, length, drop, get_or, map, refl, sym, ap, ◌∙◌, arith}
+use Rattle.std.proofs.lemmas.List.{at_drop_more}
+use lib.ListN.{drop_of_length-le}
+use Rattle.std.specs.Prelude.{suc}
 use Rattle.std.specs.Option.{is_some}
 use Rattle.std.specs.List.{slice_split}
 use Rattle.std.proofs.lemmas.Iterator.{YieldsList}
 use Rattle.script.specs.declared.fields.Field.{Field}
 use Rattle.script.specs.declared.forms.Reading.{Reading}
 use Rattle.script.specs.declared.forms.Numbers.{Numbers}
+use Rattle.script.specs.declared.forms.Line.{Line}
 use Rattle.script.specs.Fields.{fields_of, field_of}
-use Rattle.script.specs.Forms.{no_numbers, with_field, is_list, unfit, fitting, formed, read_as, read_of, line_in, line_of}
+use Rattle.script.specs.Forms.{no_numbers, with_field, is_list, unfit, fitting, formed, formed_or, named, named_or, read_as, read_of, line_in, line_of, first_in}
 use Rattle.script.proofs.Splitting.{split_fields, total, total_fields, few_fields, part_taken, no_part}
 
 -- ---- one form, by the first of what is left of its fields and of the line's
@@ -151,3 +155,65 @@ module _ {S : Type 0} {steps : S → Option (Bor (List ℕ)) → S → Type 0} {
             within = omega (arith, l.within, ap length n.0);
             same = l.same ∙ rw (n.0, ← q);
           }
+
+-- ---- the first of some named forms that a line has
+
+module _ {F : Type 0} (forms : List (Bor (List ℕ) × F)) (line : List ℕ) (k : ℕ) where
+  pub first_here : (f : Bor (List ℕ) × F) (r : Reading) → k < length forms → f ≡ get_or forms k f → read_of f.0.now line ≡ Some r
+      → Some (f.1, formed k (Some r)) ≡ first_in (named (drop k forms)) line k
+  unfolding first_in
+  first_here f r h is q = sym (at_drop_more (λ fs. first_in (named fs) line k) forms k f h ∙ rw (← is, q))
+
+  pub first_later : (f : Bor (List ℕ) × F) → k < length forms → f ≡ get_or forms k f → read_of f.0.now line ≡ None
+      → first_in (named (drop k forms)) line k ≡ first_in (named (drop (k + 1) forms)) line (k + 1)
+  unfolding first_in
+  first_later f h is q = at_drop_more (λ fs. first_in (named fs) line k) forms k f h ∙ rw (← is, q)
+
+  pub first_nowhere : length forms ≤ k → first_in (named (drop k forms)) line k ≡ None
+  unfolding first_in
+  first_nowhere h = rw (drop_of_length-le forms {i = k} h)
+
+-- a line by the first of some named forms is the line by the first of the forms: the same number, list and numbers, or the number of all forms
+abbrev pub line_told : {F : Type 0} → Option (F × Line) → ℕ → Line
+line_told (Some told) n = told.1
+line_told None n = formed n unfit
+
+same_told : {F : Type 0} (name : F) (k n : ℕ) (r : Option Reading) (line : Line) (told : Option (F × Line)) → line ≡ line_told told n
+    → formed_or k r line ≡ line_told (named_or name k r told) n
+same_told name k n (Some r) line told same = refl
+same_told name k n None line told same = same
+
+pub first_told : {F : Type 0} (forms : List (List ℕ × F)) (line : List ℕ) (k : ℕ)
+    → line_in (map (λ f. f.0) forms) line k ≡ line_told (first_in forms line k) (k + length forms)
+unfolding line_in first_in
+first_told [] line k = ap (λ n. formed n unfit) (omega arith)
+first_told (f ∷ fs) line k =
+    same_told f.1 k _ (read_of f.0 line) _ (first_in fs line (k + 1))
+    (first_told fs line (k + 1) ∙ ap (line_told (first_in fs line (k + 1))) (omega arith))
+
+-- and what is told beside it is the name of that form
+name_at : {F : Type 0} (f : List ℕ × F) (fs : List (List ℕ × F)) (d : List ℕ × F) (k : ℕ) (name : F) (told : Line) (r : Option Reading)
+    (rest : Option (F × Line)) → named_or f.1 k r rest ≡ Some (name, told)
+    → (rest ≡ Some (name, told) → (k + 1 ≤ told.form) × ((get_or fs (told.form - (k + 1)) d).1 ≡ name))
+    → (k ≤ told.form) × ((get_or (f ∷ fs) (told.form - k) d).1 ≡ name)
+name_at {F} f fs d k name told (Some r) rest h later =
+    let both : ◌≡◌ {A = F × Line} (f.1, formed k (Some r)) (name, told) = cc in
+    let n : f.1 ≡ name = ap (λ x. x.0) both in
+    let m : k ≡ told.form = ap (λ x. x.1.form) both in
+    let z : told.form - k ≡ 0 = omega arith in
+    (omega arith, rw z n)
+name_at f fs d k name told None rest h later =
+    let there = later h in
+    let z : told.form - k ≡ suc (told.form - (k + 1)) = omega (arith, there.0) in
+    (omega (arith, there.0), rw z there.1)
+
+none_told : {F : Type 0} (k : ℕ) (d : List ℕ × F) (name : F) (told : Line) → ◌≡◌ {A = Option (F × Line)} None (Some (name, told))
+    → (k ≤ told.form) × ((get_or [] (told.form - k) d).1 ≡ name)
+none_told k d name told h = let u : ◌≡◌ {A = ℕ} 0 1 = cc in absurd (omega arith)
+
+pub first_named : {F : Type 0} (forms : List (List ℕ × F)) (line : List ℕ) (k : ℕ) (d : List ℕ × F) (name : F) (told : Line)
+    → first_in forms line k ≡ Some (name, told) → (k ≤ told.form) × ((get_or forms (told.form - k) d).1 ≡ name)
+unfolding first_in
+first_named [] line k d name told h = none_told k d name told h
+first_named (f ∷ fs) line k d name told h =
+    name_at f fs d k name told (read_of f.0 line) (first_in fs line (k + 1)) h (first_named fs line (k + 1) d name told)

@@ -1,5 +1,6 @@
 -- The form that a line has.
-use Rattle.std.specs.Prelude.{ℕ, ◌+◌, Bool, false, cond, Option, Some, None, List, [], ◌∷◌, leb, eqb, length, get_or, set, replicate}
+use denote.Ref.{Bor}
+use Rattle.std.specs.Prelude.{ℕ, ◌+◌, Bool, false, cond, Option, Some, None, List, [], ◌∷◌, leb, eqb, length, get_or, set, replicate, map}
 use Rattle.std.specs.Option.{option_and_then}
 use Rattle.script.specs.declared.fields.Field.{Field}
 use Rattle.script.specs.declared.fields.Field.TheVariants.{Word, Number}
@@ -64,3 +65,21 @@ line_in (f ∷ fs) line k = formed_or k (read_of f line) (line_in fs line (k + 1
 -- a line by the first form that it has; `|` stands between forms
 unfoldable pub line_of : List ℕ → List ℕ → Line
 line_of forms line = line_in (fields_of 124 forms) line 0
+
+-- forms with their names, where they are lent
+abbrev pub named : {F : Type 0} → List (Bor (List ℕ) × F) → List (List ℕ × F)
+named fs = map (λ f. (f.0.now, f.1)) fs
+
+-- what was read by a form of a name, or else what the forms behind it give
+abbrev pub named_or : {F : Type 0} → F → ℕ → Option Reading → Option (F × Line) → Option (F × Line)
+named_or name k (Some r) rest = Some (name, formed k (Some r))
+named_or name k None rest = rest
+
+-- a line by the first of some named forms that it has, where k forms stand before them
+unfoldable pub first_in : {F : Type 0} → List (List ℕ × F) → List ℕ → ℕ → Option (F × Line)
+first_in [] line k = None
+first_in (f ∷ fs) line k = named_or f.1 k (read_of f.0 line) (first_in fs line (k + 1))
+
+-- a line by the first of some named forms that it has
+unfoldable pub first_of : {F : Type 0} → List (List ℕ × F) → List ℕ → Option (F × Line)
+first_of forms line = first_in forms line 0

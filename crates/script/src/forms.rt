@@ -1,7 +1,7 @@
 // The form that a line has. Forms are written as a line is: a word is that word, a number stands for a number up to it, `HH` for a byte
 // as an upper-case hexadecimal pair, and `..` at the end for a list; `|` stands between forms.
 ghost use Rattle.std.specs.Prelude.{◌≡◌};
-ghost use Rattle.script.specs.Forms.{no_numbers, with_number, with_field, is_list, fitting, formed, read_of, line_of};
+ghost use Rattle.script.specs.Forms.{no_numbers, with_number, with_field, is_list, fitting, formed, named, read_of, first_of, line_of};
 
 use crate::fields;
 use crate::fields::Field;
@@ -90,6 +90,18 @@ pub fn read(line: &[u8], forms: &[u8]) -> Line
         list: 0,
         numbers: [0; MOST],
     }
+}
+
+// Reads a line as the first of some forms that it has, each with its name beside it; none where it has none of them.
+pub fn first<F: Copy>(line: &[u8], forms: &[(&[u8], F)]) -> Option<(F, Line)>
+    ensures { result ≡ first_of (named forms.now) line.now }
+{
+    for (k, (form, name)) in forms.iter().enumerate() {
+        if let Some(read) = read_as(line, form) {
+            return Some((*name, with_form(k, read)));
+        }
+    }
+    None
 }
 
 // What was read, with the number of its form.

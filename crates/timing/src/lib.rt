@@ -2,8 +2,8 @@
 // is judged before one runs.
 #![tactic(auto)]
 
-ghost use Rattle.std.specs.Prelude.{◌&&◌, ◌≡◌, ◌<◌, Ok};
-ghost use Rattle.cluster.specs.Table.{entry_count};
+ghost use Rattle.std.specs.Prelude.{◌&&◌, ◌≡◌, ◌<◌, Ok, get_or};
+ghost use Rattle.cluster.specs.Table.{entry_count, entry_kind, entry_target};
 ghost use Rattle.timing.specs.FrameTime.{minimum_bits};
 ghost use Rattle.timing.specs.Judge.{found_of, judge_of, judgement_told, judge_told};
 ghost use Rattle.timing.specs.Parts.{Longest};
@@ -55,10 +55,15 @@ impl Times {
         ensures { Ok result ≡ found_of t.entry.words.now (first_short t.entry.words.now self.tick self.bit) }
     {
         let longest = longest_members(t);
-        (0..entries::count(t.words)).find(|&e| !self.slot_holds(
-            entries::delay(t.words, e),
-            entry_bytes(t, e, &longest),
-        ))
+        let entries = t.entries();
+        // Kept: a `for`; tried, a `find` over the entries' numbers, whose closure is called for each: the judge's own work took twice as long.
+        for e in 0..entries::count(t.words) {
+            let entry = entries[e as usize];
+            if !self.slot_holds(entry[3], entry_bytes(t, e, entry, &longest)) {
+                return Some(e);
+            }
+        }
+        None
     }
 
     // Whether a slot of some ticks holds a frame of some data bytes.
@@ -89,14 +94,16 @@ fn longest_members(t: Right) -> [u16; Limits::MEMBERS]
     longest
 }
 
-// The data bytes of an entry's longest frame, with the longest member of each list at hand.
+// The data bytes of the longest frame of an entry, by its record and with the longest member of each list at hand.
 #[tactic(auto, unfolding(crate::specs::Slots::entry_bytes))]
-fn entry_bytes(t: Right, e: u16, longest: &[u16; Limits::MEMBERS]) -> u16
-    requires { (e < entry_count t.words.now) × Longest t.words.now longest.now }
+fn entry_bytes(t: Right, e: u16, entry: [u16; 4], longest: &[u16; Limits::MEMBERS]) -> u16
+    requires there { (e < entry_count t.words.now) × Longest t.words.now longest.now }
+    requires kind { get_or entry 1 0 ≡ entry_kind t.words.now e }
+    requires target { get_or entry 2 0 ≡ entry_target t.words.now e }
     ensures { result ≡ entry_bytes t.entry.words.now e }
 {
-    let target = entries::target(t.words, e);
-    match entries::kind_of(t.words, e) {
+    let [_, kind, target, _] = entry;
+    match EntryKind::of(kind) {
         Some(EntryKind::Frame) => frames::length(t.words, target),
         Some(EntryKind::List) => longest[target as usize],
         _ => 8,

@@ -1,4 +1,4 @@
--- What a list of protected identifiers holds; only private contracts cite this.
+-- What a list of protected identifiers holds; the proof of `protected_byte` goes by it.
 use Rattle.std.specs.Prelude.{ℕ, ◌<◌, ◌≡◌, List, length, get_or}
 use Rattle.wire.specs.Identifier.{protected_byte}
 

@@ -24,7 +24,7 @@ use Rattle.master.proofs.History.FramesAre.{FramesAre, frames_fresh, frames_quie
 use Rattle.master.proofs.History.TransferIs.{TransferIs, transfer_fresh, transfer_quiet}
 use Rattle.master.specs.State.{with_message, with_plan, with_status}
 use Rattle.master.specs.Fresh.{no_status}
-use Rattle.master.specs.Answers.{TickResult}
+use Rattle.master.specs.Calls.{TickResult}
 
 pub record Agrees (t : List ℕ) (h : Seq Scheduled) (x : Held) : Type 0 where
   pub fits : state_fits t x.state ≡ true

@@ -30,7 +30,7 @@ use Rattle.master.proofs.History.ReceivedAre.{received_each}
 use Rattle.master.proofs.History.Runs.{Good, agrees, goods}
 use Rattle.std.specs.Prelude.{Ok}
 use Rattle.std.specs.Prelude.{Err}
-use Rattle.master.specs.Answers.{TickResult}
+use Rattle.master.specs.Calls.{TickResult}
 
 -- a tick that starts a slot with an entry is accepted, and that slot is due
 slot_due_lem : (m : List ℕ) (a : TickResult) (s : Slot) (e : ℕ) → entry e ≡ on_tick (λ n b. s) none (tick_act m a) → s ≡ entry e

@@ -28,8 +28,8 @@ use Rattle.master.proofs.History.Words.{is_transfer_lem, protected_of_lem}
 use Rattle.master.proofs.History.StatusOver.{status_over, status_counted}
 use Rattle.master.proofs.History.Agrees.{Agrees}
 use Rattle.master.specs.Run.{Held}
-use Rattle.master.specs.Answers.{TickResult}
-use Rattle.master.specs.Answers.{ByteResult}
+use Rattle.master.specs.Calls.{TickResult}
+use Rattle.master.specs.Calls.{ByteResult}
 
 -- ---- a byte that ends its transfer
 

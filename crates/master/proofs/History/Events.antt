@@ -13,7 +13,7 @@ use Rattle.master.specs.Schedule.{Scheduled, act, is_start, starts}
 use Rattle.master.specs.History.{writes, opened_as, opens, is_success, is_end, closes, succeeds, is_transfer, carries}
 use Rattle.master.proofs.Tests.{never}
 use Rattle.std.specs.Prelude.{Ok, Err}
-use Rattle.master.specs.Answers.{ByteResult}
+use Rattle.master.specs.Calls.{ByteResult}
 
 -- a transfer of a frame is open
 pub carries_open : (o : Opened) (f : ℕ) → carries o f ≡ true → is_transfer o ≡ true

@@ -16,7 +16,7 @@ use Rattle.master.specs.Tick.{first_pending}
 use Rattle.master.specs.Replies.{Takes, takes, leaves}
 use Rattle.master.proofs.Tests.{never}
 use Rattle.std.specs.Prelude.{Ok}
-use Rattle.master.specs.Answers.{TickResult}
+use Rattle.master.specs.Calls.{TickResult}
 
 unfoldable pub first_with : (ℕ → Bool) → List ℕ → Opened
 first_with p [] = Nothing

@@ -33,7 +33,7 @@ use Rattle.master.proofs.History.Quiet.{is_quiet, quiet_byte, quiet_write, quiet
 use Rattle.master.proofs.History.SameBytes.{SameBytes, same_refl, same_written}
 use Rattle.master.proofs.ReadBack.{value_length}
 use Rattle.master.specs.Put.{Value, with_value}
-use Rattle.master.specs.Answers.{ByteResult}
+use Rattle.master.specs.Calls.{ByteResult}
 
 -- the bits and the bytes, whatever holds them
 pub record FramesAre (t : List ℕ) (h : Seq Scheduled) (bits : List Bool) (bs : List ℕ) : Type 0 where

@@ -46,11 +46,11 @@ use Rattle.master.proofs.History.Steps.{steps}
 use Rattle.master.proofs.History.Runs.{table_taken, fresh_table, agrees}
 use Rattle.std.specs.Prelude.{Ok}
 use Rattle.std.specs.Prelude.{Err}
-use Rattle.master.specs.Answers.{SelectAnswer}
-use Rattle.master.specs.Answers.{SendAnswer}
-use Rattle.master.specs.Answers.{StatusAnswer}
-use Rattle.master.specs.Answers.{TickResult}
-use Rattle.master.specs.Answers.{ByteResult}
+use Rattle.master.specs.Calls.{SelectAnswer}
+use Rattle.master.specs.Calls.{SendAnswer}
+use Rattle.master.specs.Calls.{StatusAnswer}
+use Rattle.master.specs.Calls.{TickResult}
+use Rattle.master.specs.Calls.{ByteResult}
 use Rattle.std.specs.Prelude.{Some}
 
 -- a buffer holds a value in a placement of a signal

@@ -42,8 +42,8 @@ use Rattle.master.proofs.History.Agrees.{Agrees}
 use Rattle.master.proofs.History.Steps.{steps}
 use Rattle.master.proofs.History.Runs.{fresh_taken, table_taken, fresh_table, agrees}
 use Rattle.std.specs.Prelude.{Ok}
-use Rattle.master.specs.Answers.{AheadAnswer}
-use Rattle.master.specs.Answers.{TickResult}
+use Rattle.master.specs.Calls.{AheadAnswer}
+use Rattle.master.specs.Calls.{TickResult}
 use Rattle.std.specs.Prelude.{Some, None, Option}
 
 -- ---- a list slot

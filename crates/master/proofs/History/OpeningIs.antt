@@ -30,7 +30,7 @@ use Rattle.master.proofs.History.Words.{data_of_lem, checksum_over_lem}
 use Rattle.master.proofs.History.NineBytes.{nine_of, nine_snoc}
 use Rattle.master.proofs.History.SameBytes.{SameBytes, same_data}
 use Rattle.master.proofs.History.TransferIs.{TransferIs}
-use Rattle.master.specs.Answers.{TickResult}
+use Rattle.master.specs.Calls.{TickResult}
 
 -- where a request is opened, a message is being sent, it has a frame left, and it is lent whole
 pub record Sendable (x : Message) (m : List ℕ) : Type 0 where

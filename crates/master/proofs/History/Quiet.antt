@@ -14,7 +14,7 @@ use Rattle.master.specs.Answering.{due_after}
 use Rattle.master.proofs.Tests.{never, or_false}
 use Rattle.master.proofs.History.Computed.{hits, rewritten_after, rewritten_on}
 use Rattle.master.specs.Put.{Value, with_value}
-use Rattle.master.specs.Answers.{ByteResult}
+use Rattle.master.specs.Calls.{ByteResult}
 
 -- neither a write nor a byte
 abbrev pub is_quiet : Act → Bool

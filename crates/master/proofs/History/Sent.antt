@@ -27,7 +27,7 @@ use Rattle.master.proofs.History.Events.{starts_closes, opens_starts}
 use Rattle.master.proofs.History.Opening.{open_since}
 use Rattle.master.proofs.History.Runs.{Good}
 use Rattle.std.specs.Prelude.{Ok}
-use Rattle.master.specs.Answers.{ByteResult}
+use Rattle.master.specs.Calls.{ByteResult}
 
 -- the bytes since an opening are those of the events since
 got_since : (before : Seq Scheduled) (start : Scheduled) (during : Seq Scheduled) → closes start ≡ true → Each (λ x. closes x ≡ false) during

@@ -47,7 +47,7 @@ use Rattle.master.proofs.History.Closing.{end_closes, end_message, end_status}
 use Rattle.master.proofs.History.Agrees.{Agrees}
 use Rattle.master.proofs.History.Stepped.{Stepped}
 use Rattle.std.specs.Prelude.{Ok}
-use Rattle.master.specs.Answers.{ByteResult}
+use Rattle.master.specs.Calls.{ByteResult}
 use Rattle.master.specs.Answers.{handed}
 
 -- what the master sends is stored nowhere

@@ -51,7 +51,7 @@ use Rattle.master.proofs.History.Agrees.{Agrees, agrees_waited}
 use Rattle.master.proofs.History.Stepped.{Stepped}
 use Rattle.master.specs.State.{with_plan}
 use Rattle.std.specs.Prelude.{Ok}
-use Rattle.master.specs.Answers.{TickResult}
+use Rattle.master.specs.Calls.{TickResult}
 use Rattle.std.specs.Prelude.{Some, None}
 
 -- what an accepted tick answers where its slot opens something or nothing

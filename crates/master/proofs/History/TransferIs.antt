@@ -28,7 +28,7 @@ use Rattle.master.proofs.History.Quiet.{is_quiet, got_quiet, due_quiet, rewritte
 use Rattle.master.proofs.History.NineBytes.{nine_of, nine_snoc, nine_set, nine_at}
 use Rattle.master.specs.Put.{Value}
 use Rattle.std.specs.Prelude.{Ok}
-use Rattle.master.specs.Answers.{ByteResult}
+use Rattle.master.specs.Calls.{ByteResult}
 
 -- the bytes of the open transfer: those due where the master sends, and else those that came
 abbrev pub held_bytes : List ℕ → Seq Scheduled → List ℕ

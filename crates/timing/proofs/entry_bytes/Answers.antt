@@ -11,12 +11,12 @@ use Rattle.timing.proofs.entry_bytes.Goals as goal
 pub bounds-longest-target : goal.bounds-longest-target
 bounds-longest-target c =
     let t = c.args.t.words.now in
-    let kind = rw (c.in-Some-List.is, c.in-Some-List.field-0-is) at c.kind_of.ensures.says in
-    let there = list_target t c.args.t.right c.args.e c.requires.0 kind in
-    omega (arith, c.target-target.ensures, there, list_count_lem t c.args.t.right, member_count_lem t c.args.t.right)
+    let kind = sym c.requires.kind ∙ rw (c.in-Some-List.is, c.in-Some-List.field-0-is) at c.of.ensures.says in
+    let there = list_target t c.args.t.right c.args.e c.requires.there.0 kind in
+    omega (arith, c.requires.target, there, list_count_lem t c.args.t.right, member_count_lem t c.args.t.right)
 
 pub returns-in-Some-List : goal.returns-in-Some-List
 returns-in-Some-List c =
     let t = c.args.t.words.now in
-    let kind = rw (c.in-Some-List.is, c.in-Some-List.field-0-is) at c.kind_of.ensures.says in
-    rw c.target-target.ensures (c.requires.1 (entry_target t c.args.e) ∙ sym (list_bytes t c.args.e kind))
+    let kind = sym c.requires.kind ∙ rw (c.in-Some-List.is, c.in-Some-List.field-0-is) at c.of.ensures.says in
+    rw c.requires.target (c.requires.there.1 (entry_target t c.args.e) ∙ sym (list_bytes t c.args.e kind))

@@ -10,6 +10,15 @@ use Rattle.cluster.proofs.EntryTurn.{seen, stops, goes_on, passes}
 use Rattle.cluster.proofs.entries.PassedSection.pass.Goals as goal
 use Rattle.cluster.proofs.entries.PassedSection.pass.Goals.{then-delay-lt1-via-then-delay-lt1, then-delay-lt1-via-else-delay-lt1+then-delay-gt65535}
 
+pub record-requires : goal.record-requires
+record-requires c = (
+  omega arith,
+  (
+    (omega arith, omega (arith, c.requires.0, c.requires.1.first, c.requires.1.limits.frames, c.requires.1.limits.signals, c.requires.1.limits.placements, c.requires.1.limits.members, c.requires.1.limits.entries)),
+    λ e. omega (arith, c.requires.0, c.requires.1.first, c.requires.1.whole e),
+  ),
+)
+
 pub follows-requires : goal.follows-requires
 follows-requires c = c.record.ensures.upper_bound 0
 

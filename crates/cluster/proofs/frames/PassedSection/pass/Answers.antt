@@ -12,6 +12,10 @@ use Rattle.cluster.proofs.frames.PassedSection.pass.Goals.{then-id-ge-IDENTIFIER
 use Rattle.cluster.proofs.frames.PassedSection.pass.Goals.{then-id-ge-IDENTIFIERS-via-else-id-ge-IDENTIFIERS+then-self-id}
 use Rattle.cluster.proofs.frames.PassedSection.pass.Goals.{then-bytes-lt1-via-then-bytes-lt1, then-bytes-lt1-via-else-bytes-lt1+then-bytes-gt8}
 
+pub record-requires : goal.record-requires
+record-requires c =
+    (omega arith, ((omega arith, omega (arith, c.requires.0, c.requires.1.limits.frames)), λ e. omega (arith, c.requires.0, c.requires.1.whole e)))
+
 pub returns-then-id-ge-IDENTIFIERS-clause-told : goal.returns-then-id-ge-IDENTIFIERS-clause-told
 unfolding frame_columns leading
 returns-then-id-ge-IDENTIFIERS-clause-told c rest =
